@@ -1,0 +1,12 @@
+pub mod Comparisons
+pub mod Dots
+pub mod Gcd
+pub mod Lexicographic
+pub mod LowestTerms
+pub mod Motzkin
+pub mod Order
+pub mod Parts
+pub mod Ring
+pub mod Rows
+pub mod Signs
+pub mod Solver

@@ -1,0 +1,9 @@
+pub mod FractionOrder
+pub mod Gcd
+pub mod LexicographicOrder
+pub mod LowestTerms
+pub mod Motzkin
+pub mod OrderLaws
+pub mod RingLaws
+pub mod VectorLaws
+pub mod Vectors
