@@ -1,0 +1,14 @@
+-- Counts of faults, which stand still at 2 ^ 64 - 1: where one rose, and where it did not.
+use Rattle.std.specs.Prelude.{◌≡◌, ℕ, ◌+◌, ◌-◌, ◌^◌, ◌<◌, ◌≤◌, min}
+
+-- the count after one more, unless it stands at its last value
+abbrev pub next_count : ℕ → ℕ
+next_count count = min (count + 1) (2 ^ 64 - 1)
+
+-- the count rose, or stands at its last value
+abbrev pub Rose : ℕ → ℕ → Type 0
+Rose before now = min (before + 1) (2 ^ 64 - 1) ≤ now
+
+-- the count stayed, and stood below its last value
+abbrev pub DidNotRise : ℕ → ℕ → Type 0
+DidNotRise before now = (now ≡ before) × (before < 2 ^ 64 - 1)

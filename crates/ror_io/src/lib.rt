@@ -1,0 +1,15 @@
+//! The outside of a program: files by name, and streams of bytes, each with a fake in memory.
+#![tactic(auto)]
+
+mod calls;
+pub mod memory_shelf;
+pub mod memory_sink;
+pub mod shelf;
+pub mod sink;
+#[cfg(test)]
+mod tests;
+
+pub use memory_shelf::MemoryShelf;
+pub use memory_sink::MemorySink;
+pub use shelf::{Fetched, Shelf, ShelfFault};
+pub use sink::{Sink, SinkFault, write_all, write_pieces};
