@@ -1,0 +1,5 @@
+pub mod CommandLemmas
+pub mod TextLemmas
+pub mod GrammarLemmas
+pub mod SessionLemmas
+pub mod NumberLemmas
