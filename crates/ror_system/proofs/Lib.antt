@@ -1,0 +1,6 @@
+pub mod Motzkin
+pub mod MultiplierTests
+pub mod Reasons
+pub mod SolutionTests
+pub mod Sums
+pub mod Totals

@@ -1,0 +1,4 @@
+pub mod Acceptance
+pub mod Laws
+pub mod Signs
+pub mod System

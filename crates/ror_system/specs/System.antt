@@ -1,0 +1,32 @@
+-- Systems of linear inequalities and what solves them.
+use Rattle.std.specs.Prelude.{◌≡◌, ℕ, ◌+◌, ◌^◌, ◌<◌, ◌≤◌, List, length, Some, slice_get, ℤ, pos, ◌≤ℤ◌, ◌<ℤ◌, unsigned_abs}
+use Rattle.std.specs.List.{AllByRecursion}
+use Rattle.ror_integers.specs.Vectors.{dot, ones, NoneNegative}
+
+-- weak rows, each to be at least 0, and strict rows, each to be above 0, over so many columns
+pub record LinearSystem : Type 0 where
+  pub columns : ℕ
+  pub weak : List (List ℤ)
+  pub strict : List (List ℤ)
+
+-- of absolute value at most 2^127 - 1
+abbrev pub IsNarrow : ℤ → Type 0
+IsNarrow z = unsigned_abs z < 2 ^ 127
+
+-- within the limits, with one entry for each column in each row, and first among the strict rows the row of ones
+pub record IsWellFormed (s : LinearSystem) : Type 0 where
+  pub columns_limit : s.columns ≤ 2000
+  pub rows_limit : length s.weak + length s.strict ≤ 2200
+  pub weak_widths : AllByRecursion (λ row. length row ≡ s.columns) s.weak
+  pub strict_widths : AllByRecursion (λ row. length row ≡ s.columns) s.strict
+  pub total_row : slice_get s.strict 0 ≡ Some (ones s.columns)
+
+-- one number for each column, none below 0, at which every row is as it is to be
+pub record Solves (s : LinearSystem) (d : List ℤ) : Type 0 where
+  pub one_for_each_column : length d ≡ s.columns
+  pub none_negative : NoneNegative d
+  pub weak_rows : AllByRecursion (λ row. pos 0 ≤ℤ dot row d) s.weak
+  pub strict_rows : AllByRecursion (λ row. pos 0 <ℤ dot row d) s.strict
+
+abbrev pub IsSolvable : LinearSystem → Type 0
+IsSolvable s = (d : List ℤ) × Solves s d

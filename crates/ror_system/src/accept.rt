@@ -1,0 +1,191 @@
+ghost use Rattle.std.specs.Prelude.{◌≡◌, ◌+◌, ◌<◌, ◌≤◌, ◌^◌, ◌++◌, ◌<ℤ◌, pos, length, unsigned_abs, IsTrue, IsOk, ◌↔◌, IfErr, OnOk, MatchOption, MatchResult};
+ghost use Rattle.ror_integers.specs.Vectors.{dot, absolute_dot, total, column, NoneNegative, SomePositive};
+ghost use Rattle.ror_text.specs.FirstFault.{IsFirst};
+ghost use Rattle.ror_system.specs.System.{IsSolvable, IsNarrow};
+ghost use Rattle.ror_system.specs.Acceptance.{rows_of, IsAcceptedSolution, AreAcceptedMultipliers, FailsSolution, FailsMultipliers, IsEarlierTest, PassesBoth, IsFirstOfTwo};
+ghost use Rattle.ror_system.specs.Signs.{IsFirstNegative};
+
+use crate::reject::Reject;
+use crate::sum::{Sum, row_sum};
+use crate::system::System;
+use ror_text::Items;
+
+/// A whole number for each column.
+#[derive(Debug, Drop)]
+pub struct Solution {
+    pub steps: Items<i128>,
+}
+
+/// A whole number for each row, weak rows first.
+#[derive(Debug, Drop)]
+pub struct Multipliers {
+    pub weak: Items<i128>,
+    pub strict: Items<i128>,
+}
+
+/// Whether the system holds at these steps, with sums that stay within 2^127 - 1. It takes no memory.
+///
+/// # Errors
+///
+/// The first test that fails: `Length`, `Negative` at the first number below 0, `Total`, and row by row `RowWide`
+/// before `Row`.
+pub fn accept_solution(s: &System, x: &Solution) -> Result<(), Reject>
+    ensures accepted { IsOk result ↔ IsAcceptedSolution s.now x.now.steps }
+    ensures rejected { IfErr result (IsFirst (FailsSolution s.now x.now.steps) IsEarlierTest) }
+    ensures solvable { OnOk result (IsSolvable s.now) }
+{
+    check_steps(s, x.steps.as_slice())
+}
+
+/// Whether these multipliers show that the system is not solvable, with sums that stay within 2^127 - 1. It takes no
+/// memory.
+///
+/// # Errors
+///
+/// The first test that fails: `Length`, `Negative` at the first number below 0, `NoStrict`, and column by column
+/// `ColumnWide` before `Column`.
+pub fn accept_multipliers(s: &System, m: &Multipliers) -> Result<(), Reject>
+    ensures accepted { IsOk result ↔ AreAcceptedMultipliers s.now m.now.weak m.now.strict }
+    ensures rejected { IfErr result (IsFirst (FailsMultipliers s.now m.now.weak m.now.strict) IsEarlierTest) }
+    ensures not_solvable { OnOk result (IsSolvable s.now → ⊥) }
+{
+    check_weights(s, m.weak.as_slice(), m.strict.as_slice())
+}
+
+/// All tests of a solution.
+fn check_steps(s: &System, steps: &[i128]) -> Result<(), Reject>
+    ensures { MatchResult result (λ _. IsAcceptedSolution s.now steps.now)
+        (IsFirst (FailsSolution s.now steps.now) IsEarlierTest) }
+{
+    if steps.len() != s.columns() {
+        return Err(Reject::Length);
+    }
+    if let Some(place) = first_negative(steps) {
+        return Err(Reject::Negative(place));
+    }
+    if !is_total_accepted(steps) {
+        return Err(Reject::Total);
+    }
+    for place in 0..s.row_count() {
+        check_row(s, steps, place)?;
+    }
+    Ok(())
+}
+
+/// All tests of multipliers.
+fn check_weights(s: &System, weak: &[i128], strict: &[i128]) -> Result<(), Reject>
+    ensures { MatchResult result (λ _. AreAcceptedMultipliers s.now weak.now strict.now)
+        (IsFirst (FailsMultipliers s.now weak.now strict.now) IsEarlierTest) }
+{
+    if weak.len() != s.weak().len() || strict.len() != s.strict().len() {
+        return Err(Reject::Length);
+    }
+    if let Some(place) = first_negative_of_both(weak, strict) {
+        return Err(Reject::Negative(place));
+    }
+    if !is_some_positive(strict) {
+        return Err(Reject::NoStrict);
+    }
+    for j in 0..s.columns() {
+        check_column(s, weak, strict, j)?;
+    }
+    Ok(())
+}
+
+/// The place of the first number below 0, if there is one.
+fn first_negative(numbers: &[i128]) -> Option<usize>
+    ensures { MatchOption result (NoneNegative numbers.now) (IsFirstNegative numbers.now) }
+{
+    for (place, number) in numbers.iter().enumerate() {
+        if *number < 0 {
+            return Some(place);
+        }
+    }
+    None
+}
+
+/// The same in two lists, one after the other.
+fn first_negative_of_both(first: &[i128], second: &[i128]) -> Option<usize>
+    requires { length first.now + length second.now < 2 ^ 64 }
+    ensures { MatchOption result (NoneNegative (first.now ++ second.now)) (IsFirstNegative (first.now ++ second.now)) }
+{
+    if let Some(place) = first_negative(first) {
+        return Some(place);
+    }
+    let place = first_negative(second)?;
+    Some(first.len() + place)
+}
+
+/// Whether the numbers sum to 1 at least and 2^127 - 1 at most.
+fn is_total_accepted(steps: &[i128]) -> bool
+    requires { NoneNegative steps.now }
+    ensures { IsTrue result ↔ ((pos 0 <ℤ total steps.now) × IsNarrow (total steps.now)) }
+{
+    let mut sum: i128 = 0;
+    for step in steps {
+        match sum.checked_add(*step) {
+            Some(more) => sum = more,
+            None => return false,
+        }
+    }
+    sum > 0
+}
+
+/// Whether some number is above 0.
+fn is_some_positive(numbers: &[i128]) -> bool
+    ensures { IsTrue result ↔ SomePositive numbers.now }
+{
+    numbers.iter().any(|number| *number > 0)
+}
+
+/// The two tests of the row at a place.
+fn check_row(s: &System, steps: &[i128], place: usize) -> Result<(), Reject>
+    requires width { length steps.now ≡ s.now.columns }
+    requires within { place < length (rows_of s.now) }
+    ensures { MatchResult result
+        (λ _. PassesBoth (FailsSolution s.now steps.now) (Reject.RowWide place) (Reject.Row place))
+        (IsFirstOfTwo (FailsSolution s.now steps.now) (Reject.RowWide place) (Reject.Row place)) }
+{
+    let sum = row_sum(s.row(place), steps).ok_or(Reject::RowWide(place))?;
+    let holds = if place < s.weak().len() {
+        sum >= 0
+    } else {
+        sum > 0
+    };
+    if holds {
+        Ok(())
+    } else {
+        Err(Reject::Row(place))
+    }
+}
+
+/// The two tests of a column.
+fn check_column(s: &System, weak: &[i128], strict: &[i128], j: usize) -> Result<(), Reject>
+    requires weak_lengths { length weak.now ≡ length s.now.weak }
+    requires strict_lengths { length strict.now ≡ length s.now.strict }
+    requires within { j < s.now.columns }
+    ensures { MatchResult result
+        (λ _. PassesBoth (FailsMultipliers s.now weak.now strict.now) (Reject.ColumnWide j) (Reject.Column j))
+        (IsFirstOfTwo (FailsMultipliers s.now weak.now strict.now) (Reject.ColumnWide j) (Reject.Column j)) }
+{
+    let sum = column_sum(s, weak, strict, j).ok_or(Reject::ColumnWide(j))?;
+    if sum > 0 {
+        Err(Reject::Column(j))
+    } else {
+        Ok(())
+    }
+}
+
+/// The weighted sum of a column, unless the absolute values of its terms sum past 2^127 - 1.
+fn column_sum(s: &System, weak: &[i128], strict: &[i128], j: usize) -> Option<i128>
+    requires weak_lengths { length weak.now ≡ length s.now.weak }
+    requires strict_lengths { length strict.now ≡ length s.now.strict }
+    requires within { j < s.now.columns }
+    ensures { MatchOption result (2 ^ 127 ≤ absolute_dot (weak.now ++ strict.now) (column (rows_of s.now) j))
+        (λ sum. (sum ≡ dot (weak.now ++ strict.now) (column (rows_of s.now) j))
+        × (absolute_dot (weak.now ++ strict.now) (column (rows_of s.now) j) < 2 ^ 127)) }
+{
+    let sum = Sum::zero().plus_column(s.weak(), weak, j)?;
+    let sum = sum.plus_column(s.strict(), strict, j)?;
+    Some(sum.value)
+}
