@@ -1,0 +1,6 @@
+pub mod Cuts
+pub mod Loops
+pub mod TableIds
+pub mod WordLemmas
+pub mod AnswerLemmas
+pub mod Utf8Lemmas

@@ -1,0 +1,147 @@
+-- The words of a line, both ways: what was written is read again, and what is read was so written.
+use Rattle.std.proofs.Common.{◌≡◌, ℕ, ◌+◌, ◌<◌, Bool, true, false, eqb, cond, List, [], ◌∷◌, ◌++◌, length, map, Option, Some, None, Result, Ok, Err, refl, sym, ap, subst, ◌∙◌, append_assoc, arith, inl, inr, length-append, ℤ}
+use Rattle.std.specs.Prelude.{codes}
+use Rattle.std.specs.Fmt.{signed_decimal}
+use Rattle.std.specs.List.{AllByRecursion}
+use Rattle.std.specs.Option.{option_map}
+use Rattle.std.specs.Str.{bytes_eq}
+use Rattle.std.proofs.lemmas.Bool.{cases_Bool, ne_eqb, cond-true, cond-false}
+use Rattle.std.proofs.lemmas.Slice.Eq.{bytes_eq-Decides}
+use Rattle.ror_text.specs.Numbers.{number_of}
+use Rattle.ror_text.specs.Reading.{◌>>=◌, refuse, need}
+use Rattle.ror_text.specs.SpacedLines.{split_line, join_words, are_words}
+use Rattle.ror_text.proofs.NumberLemmas.{number_of-signed_decimal, number_of-sound, signed_decimal_some, signed_decimal-ne_bar}
+use Rattle.ror_text.proofs.ReadingLemmas.{bind_ok, need_ok}
+use Rattle.ror_text.proofs.SpacedLemmas.{spaced_words-join_words, join_words-spaced_words, split_line-join_words, split_line-sound}
+use Rattle.ror_system.specs.System.{IsNarrow}
+use Rattle.ror_proof.specs.declared.read.ProofFault.{ProofFault}
+use Rattle.ror_proof.specs.declared.read.ProofFault.TheVariants.{BadLine, BadNumber}
+use Rattle.ror_proof.specs.Cursor.{Cursor}
+use Rattle.ror_proof.specs.Text.{line_text}
+use Rattle.ror_proof.specs.Words.{line_words, next_line, after_word, no_more, number_in, numbers_at, numbers_before_bar}
+use Rattle.ror_proof.proofs.Cuts.{cut_line}
+use Rattle.ror_proof.proofs.TableIds.{bytes_apart, bytes_same}
+
+-- ---- lines
+
+pub length-line_text : (ws : List (List ℕ)) → length (line_text ws) ≡ length (join_words ws) + 1
+unfolding line_text
+length-line_text ws = length-append (join_words ws) (10 ∷ [])
+
+-- a line that was written is cut into its words, and the next line begins where it ends
+pub line_again : (place : ℕ) (word : List ℕ) (ws : List (List ℕ)) (rest : List ℕ) → are_words (word ∷ ws) ≡ true
+    → (line_words (record { place = place; rest = line_text (word ∷ ws) ++ rest }) ≡ word ∷ ws)
+    × (next_line (record { place = place; rest = line_text (word ∷ ws) ++ rest }) ≡ Some (record { place = place + length (line_text (word ∷ ws)); rest = rest }))
+unfolding line_text
+line_again place word ws rest h =
+    let line = join_words (word ∷ ws) in
+    let regrouped : line_text (word ∷ ws) ++ rest ≡ line ++ 10 ∷ rest = append_assoc line (10 ∷ []) rest in
+    let cut = cut_line (record { place = place; rest = line_text (word ∷ ws) ++ rest }) line rest (ap split_line regrouped ∙ split_line-join_words (word ∷ ws) rest h) in
+    let to : place + length line + 1 ≡ place + length (line_text (word ∷ ws)) = omega (arith, length-line_text (word ∷ ws)) in
+    (cut.0 ∙ spaced_words-join_words word ws h, cut.1 ∙ ap (λ n. Some (record { place = n; rest = rest })) to)
+
+abbrev pub done : {A : Type 0} → A → Result A ProofFault
+done x = Ok x
+
+pub ok_is : {A : Type 0} (x y : A) → done x ≡ done y → x ≡ y
+ok_is x y e = cc
+
+some_is : {A : Type 0} (x y : A) → Some x ≡ Some y → x ≡ y
+some_is x y e = cc
+
+next_sound : (c after : Cursor) → next_line c ≡ Some after → (line : List ℕ) × (split_line c.rest ≡ Some (line, after.rest)) × (after.place ≡ c.place + length line + 1)
+unfolding next_line
+next_sound c after e = found c (split_line c.rest) after refl e
+  where
+    found : (c : Cursor) (o : Option (List ℕ × List ℕ)) (after : Cursor) → split_line c.rest ≡ o → option_map (λ parts. record { place = c.place + length parts.0 + 1; rest = parts.1 }) o ≡ Some after
+        → (line : List ℕ) × (split_line c.rest ≡ Some (line, after.rest)) × (after.place ≡ c.place + length line + 1)
+    found c None after is e = absurd cc
+    found c (Some (line, tail)) after is e = (line, is ∙ ap (λ (p : Cursor). Some (line, p.rest)) (some_is _ after e), ap (λ (p : Cursor). p.place) (sym (some_is _ after e)))
+
+-- a line that a line feed ends is the text of its words
+pub line_sound : (c after : Cursor) → next_line c ≡ Some after → (c.rest ≡ line_text (line_words c) ++ after.rest) × (after.place ≡ c.place + length (line_text (line_words c)))
+unfolding line_text
+line_sound c after e =
+    let cut = next_sound c after e in
+    let line = cut.0 in
+    let sound = split_line-sound c.rest line after.rest cut.1 in
+    let ws = (cut_line c line after.rest cut.1).0 in
+    let joined : join_words (line_words c) ≡ line = ap join_words ws ∙ join_words-spaced_words line in
+    let bytes : c.rest ≡ line_text (line_words c) ++ after.rest = sound.0 ∙ sym (append_assoc line (10 ∷ []) after.rest) ∙ ap (λ l. (l ++ 10 ∷ []) ++ after.rest) (sym joined) in
+    let to : c.place + length line + 1 ≡ c.place + length (line_text (line_words c)) = omega (arith, length-line_text (line_words c), ap length joined) in
+    (bytes, cut.2 ∙ to)
+
+-- ---- single words
+
+pub after_word_again : (place : ℕ) (word : List ℕ) (more : List (List ℕ)) → after_word place word (word ∷ more) ≡ Ok more
+unfolding after_word
+after_word_again place word more = rw (bytes_same word) refl
+
+-- a test that was passed
+chosen : {A F : Type 0} (b : Bool) (x y : A) (f : F) → cond b (Ok x) (Err f) ≡ Ok y → (b ≡ true) × (x ≡ y)
+chosen true x y f e = (refl, cc)
+chosen false x y f e = absurd cc
+
+pub after_word_sound : (place : ℕ) (expected : List ℕ) (words more : List (List ℕ)) → after_word place expected words ≡ Ok more → words ≡ expected ∷ more
+unfolding after_word
+after_word_sound place expected [] more e = absurd cc
+after_word_sound place expected (word ∷ words) more e =
+    let c = chosen (bytes_eq word expected) words more (BadLine place) e in
+    let same : word ≡ expected = (bytes_eq-Decides word expected).0 c.0 in
+    ap (λ (w : List ℕ). w ∷ words) same ∙ ap (λ (ws : List (List ℕ)). expected ∷ ws) c.1
+
+pub no_more_sound : (place : ℕ) (words : List (List ℕ)) (x : Unit {0}) → no_more place words ≡ Ok x → words ≡ []
+no_more_sound place [] x e = refl
+no_more_sound place (word ∷ words) x e = absurd cc
+
+-- a word that says a number
+pub number_again : {A : Type 0} (number : List ℕ → Option A) (place : ℕ) (word : List ℕ) (n : A) → 0 < length word → number word ≡ Some n → number_in number place word ≡ Ok n
+number_again number place word n some is = rw (ne_eqb (length word) 0 (λ (e : length word ≡ 0). omega arith), is) refl
+
+pub number_sound : {A : Type 0} (number : List ℕ → Option A) (place : ℕ) (word : List ℕ) (n : A) → number_in number place word ≡ Ok n → number word ≡ Some n
+number_sound number place word n e =
+    let b = bind_ok (refuse (BadLine place) (eqb (length word) 0)) (λ _. need (BadNumber place) (number word)) n e in
+    need_ok (BadNumber place) (number word) n b.2
+
+signed_again : (place : ℕ) (z : ℤ) → IsNarrow z → number_in number_of place (signed_decimal z) ≡ Ok z
+signed_again place z narrow = number_again number_of place (signed_decimal z) z (signed_decimal_some z (omega arith)) (number_of-signed_decimal z narrow)
+
+-- ---- numbers
+
+pub numbers_again : (place : ℕ) (zs : List ℤ) → AllByRecursion IsNarrow zs → numbers_at place (map signed_decimal zs) ≡ Ok zs
+unfolding numbers_at
+numbers_again place [] narrow = refl
+numbers_again place (z ∷ zs) narrow = rw (signed_again place z narrow.0, numbers_again place zs narrow.1) refl
+
+pub numbers_sound : (place : ℕ) (words : List (List ℕ)) (zs : List ℤ) → numbers_at place words ≡ Ok zs → (words ≡ map signed_decimal zs) × AllByRecursion IsNarrow zs
+unfolding numbers_at
+numbers_sound place [] zs e = subst (λ (xs : List ℤ). ([] ≡ map signed_decimal xs) × AllByRecursion IsNarrow xs) (ok_is [] zs e) (refl, tt)
+numbers_sound place (word ∷ words) zs e =
+    let a = bind_ok (number_in number_of place word) (λ first. numbers_at place words >>= λ others. Ok (first ∷ others)) zs e in
+    let b = bind_ok (numbers_at place words) (λ others. Ok (a.0 ∷ others)) zs a.2 in
+    let first = number_of-sound word a.0 (number_sound number_of place word a.0 a.1) in
+    let others = numbers_sound place words b.0 b.1 in
+    subst (λ (xs : List ℤ). (word ∷ words ≡ map signed_decimal xs) × AllByRecursion IsNarrow xs) (ok_is (a.0 ∷ b.0) zs b.2) (cc (first.0, others.0), (first.1, others.1))
+
+pub before_bar_again : (place : ℕ) (zs : List ℤ) (more : List (List ℕ)) → AllByRecursion IsNarrow zs → numbers_before_bar place (map signed_decimal zs ++ codes "|" ∷ more) ≡ Ok (zs, more)
+unfolding numbers_before_bar
+before_bar_again place [] more narrow = refl
+before_bar_again place (z ∷ zs) more narrow =
+    let other : bytes_eq (signed_decimal z) (codes "|") ≡ false = bytes_apart (signed_decimal z) (codes "|") (signed_decimal-ne_bar z [] (omega (arith, narrow.0))) in
+    rw (other, signed_again place z narrow.0, before_bar_again place zs more narrow.1) refl
+
+pub before_bar_sound : (place : ℕ) (words : List (List ℕ)) (x : List ℤ × List (List ℕ)) → numbers_before_bar place words ≡ Ok x → (words ≡ map signed_decimal x.0 ++ codes "|" ∷ x.1) × AllByRecursion IsNarrow x.0
+unfolding numbers_before_bar
+before_bar_sound place [] x e = absurd cc
+before_bar_sound place (word ∷ words) x e =
+    elim (cases_Bool (bytes_eq word (codes "|"))) [
+      | inl bar ↦
+          let is : word ≡ codes "|" = (bytes_eq-Decides word (codes "|")).0 bar in
+          subst (λ (y : List ℤ × List (List ℕ)). (word ∷ words ≡ map signed_decimal y.0 ++ codes "|" ∷ y.1) × AllByRecursion IsNarrow y.0) (ok_is ([], words) x (sym (cond-true _ _ _ bar) ∙ e)) (ap (λ (w : List ℕ). w ∷ words) is, tt)
+      | inr other ↦
+          let a = bind_ok (number_in number_of place word) (λ first. numbers_before_bar place words >>= λ others. Ok (first ∷ others.0, others.1)) x (sym (cond-false _ _ _ other) ∙ e) in
+          let b = bind_ok (numbers_before_bar place words) (λ others. Ok (a.0 ∷ others.0, others.1)) x a.2 in
+          let first = number_of-sound word a.0 (number_sound number_of place word a.0 a.1) in
+          let others = before_bar_sound place words b.0 b.1 in
+          subst (λ (y : List ℤ × List (List ℕ)). (word ∷ words ≡ map signed_decimal y.0 ++ codes "|" ∷ y.1) × AllByRecursion IsNarrow y.0) (ok_is (a.0 ∷ b.0.0, b.0.1) x b.2) (cc (first.0, others.0), (first.1, others.1))
+    ]

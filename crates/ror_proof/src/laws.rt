@@ -1,0 +1,20 @@
+//! Laws of the definitions, each the clause of a function that does nothing.
+
+ghost use Rattle.ror_proof.specs.Laws.{AnswersAreTheirTexts, AnswersHaveOneText, TextsAreUtf8, TextsBeginWithAnswer};
+
+/// An answer is read exactly where its text stands and no further part follows: what was written is read again,
+/// and what is read was so written.
+pub fn answers_read_back()
+    ensures { AnswersAreTheirTexts }
+{}
+
+/// Two answers that have a text have two texts.
+pub fn one_spelling()
+    ensures { AnswersHaveOneText }
+{}
+
+/// The text of an answer begins with its first word, and is UTF-8.
+pub fn texts()
+    ensures begin { TextsBeginWithAnswer }
+    ensures utf8 { TextsAreUtf8 }
+{}

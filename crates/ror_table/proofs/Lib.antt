@@ -1,0 +1,9 @@
+pub mod LevelLemmas
+pub mod RankLemmas
+pub mod DraftLemmas
+pub mod RowLemmas
+pub mod IndexLemmas
+pub mod PlainLemmas
+pub mod LineSteps
+pub mod GrammarLemmas
+pub mod FaultLemmas

@@ -1,0 +1,15 @@
+-- The laws of plain tables that the crate claims.
+use Rattle.std.specs.Prelude.{◌≡◌, ◌↔◌, ℕ, List, Ok, Err}
+use Rattle.ror_table.specs.declared.fault.TableFault.{TableFault}
+use Rattle.ror_table.specs.Table.{DecisionTable}
+use Rattle.ror_table.specs.Plain.{plain_table}
+use Rattle.ror_table.specs.Grammar.{IsPlainText}
+use Rattle.ror_table.specs.Faults.{IsFirstFaultOf}
+
+-- what is read is in the grammar, and what is in the grammar is read
+abbrev pub ReadsTheGrammar : Type 0
+ReadsTheGrammar = (bytes : List ℕ) (t : DecisionTable) → (plain_table bytes ≡ Ok t) ↔ IsPlainText bytes t
+
+-- the fault that is given is the first, and the first is given
+abbrev pub GivesTheFirstFault : Type 0
+GivesTheFirstFault = (bytes : List ℕ) (fault : TableFault) → (plain_table bytes ≡ Err fault) ↔ IsFirstFaultOf bytes fault

@@ -1,0 +1,16 @@
+-- The levels of a criterion: its distinct performances, from the worst to the best.
+use Rattle.std.specs.Prelude.{◌≡◌, true, List, ℤ, AllPairs}
+use Rattle.std.specs.List.{IsDistinct}
+use Rattle.std.specs.Set.{is_member}
+use Rattle.ror_table.specs.declared.direction.Direction.{Direction}
+use Rattle.ror_table.specs.Table.{is_worse, is_same}
+
+-- each performance is worse than all that come after it
+abbrev pub Rises : Direction → List ℤ → Type 0
+Rises direction levels = AllPairs (λ p q. is_worse direction p q ≡ true) levels
+
+-- these are the levels of the performances
+pub record IsLevels (direction : Direction) (performances levels : List ℤ) : Type 0 where
+  pub rises : Rises direction levels
+  pub distinct : IsDistinct is_same levels
+  pub members : (q : ℤ) → is_member is_same levels q ≡ is_member is_same performances q

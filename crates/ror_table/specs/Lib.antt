@@ -1,0 +1,9 @@
+pub mod Table
+pub mod Levels
+pub mod Draft
+pub mod Contents
+pub mod Index
+pub mod Plain
+pub mod Grammar
+pub mod Laws
+pub mod Faults
