@@ -1,0 +1,4 @@
+pub mod Proof
+pub mod Faults
+pub mod Steps
+pub mod Laws

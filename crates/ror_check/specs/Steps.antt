@@ -1,0 +1,58 @@
+-- What each step of a check leaves to the next: the certificates that were accepted, and the one that was not.
+use Rattle.std.specs.Prelude.{◌≡◌, ◌≢◌, ℕ, ◌+◌, ◌<◌, ◌≤◌, true, List, length, map, slice_get, Some}
+use Rattle.smallvec.specs.SmallVec.{SmallVec}
+use Rattle.std.specs.List.{AllByRecursion}
+use Rattle.ror_statement.specs.declared.statement.Statement.{Statement}
+use Rattle.ror_statement.specs.declared.statement.Question.{Question}
+use Rattle.ror_statement.specs.Statement.{NamesWithin}
+use Rattle.ror_table.specs.Table.{DecisionTable}
+use Rattle.ror_system.specs.System.{LinearSystem}
+use Rattle.ror_rows.specs.declared.extra.Extra.{Extra}
+use Rattle.ror_rows.specs.Rows.{system_for, systems_of_question, comparison_of_extra, extras_of}
+use Rattle.ror_proof.specs.declared.answer.Certificate.{Certificate}
+use Rattle.ror_proof.specs.declared.answer.Part.{Part}
+use Rattle.ror_proof.specs.declared.answer.Proof.{Proof}
+use Rattle.ror_check.specs.declared.fault.CheckFault.{CheckFault}
+use Rattle.ror_check.specs.declared.fault.CheckFault.TheVariants as faults
+use Rattle.ror_check.specs.Proof.{ShowsSolvable, ShowsNotSolvable, AreNumberedFor, base_system, question_systems_of}
+use Rattle.ror_check.specs.Faults.{IsRejectedFor, FailsPart, is_solution}
+
+-- at most 200 extra rows, each with names of the table
+abbrev pub AreUsable : ℕ → SmallVec Extra → Type 0
+AreUsable alternatives extras = (length extras.items ≤ 200) × AllByRecursion (λ e. NamesWithin alternatives (comparison_of_extra e).difference) extras.items
+
+-- the system of the statements with each of these extra rows
+abbrev pub systems_with : DecisionTable → List Statement → List (SmallVec Extra) → List LinearSystem
+systems_with t list systems = map (λ extras. system_for t list (extras_of extras)) systems
+
+-- each part before the place that is multipliers is accepted for its system
+abbrev pub ShowNotSolvableBefore : List LinearSystem → List Part → ℕ → Type 0
+ShowNotSolvableBefore systems parts n = (j : ℕ) (s : LinearSystem) (p : Part) → j < n → slice_get systems j ≡ Some s → slice_get parts j ≡ Some p → is_solution p.body ≢ true → ShowsNotSolvable s p.body
+
+-- the base is refused, or memory ran out
+abbrev pub RefusesBase : LinearSystem → Certificate → CheckFault → Type 0
+RefusesBase s base faults.WrongQuestion = ⊥
+RefusesBase s base faults.WrongVerdict = ⊥
+RefusesBase s base faults.PartCount = ⊥
+RefusesBase s base (faults.Base r) = IsRejectedFor s base r
+RefusesBase s base (faults.Part k r) = ⊥
+RefusesBase s base faults.Memory = Unit {0}
+
+-- a part is refused, and those before it were not; or memory ran out
+abbrev pub RefusesParts : List LinearSystem → List Part → CheckFault → Type 0
+RefusesParts systems parts faults.WrongQuestion = ⊥
+RefusesParts systems parts faults.WrongVerdict = ⊥
+RefusesParts systems parts faults.PartCount = ⊥
+RefusesParts systems parts (faults.Base r) = ⊥
+RefusesParts systems parts (faults.Part k r) = FailsPart systems parts k r × ((before : ℕ) → k ≡ before + 1 → ShowNotSolvableBefore systems parts before)
+RefusesParts systems parts faults.Memory = Unit {0}
+
+-- a proof whose certificates are of the right kinds is refused, each earlier test having been passed; or memory ran out
+abbrev pub RefusesProof : DecisionTable → List Statement → Question → Proof → CheckFault → Type 0
+RefusesProof t list q proof faults.WrongQuestion = ⊥
+RefusesProof t list q proof faults.WrongVerdict = ⊥
+RefusesProof t list q proof faults.PartCount = AreNumberedFor (length (systems_of_question q)) proof.parts → ⊥
+RefusesProof t list q proof (faults.Base r) = AreNumberedFor (length (systems_of_question q)) proof.parts × IsRejectedFor (base_system t list) proof.base r
+RefusesProof t list q proof (faults.Part k r) = AreNumberedFor (length (systems_of_question q)) proof.parts × ShowsSolvable (base_system t list) proof.base
+    × FailsPart (question_systems_of t list q) proof.parts k r × ((before : ℕ) → k ≡ before + 1 → ShowNotSolvableBefore (question_systems_of t list q) proof.parts before)
+RefusesProof t list q proof faults.Memory = Unit {0}

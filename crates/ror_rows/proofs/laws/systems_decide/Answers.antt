@@ -1,0 +1,5 @@
+use Rattle.ror_rows.proofs.Deciding.{base_solvable_is_consistent, systems_decide}
+use Rattle.ror_rows.proofs.laws.systems_decide.Goals as goal
+
+pub returns : goal.returns
+returns c = record { consistency = base_solvable_is_consistent; every = systems_decide }

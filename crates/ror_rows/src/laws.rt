@@ -1,0 +1,21 @@
+//! Each function here states one law, for all tables and lists, and does nothing.
+
+ghost use Rattle.ror_rows.specs.Laws.{RowsHold, SystemsDecide, ValueRowEntries};
+
+/// A list of whole numbers solves the system of a list of statements exactly where it is a value function that is
+/// compatible with the list, and the system with extra rows exactly where it meets the extra comparisons besides.
+pub fn rows_hold()
+    ensures { RowsHold }
+{}
+
+/// A list of statements is consistent exactly where its system has a solution. Over a consistent list, a question on
+/// every compatible function is answered Yes exactly where none of its systems has a solution.
+pub fn systems_decide()
+    ensures { SystemsDecide }
+{}
+
+/// The row of an alternative has a column for each step of each criterion, and the entry is 1 at each step up to the
+/// alternative's rank, else 0.
+pub fn value_row_entries()
+    ensures { ValueRowEntries }
+{}

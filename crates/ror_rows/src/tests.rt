@@ -1,0 +1,81 @@
+use crate::{Extra, Form, question_systems, system_of};
+use ror_statement::{Question, Statement};
+use ror_system::Row;
+use ror_table::read_plain;
+use std::test::Fail;
+
+const TABLE: &[u8] = b"ror-table 1
+criterion q max
+criterion p min
+alternative a 3 10
+alternative b 2 8
+alternative c 1 12
+";
+
+const EQUALS: &[u8] = b"ror-table 1
+criterion q max
+alternative a 1
+alternative b 1
+alternative c 0
+";
+
+fn is_row(row: &Row, entries: &[i128]) -> bool {
+    row.len() == entries.len() && (0..entries.len()).all(|j| row.entry(j) == entries[j])
+}
+
+#[test]
+fn a_statement_and_then_an_extra_follow_the_row_of_ones(rt: HostRuntime) -> Result<(), Fail> {
+    let table = read_plain(rt.alloc(), TABLE)?;
+    assert!(rt; table.alternatives() == 3);
+    let list = [Statement::Prefer(0, 1)];
+    let extra = [Extra {
+        form: Form::Value(1, 0),
+        strict: true,
+    }];
+    let systems = question_systems(rt.alloc(), &table, &list, &Question::Necessary(0, 1))?;
+    assert_eq!(rt; systems.len(), 1);
+    assert_eq!(rt; systems[0].as_slice(), extra.as_slice());
+    let system = system_of(rt.alloc(), &table, &list, &extra)?;
+    assert_eq!(rt; system.columns(), 4);
+    assert_eq!(rt; system.weak().len(), 0);
+    let strict = system.strict();
+    assert_eq!(rt; strict.len(), 3);
+    assert!(rt; is_row(&strict[0], &[1, 1, 1, 1]));
+    assert!(rt; is_row(&strict[1], &[0, 1, 0, -1]));
+    assert!(rt; is_row(&strict[2], &[0, -1, 0, 1]));
+    Ok(())
+}
+
+#[test]
+fn a_question_alone_has_its_row(rt: HostRuntime) -> Result<(), Fail> {
+    let table = read_plain(rt.alloc(), TABLE)?;
+    assert!(rt; table.alternatives() == 3);
+    let worse = Extra {
+        form: Form::Value(2, 0),
+        strict: true,
+    };
+    let systems = question_systems(rt.alloc(), &table, &[], &Question::Necessary(0, 2))?;
+    assert_eq!(rt; systems.len(), 1);
+    assert_eq!(rt; systems[0].as_slice(), [worse].as_slice());
+    let system = system_of(rt.alloc(), &table, &[], &[worse])?;
+    assert_eq!(rt; system.strict().len(), 2);
+    assert!(rt; is_row(&system.strict()[0], &[1, 1, 1, 1]));
+    assert!(rt; is_row(&system.strict()[1], &[-1, -1, -1, 0]));
+    Ok(())
+}
+
+#[test]
+fn a_weak_extra_is_a_weak_row(rt: HostRuntime) -> Result<(), Fail> {
+    let table = read_plain(rt.alloc(), EQUALS)?;
+    assert!(rt; table.alternatives() == 3);
+    let same = Extra {
+        form: Form::Value(0, 1),
+        strict: false,
+    };
+    let system = system_of(rt.alloc(), &table, &[], &[same])?;
+    assert_eq!(rt; system.weak().len(), 1);
+    assert!(rt; is_row(&system.weak()[0], &[0]));
+    assert_eq!(rt; system.strict().len(), 1);
+    assert!(rt; is_row(&system.strict()[0], &[1]));
+    Ok(())
+}
