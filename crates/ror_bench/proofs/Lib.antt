@@ -1,0 +1,4 @@
+pub mod Refusals
+pub mod Asking
+pub mod Standing
+pub mod ReportProofs

@@ -1,0 +1,5 @@
+pub mod Bench
+pub mod Blocks
+pub mod Reports
+pub mod Steps
+pub mod ReportSteps

@@ -1,0 +1,8 @@
+//! The desks of a session over one table: what stands at each, and whether a report is proved for a session.
+#![tactic(auto)]
+
+mod bench;
+mod report;
+
+pub use bench::{Bench, BlockFault, Passed};
+pub use report::{Reason, Rejection, ReportError, check_report};

@@ -1,0 +1,206 @@
+//! The check of a report, block by block.
+
+ghost use Rattle.std.specs.Prelude.{◌≡◌, ◌≢◌, ◌<◌, ◌≤◌, ◌+◌, ◌-◌, min, ℕ, drop, length, IfOk, IfErr, OnOk, OnErr};
+ghost use Rattle.std.specs.List.{AllByRecursion};
+ghost use Rattle.ror_text.specs.Lines.{line_of};
+ghost use Rattle.ror_table.specs.Table.{IsTable};
+ghost use Rattle.ror_report.specs.Text.{end_text};
+ghost use Rattle.ror_bench.specs.Bench.{Workbench};
+ghost use Rattle.ror_bench.specs.Reports.{IsProvedReport, IsTrueReport, NamesADesk};
+ghost use Rattle.ror_bench.specs.Steps.{IsNextBlock, BeginsProved};
+ghost use Rattle.ror_bench.specs.ReportSteps.{misread_error, refused_block_error, wrong_block_error};
+
+use crate::bench::{Bench, BlockFault};
+use ror_check::CheckFault;
+use ror_report::{ReportFault, begins_end, read_block, read_end, read_header};
+use ror_session::Line;
+use ror_table::Table;
+use ror_text::lines::line_number;
+use std::alloc::Global;
+use thiserror::Error;
+
+/// Why a report is refused.
+#[derive(Debug, Drop)]
+pub enum Reason {
+    /// Longer than 268,435,456 bytes.
+    TooLong,
+    NotUtf8,
+    /// The report's line that is not as it is to be.
+    BadLine(u32),
+    /// The report's line in which a number is none.
+    BadNumber(u32),
+    /// Not the block of the session's next line, or none where one is due, or one too many.
+    WrongBlock,
+    /// An answer that is not accepted, counted from 1 in its block.
+    Answer(u32, CheckFault),
+}
+
+/// The first block at fault, from 1, and why; 0 where the fault is in no block.
+#[derive(Debug, Drop)]
+pub struct Rejection {
+    pub block: u32,
+    pub reason: Reason,
+}
+
+/// Why no report was accepted.
+#[derive(Debug, Drop, Error)]
+pub enum ReportError {
+    #[error("rejected")]
+    Rejected(Rejection),
+    #[error("out of memory")]
+    Memory,
+}
+
+/// Checks a report block by block against the session's lines, and gives the number of its answers.
+pub fn check_report(
+    alloc: Global,
+    bench: &mut Bench,
+    lines: &[Line],
+    bytes: &[u8],
+) -> Result<u64, ReportError>
+    requires desks { AllByRecursion (NamesADesk (length bench.old.state)) lines.now }
+    requires length { length bytes.now ≤ 268435456 }
+    ensures accepted { IfOk result (IsProvedReport bench.old lines.now bytes.now) }
+    ensures true_answers { IfOk result (λ n. IsTrueReport bench.old lines.now bytes.now) }
+    ensures not_proved { IfErr result (λ e. e ≢ ReportError.Memory → (n : ℕ) → IsProvedReport bench.old lines.now bytes.now n → ⊥) }
+    ensures kept { bench.new ≡ bench.old }
+{
+    let Some(start) = read_header(bytes) else {
+        return Err(ReportError::Rejected(Rejection {
+            block: 0,
+            reason: Reason::BadLine(1),
+        }));
+    };
+    // What is read back is what was written only over a table, and each table has alternatives.
+    prove!(bench.table().alternatives() > 0);
+    let mut next = start;
+    let mut answers: u64 = 0;
+    let mut block: u32 = 1;
+    for line in lines {
+        let (passed, after) = check_next(alloc, bench, line, bytes, next, block)?;
+        answers += passed as u64;
+        next = after;
+        block += 1;
+    }
+    check_end(alloc, bench.table(), bytes, next, block)?;
+    Ok(answers)
+}
+
+/// Reads the block that stands at a place and checks it for a line: how many answers it has, and where it ends.
+fn check_next(
+    alloc: Global,
+    bench: &mut Bench,
+    line: &Line,
+    bytes: &[u8],
+    from: usize,
+    block: u32,
+) -> Result<(u32, usize), ReportError>
+    requires table { IsTable bench.old.table }
+    requires desk { NamesADesk (length bench.old.state) line.now }
+    requires within { from ≤ length bytes.now }
+    requires length { length bytes.now ≤ 268435456 }
+    ensures next { IfOk result (λ x. IsNextBlock bench.old line.now bytes.now from x.0 x.1) }
+    ensures onward { IfOk result (λ x. from < x.1) }
+    ensures within { IfOk result (λ x. x.1 ≤ length bytes.now) }
+    ensures none { IfErr result (λ e. e ≢ ReportError.Memory → BeginsProved bench.old line.now (drop from bytes.now) → ⊥) }
+    ensures kept { bench.new ≡ bench.old }
+{
+    if begins_end(bytes, from) {
+        return Err(early_end(alloc, bytes, from, block));
+    }
+    match read_block(alloc, bench.table(), bytes, from) {
+        Ok((found, after)) => match bench.check_line(line, &found) {
+            Ok(passed) => Ok((passed.answers, after)),
+            Err(fault) => Err(refused_block(block, fault)),
+        },
+        Err(fault) => Err(misread(bytes, block, fault)),
+    }
+}
+
+/// Checks that the last line stands at a place, with the number of blocks before this one, and nothing after it.
+fn check_end(
+    alloc: Global,
+    table: &Table,
+    bytes: &[u8],
+    from: usize,
+    block: u32,
+) -> Result<(), ReportError>
+    requires within { from ≤ length bytes.now }
+    requires length { length bytes.now ≤ 268435456 }
+    requires block { 0 < block }
+    ensures last { OnOk result (drop from bytes.now ≡ end_text (block - 1)) }
+    ensures not_last { IfErr result (λ e. e ≢ ReportError.Memory → drop from bytes.now ≡ end_text (block - 1) → ⊥) }
+{
+    if !begins_end(bytes, from) {
+        return Err(late_block(alloc, table, bytes, from, block));
+    }
+    match read_end(alloc, bytes, from) {
+        Ok(blocks) if blocks == block - 1 => Ok(()),
+        Ok(_) => Err(wrong_block(block)),
+        Err(fault) => Err(misread(bytes, block, fault)),
+    }
+}
+
+/// Why a last line that stands where a block is due is refused: its own faults come first.
+fn early_end(alloc: Global, bytes: &[u8], from: usize, block: u32) -> ReportError
+    requires within { from ≤ length bytes.now }
+    requires length { length bytes.now ≤ 268435456 }
+{
+    match read_end(alloc, bytes, from) {
+        Ok(_) => wrong_block(block),
+        Err(fault) => misread(bytes, block, fault),
+    }
+}
+
+/// Why what stands where the last line is due is refused: the faults of a block come first.
+fn late_block(alloc: Global, table: &Table, bytes: &[u8], from: usize, block: u32) -> ReportError
+    requires within { from ≤ length bytes.now }
+    requires length { length bytes.now ≤ 268435456 }
+{
+    match read_block(alloc, table, bytes, from) {
+        Ok(_) => wrong_block(block),
+        Err(fault) => misread(bytes, block, fault),
+    }
+}
+
+fn wrong_block(block: u32) -> ReportError
+    ensures { result ≡ wrong_block_error block }
+{
+    ReportError::Rejected(Rejection {
+        block,
+        reason: Reason::WrongBlock,
+    })
+}
+
+/// The error of a block that its line refuses.
+fn refused_block(block: u32, fault: BlockFault) -> ReportError
+    ensures { result ≡ refused_block_error block fault }
+{
+    let reason = match fault {
+        BlockFault::WrongBlock => Reason::WrongBlock,
+        BlockFault::Answer(answer, fault) => Reason::Answer(answer, fault),
+        BlockFault::Memory => return ReportError::Memory,
+    };
+    ReportError::Rejected(Rejection { block, reason })
+}
+
+/// The error of a block or a last line that is not as it is to be, by the number of its line.
+fn misread(bytes: &[u8], block: u32, fault: ReportFault) -> ReportError
+    requires { length bytes.now ≤ 268435456 }
+    ensures { result ≡ misread_error bytes.now block fault }
+{
+    let reason = match fault {
+        ReportFault::BadLine(place) => Reason::BadLine(line_at(bytes, place)),
+        ReportFault::BadNumber(place) => Reason::BadNumber(line_at(bytes, place)),
+        ReportFault::Memory => return ReportError::Memory,
+    };
+    ReportError::Rejected(Rejection { block, reason })
+}
+
+/// The number of the line of the byte at a place, or of the bytes' end.
+fn line_at(bytes: &[u8], place: usize) -> u32
+    requires { length bytes.now ≤ 268435456 }
+    ensures { result ≡ line_of bytes.now (min place (length bytes.now)) }
+{
+    line_number(bytes, place.min(bytes.len()))
+}

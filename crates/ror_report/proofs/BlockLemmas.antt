@@ -1,0 +1,139 @@
+-- Blocks as texts, both ways: what was written is read again, and what is read was so written.
+use Rattle.std.proofs.Common.{◌≡◌, ℕ, zero, suc, ◌+◌, ◌<◌, ◌≤◌, ◌^◌, true, false, List, [], ◌∷◌, ◌++◌, length, Result, Ok, Err, refl, sym, ap, subst, ◌∙◌, append_assoc, arith, inl, inr, length-append}
+use Rattle.std.specs.Prelude.{codes, ◌↔◌}
+use Rattle.std.specs.List.{flat_map, AllByRecursion}
+use Rattle.std.proofs.lemmas.Bool.{cases_Bool}
+use Rattle.ror_text.specs.Reading.{◌>>=◌}
+use Rattle.ror_text.proofs.ReadingLemmas.{bind_ok}
+use Rattle.ror_table.specs.Table.{DecisionTable, IsTable}
+use Rattle.ror_proof.specs.declared.answer.Answer.{Answer}
+use Rattle.ror_proof.specs.declared.read.ProofFault.{ProofFault}
+use Rattle.ror_proof.specs.Cursor.{Cursor}
+use Rattle.ror_proof.specs.Text.{answer_text, IsPrintable}
+use Rattle.ror_proof.specs.Reading.{begins_part, answer_at}
+use Rattle.ror_proof.proofs.AnswerLemmas.{answer_reads_back, answer_is_text, answer_begins}
+use Rattle.ror_report.specs.declared.block.Block.{Block}
+use Rattle.ror_report.specs.declared.block.Body.{Body}
+use Rattle.ror_report.specs.declared.block.Body.TheVariants.{Answers}
+use Rattle.ror_report.specs.Text.{answers_of, block_text, IsPrintableBlock}
+use Rattle.ror_report.specs.Reading.{read_in_report, numbered_line, ends_body, body_answers, block_at}
+use Rattle.ror_report.specs.Laws.{IsBlockText}
+use Rattle.ror_report.proofs.Bodies.{answer_step, no_answers}
+use Rattle.ror_report.proofs.LineForms.{Spans, spans_then, numbered_text, numbered_again, numbered_sound, done, ok_is, goes_on_at_answer, ends_no_part}
+
+-- ---- what was written is read again
+
+answer_goes_on : (t : DecisionTable) (x : Answer) (rest : List ℕ) → ends_body (answer_text t x ++ rest) ≡ false
+answer_goes_on t x rest =
+    let begins = answer_begins t x in
+    ap (λ (l : List ℕ). ends_body (l ++ rest)) begins.1 ∙ goes_on_at_answer (begins.0 ++ rest)
+
+-- no part stands behind an answer
+no_part_behind : (t : DecisionTable) (xs : List Answer) (rest : List ℕ) → ends_body rest ≡ true → begins_part (flat_map (answer_text t) xs ++ rest) ≡ false
+no_part_behind t [] rest ends = ends_no_part rest ends
+no_part_behind t (x ∷ xs) rest ends = ap (λ (l : List ℕ). begins_part ((l ++ flat_map (answer_text t) xs) ++ rest)) (answer_begins t x).1
+
+body_again : (t : DecisionTable) (most place : ℕ) (xs : List Answer) (rest : List ℕ) → IsTable t → AllByRecursion (IsPrintable t) xs → ends_body rest ≡ true → length xs ≤ most
+    → body_answers t most (record { place = place; rest = flat_map (answer_text t) xs ++ rest }) ≡ Ok (xs, record { place = place + length (flat_map (answer_text t) xs); rest = rest })
+body_again t most place [] rest table printable ends room = no_answers t most (record { place = place; rest = rest }) ends ∙ ap (λ n. Ok ([], record { place = n; rest = rest })) (omega arith)
+body_again t zero place (x ∷ xs) rest table printable ends room = absurd (omega arith)
+body_again t (suc most) place (x ∷ xs) rest table printable ends room =
+    let front = answer_text t x in
+    let others = flat_map (answer_text t) xs in
+    let tail = others ++ rest in
+    let start : Cursor = record { place = place; rest = (front ++ others) ++ rest } in
+    let regrouped : (front ++ others) ++ rest ≡ front ++ tail = append_assoc front others rest in
+    let more : ends_body start.rest ≡ false = ap ends_body regrouped ∙ answer_goes_on t x tail in
+    let first : answer_at t start ≡ Ok (x, record { place = place + length front; rest = tail }) = ap (λ r. answer_at t (record { place = place; rest = r })) regrouped ∙ answer_reads_back t x place tail table printable.0 (no_part_behind t xs rest ends) in
+    let later = body_again t most (place + length front) xs rest table printable.1 ends (omega arith) in
+    let to : place + length front + length others ≡ place + length (front ++ others) = omega (arith, length-append front others) in
+    answer_step t most start more ∙ (rw (first, later) (ap (λ n. Ok (x ∷ xs, record { place = n; rest = rest })) to))
+
+answer_has_bytes : (t : DecisionTable) (x : Answer) → 0 < length (answer_text t x)
+answer_has_bytes t x = let begins = answer_begins t x in omega (arith, ap length begins.1)
+
+body_has_bytes : (t : DecisionTable) (xs : List Answer) → length xs ≤ length (flat_map (answer_text t) xs)
+body_has_bytes t [] = omega arith
+body_has_bytes t (x ∷ xs) = omega (arith, body_has_bytes t xs, answer_has_bytes t x, length-append (answer_text t x) (flat_map (answer_text t) xs))
+
+made_again : (t : DecisionTable) (n : ℕ) (body : Body) (place : ℕ) (rest : List ℕ) → IsTable t → n < 2 ^ 32 → AllByRecursion (IsPrintable t) (answers_of body) → ends_body rest ≡ true
+    → block_at t (record { place = place; rest = block_text t (record { line = n; body = body }) ++ rest }) ≡ Ok (record { line = n; body = body }, record { place = place + length (block_text t (record { line = n; body = body })); rest = rest })
+unfolding block_at block_text
+made_again t n (Answers xs) place rest table small printable ends =
+    let front = numbered_text (codes "line") n in
+    let body = flat_map (answer_text t) xs in
+    let regrouped : (front ++ body) ++ rest ≡ front ++ (body ++ rest) = append_assoc front body rest in
+    let room : length xs ≤ length (body ++ rest) = omega (arith, body_has_bytes t xs, length-append body rest) in
+    let to : place + length front + length body ≡ place + length (front ++ body) = omega (arith, length-append front body) in
+    ap (λ (r : List ℕ). block_at t (record { place = place; rest = r })) regrouped
+    ∙ (rw (numbered_again (codes "line") place n (body ++ rest) refl small, body_again t (length (body ++ rest)) (place + length front) xs rest table printable ends room)
+    (ap (λ m. Ok (record { line = n; body = Answers xs }, record { place = m; rest = rest })) to))
+
+pub block_reads_back : (t : DecisionTable) (b : Block) (place : ℕ) (rest : List ℕ) → IsTable t → IsPrintableBlock t b → ends_body rest ≡ true
+    → block_at t (record { place = place; rest = block_text t b ++ rest }) ≡ Ok (b, record { place = place + length (block_text t b); rest = rest })
+block_reads_back t b place rest table printable ends = made_again t b.line b.body place rest table printable.number printable.answers ends
+
+-- ---- what is read was so written
+
+in_report_ok : {A : Type 0} (r : Result A ProofFault) (x : A) → read_in_report r ≡ Ok x → r ≡ Ok x
+in_report_ok (Ok y) x e = cc
+in_report_ok (Err f) x e = absurd cc
+
+-- what was read as the answers of a body
+record AreReadAnswers (t : DecisionTable) (c : Cursor) (xs : List Answer) (after : Cursor) : Type 0 where
+  spans : Spans c (flat_map (answer_text t) xs) after
+  printable : AllByRecursion (IsPrintable t) xs
+  ended : ends_body after.rest ≡ true
+
+no_answer_read : (t : DecisionTable) (most : ℕ) (c : Cursor) (x : List Answer × Cursor) → ends_body c.rest ≡ true → body_answers t most c ≡ Ok x → AreReadAnswers t c x.0 x.1
+no_answer_read t most c x ends e =
+    subst (λ (y : List Answer × Cursor). AreReadAnswers t c y.0 y.1) (ok_is ([], c) x (sym (no_answers t most c ends) ∙ e)) (record { spans = record { rest = refl; place = omega arith }; printable = tt; ended = ends })
+
+nothing_ends : (bytes : List ℕ) → length bytes ≤ 0 → ends_body bytes ≡ true
+nothing_ends [] none = refl
+nothing_ends (b ∷ bs) none = absurd (omega arith)
+
+body_sound : (t : DecisionTable) (most : ℕ) (c : Cursor) (x : List Answer × Cursor) → body_answers t most c ≡ Ok x → length c.rest ≤ most → AreReadAnswers t c x.0 x.1
+body_sound t zero c x e room = no_answer_read t zero c x (nothing_ends c.rest room) e
+body_sound t (suc most) c x e room =
+    elim (cases_Bool (ends_body c.rest)) [
+      | inl ends ↦ no_answer_read t (suc most) c x ends e
+      | inr more ↦
+          let a = bind_ok (read_in_report (answer_at t c)) (λ first. body_answers t most first.1 >>= λ others. done (first.0 ∷ others.0, others.1)) x (sym (answer_step t most c more) ∙ e) in
+          let b = bind_ok (body_answers t most a.0.1) (λ others. done (a.0.0 ∷ others.0, others.1)) x a.2 in
+          let first = answer_is_text t c a.0.0 a.0.1 (in_report_ok (answer_at t c) a.0 a.1) in
+          let all : length c.rest ≡ length (answer_text t a.0.0) + length a.0.1.rest = ap length first.text ∙ length-append (answer_text t a.0.0) a.0.1.rest in
+          let others = body_sound t most a.0.1 b.0 b.1 (omega (arith, all, answer_has_bytes t a.0.0)) in
+          subst (λ (y : List Answer × Cursor). AreReadAnswers t c y.0 y.1) (ok_is (a.0.0 ∷ b.0.0, b.0.1) x b.2) (record {
+            spans = spans_then c a.0.1 b.0.1 (answer_text t a.0.0) (flat_map (answer_text t) b.0.0) (record { rest = first.text; place = first.place }) others.spans;
+            printable = (first.printable, others.printable);
+            ended = others.ended;
+          })
+    ]
+
+pub block_is_text : (t : DecisionTable) (c : Cursor) (b : Block) (after : Cursor) → block_at t c ≡ Ok (b, after) → IsBlockText t c b after
+unfolding block_at block_text
+block_is_text t c b after e =
+    let made = λ (n : ℕ) (xs : List Answer × Cursor). done (record { line = n; body = Answers xs.0 }, xs.1) in
+    let a = bind_ok (numbered_line (codes "line") c) (λ line. body_answers t (length line.1.rest) line.1 >>= λ answers. made line.0 answers) (b, after) e in
+    let d = bind_ok (body_answers t (length a.0.1.rest) a.0.1) (λ answers. made a.0.0 answers) (b, after) a.2 in
+    let line = numbered_sound (codes "line") c a.0 a.1 in
+    let answers = body_sound t (length a.0.1.rest) a.0.1 d.0 d.1 (omega arith) in
+    let block : Block = record { line = a.0.0; body = Answers d.0.0 } in
+    let spans = spans_then c a.0.1 d.0.1 (numbered_text (codes "line") a.0.0) (flat_map (answer_text t) d.0.0) line.0 answers.spans in
+    subst (λ (y : Block × Cursor). IsBlockText t c y.0 y.1) {x = (block, d.0.1)} (ok_is (block, d.0.1) (b, after) d.2) (record {
+      text = spans.rest;
+      place = spans.place;
+      printable = record { number = line.1; answers = answers.printable };
+      ended = answers.ended;
+    })
+
+-- ---- the two directions as one
+
+pub is_read_iff_text : (t : DecisionTable) (c : Cursor) (b : Block) (after : Cursor) → IsTable t → (block_at t c ≡ Ok (b, after)) ↔ IsBlockText t c b after
+is_read_iff_text t c b after table = (
+  block_is_text t c b after,
+  λ is.
+      let written = block_reads_back t b c.place after.rest table is.printable is.ended in
+      ap (λ (r : List ℕ). block_at t (record { place = c.place; rest = r })) is.text ∙ written ∙ ap (λ n. Ok (b, record { place = n; rest = after.rest })) (sym is.place),
+)

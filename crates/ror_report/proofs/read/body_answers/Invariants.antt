@@ -1,0 +1,16 @@
+use Rattle.std.proofs.Common.{◌≡◌, ◌≤◌, ◌+◌, ◌-◌, length}
+use Rattle.ror_proof.specs.Cursor.{cursor_at}
+use Rattle.ror_proof.proofs.Loops.{with_front}
+use Rattle.ror_report.specs.Reading.{body_answers}
+use Rattle.ror_report.proofs.read.body_answers.Given as goal
+
+abbrev pub invariant-answers : goal.invariant-answers
+invariant-answers l = record {
+  onward : l.from ≤ l.next;
+  within : l.next ≤ length l.bytes;
+  room : length l.answers.items + (length l.bytes - l.next) ≤ length l.bytes - l.from;
+  reads : with_front l.answers.items (body_answers l.table (length l.bytes - l.from - length l.answers.items) (cursor_at l.bytes l.next)) ≡ body_answers l.table (length l.bytes - l.from) (cursor_at l.bytes l.from);
+}
+
+abbrev pub decreases-answers : goal.decreases-answers
+decreases-answers l = length l.bytes - l.next

@@ -1,0 +1,31 @@
+-- The one text of a block and of a report.
+use Rattle.std.specs.Prelude.{ℕ, ◌<◌, ◌^◌, List, [], ◌∷◌, ◌++◌, length, codes, decimal}
+use Rattle.std.specs.List.{flat_map, AllByRecursion}
+use Rattle.ror_table.specs.Table.{DecisionTable}
+use Rattle.ror_proof.specs.declared.answer.Answer.{Answer}
+use Rattle.ror_proof.specs.Text.{line_text, answer_text, IsPrintable}
+use Rattle.ror_report.specs.declared.block.Block.{Block}
+use Rattle.ror_report.specs.declared.block.Body.{Body}
+use Rattle.ror_report.specs.declared.block.Body.TheVariants.{Answers}
+
+abbrev pub answers_of : Body → List Answer
+answers_of (Answers answers) = answers
+
+-- the line that names the session's line, and the body
+unfoldable pub block_text : DecisionTable → Block → List ℕ
+block_text t b = line_text (codes "line" ∷ decimal b.line ∷ []) ++ flat_map (answer_text t) (answers_of b.body)
+
+unfoldable pub header_text : List ℕ
+header_text = line_text (codes "ror-report" ∷ codes "1" ∷ [])
+
+unfoldable pub end_text : ℕ → List ℕ
+end_text n = line_text (codes "end" ∷ decimal n ∷ [])
+
+-- a report: its first line, the blocks, and the line with their number
+abbrev pub report_text : DecisionTable → List Block → List ℕ
+report_text t blocks = header_text ++ (flat_map (block_text t) blocks ++ end_text (length blocks))
+
+-- the blocks that have a text
+pub record IsPrintableBlock (t : DecisionTable) (b : Block) : Type 0 where
+  pub number : b.line < 2 ^ 32
+  pub answers : AllByRecursion (IsPrintable t) (answers_of b.body)
