@@ -2,3 +2,4 @@ pub mod Refusals
 pub mod Asking
 pub mod Standing
 pub mod ReportProofs
+pub mod Utf8Proofs

@@ -1,7 +1,9 @@
 //! The check of a report, block by block.
 
 ghost use Rattle.std.specs.Prelude.{◌≡◌, ◌≢◌, ◌<◌, ◌≤◌, ◌+◌, ◌-◌, min, ℕ, drop, length, IfOk, IfErr, OnOk, OnErr};
+ghost use Rattle.std.specs.Bool.{MatchBool};
 ghost use Rattle.std.specs.List.{AllByRecursion};
+ghost use Rattle.std.specs.Str.{IsUtf8};
 ghost use Rattle.ror_text.specs.Lines.{line_of};
 ghost use Rattle.ror_table.specs.Table.{IsTable};
 ghost use Rattle.ror_report.specs.Text.{end_text};
@@ -51,8 +53,48 @@ pub enum ReportError {
     Memory,
 }
 
-/// Checks a report block by block against the session's lines, and gives the number of its answers.
+/// Checks a report against the session's lines, and gives the number of its answers. The report has at most
+/// 268,435,456 bytes.
+///
+/// # Errors
+///
+/// `NotUtf8` and a bad first line, in block 0; then block by block its form, `WrongBlock`, and its first answer that is
+/// not accepted.
 pub fn check_report(
+    alloc: Global,
+    bench: &mut Bench,
+    lines: &[Line],
+    bytes: &[u8],
+) -> Result<u64, ReportError>
+    requires desks { AllByRecursion (NamesADesk (length bench.old.state)) lines.now }
+    requires length { length bytes.now ≤ 268435456 }
+    ensures accepted { IfOk result (IsProvedReport bench.old lines.now bytes.now) }
+    ensures true_answers { IfOk result (λ n. IsTrueReport bench.old lines.now bytes.now) }
+    ensures not_proved { IfErr result (λ e. e ≢ ReportError.Memory → (n : ℕ) → IsProvedReport bench.old lines.now bytes.now n → ⊥) }
+    ensures kept { bench.new ≡ bench.old }
+{
+    // What is read back is what was written only over a table, and each table has alternatives.
+    prove!(bench.table().alternatives() > 0);
+    if !is_text(bytes) {
+        return Err(ReportError::Rejected(Rejection {
+            block: 0,
+            reason: Reason::NotUtf8,
+        }));
+    }
+    check_blocks(alloc, bench, lines, bytes)
+}
+
+fn is_text(bytes: &[u8]) -> bool
+    ensures { MatchBool result (IsUtf8 bytes.now) (¬ (IsUtf8 bytes.now)) }
+{
+    match std::str::from_utf8(bytes) {
+        Ok(_) => true,
+        Err(_) => false,
+    }
+}
+
+/// Checks the blocks of a report, whatever its bytes are.
+fn check_blocks(
     alloc: Global,
     bench: &mut Bench,
     lines: &[Line],

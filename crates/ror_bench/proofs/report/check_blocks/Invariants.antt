@@ -1,6 +1,6 @@
 use Rattle.std.proofs.Common.{◌≡◌, ◌≤◌, ◌+◌, ◌*◌, length, drop}
 use Rattle.ror_bench.proofs.ReportProofs.{IsWay}
-use Rattle.ror_bench.proofs.report.check_report.Given as goal
+use Rattle.ror_bench.proofs.report.check_blocks.Given as goal
 
 abbrev pub invariant-loop-line : goal.invariant-loop-line
 invariant-loop-line l = record {
