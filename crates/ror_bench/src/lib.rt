@@ -6,3 +6,6 @@ mod report;
 
 pub use bench::{Bench, BlockFault, Passed};
 pub use report::{Reason, Rejection, ReportError, check_report};
+
+#[cfg(test)]
+mod tests;
