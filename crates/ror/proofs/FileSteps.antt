@@ -1,0 +1,77 @@
+-- What a fetch and the reading of its bytes say of the files of a shelf.
+use Rattle.std.proofs.Common.{◌≡◌, ◌≢◌, ℕ, ◌<◌, ◌≤◌, ◌⊎◌, List, length, Option, Some, None, Result, Ok, Err, refl, sym, ◌∙◌, arith, inl, inr, subst, ap}
+use Rattle.ror_io.specs.Files.{Files, file, Holds, Lacks}
+use Rattle.ror_io.specs.Counts.{Rose, DidNotRise}
+use Rattle.ror_io.specs.Fetching.{OnFailed, Fetches}
+use Rattle.ror_io.specs.declared.shelf.Fetched.{Fetched}
+use Rattle.ror_io.specs.declared.shelf.ShelfFault.{ShelfFault}
+use Rattle.ror_io.specs.declared.shelf.ShelfFault.TheVariants as shelf_faults
+use Rattle.ror_io.proofs.CountLemmas.{never_both}
+use Rattle.ror_table.specs.Table.{DecisionTable}
+use Rattle.ror_table.specs.Plain.{plain_table}
+use Rattle.ror_session.specs.declared.session.Session.{Session}
+use Rattle.ror_session.specs.declared.session.Line.{Line}
+use Rattle.ror_bench.specs.declared.report.ReportError.{ReportError}
+use Rattle.ror_bench.specs.declared.report.ReportError.TheVariants as report_errors
+use Rattle.ror_bench.specs.Bench.{Workbench}
+use Rattle.ror_bench.specs.Reports.{IsProvedReport}
+use Rattle.ror.specs.declared.work.Stop.{Stop}
+use Rattle.ror.specs.declared.work.Stop.TheVariants as stops
+use Rattle.ror.specs.Words.{CheckNames}
+use Rattle.ror.specs.Work.{bench_for, session_over, ReadsTable, ReadsSession, Misses}
+use Rattle.ror.specs.Stops.{stop_at_shelf, stop_at_report, ShowsStop, ReadsTableAs, ReadsSessionAs, Judges, ShowsTable, ShowsSession, ShowsWork}
+
+-- what is not missing is there
+found_or : (found : Option (List ℕ)) → (found ≡ None → ⊥) → (bytes : List ℕ) × (found ≡ Some bytes)
+found_or None there = absurd (there refl)
+found_or (Some bytes) there = (bytes, refl)
+
+-- the bytes of a file that was fetched
+pub there : (told : Option Files) (files : Files) (name : List ℕ) → told ≡ Some files → (Lacks told name → ⊥) → (bytes : List ℕ) × (file files name ≡ Some bytes) × Holds told name bytes
+there told files name is kept =
+    let found = found_or (file files name) (λ none. kept (subst (λ (t : Option Files). Lacks t name) (sym is) none)) in
+    (found.0, found.1, subst (λ (t : Option Files). Holds t name found.0) (sym is) found.1)
+
+-- a fetch that brought nothing, of a shelf that tells its files and whose count did not rise
+pub missed : (told : Option Files) (files : Files) (names : CheckNames) (name : List ℕ) (before now : ℕ) (fault : ShelfFault) → told ≡ Some files → DidNotRise before now → OnFailed (Err fault) (Rose before now ⊎ Lacks told name) → (file files name ≡ None → Misses files names) → ShowsStop files names (stop_at_shelf fault)
+missed told files names name before now shelf_faults.Failed is stayed failed misses =
+    elim failed [
+      | inl rose ↦ absurd (never_both before now rose stayed)
+      | inr lacks ↦ misses (subst (λ (t : Option Files). Lacks t name) is lacks)
+    ]
+missed told files names name before now shelf_faults.Memory is stayed failed misses = tt
+
+pub table_shown : (files : Files) (names : CheckNames) (bytes : List ℕ) (result : Result DecisionTable Stop) → file files names.table ≡ Some bytes → ReadsTableAs (plain_table bytes) result → ShowsTable names result files
+table_shown files names bytes (Ok t) found reads = record { bytes = bytes; there = found; read = reads }
+table_shown files names bytes (Err (stops.BadTable fault)) found reads = record { bytes = bytes; there = found; refused = reads }
+table_shown files names bytes (Err (stops.BadSession fault)) found reads = absurd reads
+table_shown files names bytes (Err (stops.Rejected rejection)) found reads = absurd reads
+table_shown files names bytes (Err stops.ReadFault) found reads = absurd reads
+table_shown files names bytes (Err stops.Memory) found reads = tt
+
+pub session_shown : (files : Files) (names : CheckNames) (t : DecisionTable) (bytes : List ℕ) (result : Result Session Stop) → ReadsTable files names t → file files names.session ≡ Some bytes → ReadsSessionAs (session_over t bytes) result → ShowsSession names t result files
+session_shown files names t bytes (Ok s) table found reads = record { table = table; bytes = bytes; there = found; read = reads }
+session_shown files names t bytes (Err (stops.BadTable fault)) table found reads = absurd reads
+session_shown files names t bytes (Err (stops.BadSession fault)) table found reads = record { table = t; table_read = table; bytes = bytes; there = found; refused = reads }
+session_shown files names t bytes (Err (stops.Rejected rejection)) table found reads = absurd reads
+session_shown files names t bytes (Err stops.ReadFault) table found reads = absurd reads
+session_shown files names t bytes (Err stops.Memory) table found reads = tt
+
+pub work_shown : (files : Files) (names : CheckNames) (t : DecisionTable) (s : Session) (bytes : List ℕ) (result : Result ℕ Stop) → ReadsSession files names t s → file files names.report ≡ Some bytes → Judges t s bytes result → ShowsWork names result files
+work_shown files names t s bytes (Ok n) session found judges =
+    (record { table = t; session = s; session_read = session; bytes = bytes; there = found; short = judges.0; proved = judges.1 }, record { table = t; session = s; session_read = session; bytes = bytes; there = found; answers_true = judges.2 })
+work_shown files names t s bytes (Err (stops.BadTable fault)) session found judges = absurd judges
+work_shown files names t s bytes (Err (stops.BadSession fault)) session found judges = absurd judges
+work_shown files names t s bytes (Err (stops.Rejected rejection)) session found judges =
+    record {
+      not_proved = record { table = t; session = s; session_read = session; bytes = bytes; there = found; not_proved = judges.0 };
+      too_long = λ other. judges.1 (let same : other.bytes ≡ bytes = let at = other.there in cc in subst (λ (xs : List ℕ). 268435456 < length xs) same other.long);
+    }
+work_shown files names t s bytes (Err stops.ReadFault) session found judges = absurd judges
+work_shown files names t s bytes (Err stops.Memory) session found judges = tt
+
+-- what is refused of the bytes that were fetched is not proved
+pub judged : (t : DecisionTable) (s : Session) (bench : Workbench) (lines : List Line) (got bytes : List ℕ) (error : ReportError) → bench ≡ bench_for t s → lines ≡ s.lines → got ≡ bytes → length got ≤ 268435456 → (error ≢ report_errors.Memory → (n : ℕ) → IsProvedReport bench lines got n → ⊥) → Judges t s bytes (Err (stop_at_report error))
+judged t s bench lines got bytes (report_errors.Rejected rejection) benches same whole short refuted =
+    (λ n within proved. refuted (λ e. cc) n (subst (λ (b : Workbench). IsProvedReport b lines got n) (sym benches) (subst (λ (ls : List Line). IsProvedReport (bench_for t s) ls got n) (sym same) (subst (λ (bs : List ℕ). IsProvedReport (bench_for t s) s.lines bs n) (sym whole) proved))), λ long. absurd (omega (arith, long, short, ap length whole)))
+judged t s bench lines got bytes report_errors.Memory benches same whole short refuted = tt

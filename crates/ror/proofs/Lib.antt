@@ -1,0 +1,6 @@
+pub mod WordLemmas
+pub mod PrintLemmas
+pub mod LongTexts
+pub mod FileSteps
+pub mod Deciding
+pub mod Conclusions

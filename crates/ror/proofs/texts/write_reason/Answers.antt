@@ -1,0 +1,14 @@
+use Rattle.std.proofs.Common.{◌≡◌, ap}
+use Rattle.std.proofs.lemmas.Result.{err_from_is_err_and}
+use Rattle.ror.specs.Statuses.{reason_text}
+use Rattle.ror.proofs.PrintLemmas.{cut, follow}
+use Rattle.ror.proofs.texts.write_reason.Goals as goal
+
+pub returns-in_err-write_numbered-in-Answer : goal.returns-in_err-write_numbered-in-Answer
+returns-in_err-write_numbered-in-Answer g c =
+    let p = err_from_is_err_and c.from_residual.result c.from_residual.ensures.1 in
+    rw p.1 (cut _ _ _ _ _ _ _ c.in_err-write_numbered-in-Answer.ensures (ap reason_text c.in-Answer.is))
+
+pub returns-in_ok-write_numbered-in-Answer : goal.returns-in_ok-write_numbered-in-Answer
+returns-in_ok-write_numbered-in-Answer g c =
+    follow _ _ _ _ _ _ _ _ _ _ c.in_ok-write_numbered-in-Answer.ensures c.write_check_fault.ensures (ap reason_text c.in-Answer.is)

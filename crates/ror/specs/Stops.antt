@@ -1,0 +1,126 @@
+-- Where the work on the three files stops, and what the files are like there.
+use Rattle.std.specs.Prelude.{◌≡◌, ◌≢◌, ℕ, ◌<◌, ◌≤◌, ◌⊎◌, List, length, Option, Some, Result, Ok, Err}
+use Rattle.ror_io.specs.Files.{Files}
+use Rattle.ror_io.specs.Counts.{Rose, DidNotRise}
+use Rattle.ror_io.specs.Writing.{Grew, GrewShort}
+use Rattle.ror_io.specs.declared.shelf.ShelfFault.{ShelfFault}
+use Rattle.ror_io.specs.declared.shelf.ShelfFault.TheVariants as shelf_faults
+use Rattle.ror_table.specs.Table.{DecisionTable}
+use Rattle.ror_table.specs.declared.fault.TableFault.{TableFault}
+use Rattle.ror_table.specs.declared.fault.TableError.{TableError}
+use Rattle.ror_table.specs.declared.fault.TableError.TheVariants as table_errors
+use Rattle.ror_session.specs.declared.session.Session.{Session}
+use Rattle.ror_session.specs.declared.session.SessionFault.{SessionFault}
+use Rattle.ror_session.specs.declared.session.SessionFault.TheVariants as session_faults
+use Rattle.ror_bench.specs.declared.report.ReportError.{ReportError}
+use Rattle.ror_bench.specs.declared.report.ReportError.TheVariants as report_errors
+use Rattle.ror_bench.specs.declared.report.Reason.TheVariants.{TooLong}
+use Rattle.ror_bench.specs.Reports.{IsProvedReport, IsTrueReport}
+use Rattle.ror.specs.declared.status.Status.{Status}
+use Rattle.ror.specs.declared.status.Status.TheVariants as statuses
+use Rattle.ror.specs.declared.work.Stop.{Stop}
+use Rattle.ror.specs.declared.work.Stop.TheVariants as stops
+use Rattle.ror.specs.Words.{CheckNames}
+use Rattle.ror.specs.Statuses.{accepted_text}
+use Rattle.ror.specs.Work.{bench_for, ReadsTable, ReadsSession, RefusesTable, RefusesSession, ProvesReport, RefutesReport, IsTrue, Misses}
+
+-- the stop that a fault of the shelf leads to, and those of the readers
+abbrev pub stop_at_shelf : ShelfFault → Stop
+stop_at_shelf shelf_faults.Failed = stops.ReadFault
+stop_at_shelf shelf_faults.Memory = stops.Memory
+
+abbrev pub stop_at_table : TableError → Stop
+stop_at_table (table_errors.Bad fault) = stops.BadTable fault
+stop_at_table table_errors.Memory = stops.Memory
+
+abbrev pub stop_at_session : SessionFault → Stop
+stop_at_session session_faults.NotUtf8 = stops.BadSession session_faults.NotUtf8
+stop_at_session (session_faults.BadLine n) = stops.BadSession (session_faults.BadLine n)
+stop_at_session session_faults.TooManyLines = stops.BadSession session_faults.TooManyLines
+stop_at_session session_faults.TooLong = stops.BadSession session_faults.TooLong
+stop_at_session session_faults.Memory = stops.Memory
+
+abbrev pub stop_at_report : ReportError → Stop
+stop_at_report (report_errors.Rejected rejection) = stops.Rejected rejection
+stop_at_report report_errors.Memory = stops.Memory
+
+-- the status that a run ends with at a stop
+abbrev pub status_at : Stop → Status
+status_at (stops.BadTable fault) = statuses.BadTable fault
+status_at (stops.BadSession fault) = statuses.BadSession fault
+status_at (stops.Rejected rejection) = statuses.Rejected rejection
+status_at stops.ReadFault = statuses.ReadFault
+status_at stops.Memory = statuses.Memory
+
+-- what the files are like where the work stops
+abbrev pub ShowsStop : Files → CheckNames → Stop → Type 0
+ShowsStop files names (stops.BadTable fault) = RefusesTable files names fault
+ShowsStop files names (stops.BadSession fault) = RefusesSession files names fault
+ShowsStop files names (stops.Rejected rejection) = RefutesReport files names rejection
+ShowsStop files names stops.ReadFault = Misses files names
+ShowsStop files names stops.Memory = Unit {0}
+
+-- no stop holds a want of memory inside
+abbrev pub IsPure : Stop → Type 0
+IsPure (stops.BadTable fault) = Unit {0}
+IsPure (stops.BadSession fault) = fault ≢ session_faults.Memory
+IsPure (stops.Rejected rejection) = Unit {0}
+IsPure stops.ReadFault = Unit {0}
+IsPure stops.Memory = Unit {0}
+
+-- nor does one at the bytes of a file, which is none of the shelf
+abbrev pub IsOfBytes : Stop → Type 0
+IsOfBytes (stops.BadTable fault) = Unit {0}
+IsOfBytes (stops.BadSession fault) = fault ≢ session_faults.Memory
+IsOfBytes (stops.Rejected rejection) = Unit {0}
+IsOfBytes stops.ReadFault = ⊥
+IsOfBytes stops.Memory = Unit {0}
+
+-- what a step answered is what the definition reads of the bytes; want of memory says nothing
+abbrev pub ReadsTableAs : Result DecisionTable TableFault → Result DecisionTable Stop → Type 0
+ReadsTableAs reading (Ok t) = reading ≡ Ok t
+ReadsTableAs reading (Err (stops.BadTable fault)) = reading ≡ Err fault
+ReadsTableAs reading (Err (stops.BadSession fault)) = ⊥
+ReadsTableAs reading (Err (stops.Rejected rejection)) = ⊥
+ReadsTableAs reading (Err stops.ReadFault) = ⊥
+ReadsTableAs reading (Err stops.Memory) = Unit {0}
+
+abbrev pub ReadsSessionAs : Result Session SessionFault → Result Session Stop → Type 0
+ReadsSessionAs reading (Ok s) = reading ≡ Ok s
+ReadsSessionAs reading (Err (stops.BadTable fault)) = ⊥
+ReadsSessionAs reading (Err (stops.BadSession fault)) = reading ≡ Err fault
+ReadsSessionAs reading (Err (stops.Rejected rejection)) = ⊥
+ReadsSessionAs reading (Err stops.ReadFault) = ⊥
+ReadsSessionAs reading (Err stops.Memory) = Unit {0}
+
+-- what a step answered of a report's bytes: the number of answers, of which each is true, or that none is proved
+abbrev pub Judges : DecisionTable → Session → List ℕ → Result ℕ Stop → Type 0
+Judges t s bytes (Ok n) = (length bytes ≤ 268435456) × IsProvedReport (bench_for t s) s.lines bytes n × IsTrueReport (bench_for t s) s.lines bytes
+Judges t s bytes (Err (stops.BadTable fault)) = ⊥
+Judges t s bytes (Err (stops.BadSession fault)) = ⊥
+Judges t s bytes (Err (stops.Rejected rejection)) = ((n : ℕ) → length bytes ≤ 268435456 → IsProvedReport (bench_for t s) s.lines bytes n → ⊥) × (268435456 < length bytes → rejection ≡ record { block = 0; reason = TooLong })
+Judges t s bytes (Err stops.ReadFault) = ⊥
+Judges t s bytes (Err stops.Memory) = Unit {0}
+
+-- P of the files, where they are told and the count of faults did not rise
+abbrev pub OfToldFiles : Option Files → ℕ → ℕ → (Files → Type 0) → Type 0
+OfToldFiles told before now P = (files : Files) → told ≡ Some files → DidNotRise before now → P files
+
+-- what a table, a session, and the number of a proved report's answers show, or else the stop
+abbrev pub ShowsTable : CheckNames → Result DecisionTable Stop → Files → Type 0
+ShowsTable names (Ok t) files = ReadsTable files names t
+ShowsTable names (Err stop) files = ShowsStop files names stop
+
+abbrev pub ShowsSession : CheckNames → DecisionTable → Result Session Stop → Files → Type 0
+ShowsSession names t (Ok s) files = ReadsSession files names t s
+ShowsSession names t (Err stop) files = ShowsStop files names stop
+
+abbrev pub ShowsWork : CheckNames → Result ℕ Stop → Files → Type 0
+ShowsWork names (Ok n) files = ProvesReport files names n × IsTrue files names
+ShowsWork names (Err stop) files = ShowsStop files names stop
+
+-- How a run ends after the work, and what it writes: the line of the accepted report or a proper front of it where the
+-- work was done, and nothing where it stopped.
+abbrev pub Concludes : ℕ → ℕ → Option (List ℕ) → Option (List ℕ) → Result ℕ Stop → Status → Type 0
+Concludes before now old new (Ok n) status = ((status ≡ statuses.Done) × (now ≡ before) × Grew old new (accepted_text n)) ⊎ ((status ≡ statuses.WriteFault) × (before ≤ now) × Rose before now × GrewShort old new (accepted_text n))
+Concludes before now old new (Err stop) status = (status ≡ status_at stop) × (now ≡ before) × (new ≡ old)

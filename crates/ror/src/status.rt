@@ -1,0 +1,48 @@
+//! How a run ends.
+
+ghost use Rattle.std.specs.Prelude.{◌≡◌};
+
+use ror_bench::Rejection;
+use ror_session::SessionFault;
+use ror_table::TableFault;
+
+/// How a run ended.
+#[derive(Debug, Drop)]
+pub enum Status {
+    /// The work was done to the last line.
+    Done,
+    /// The words are not those of a command.
+    Usage,
+    /// The table's bytes are no table: the first fault.
+    BadTable(TableFault),
+    /// The session's bytes are no session over the table: the first fault.
+    BadSession(SessionFault),
+    /// The report's bytes are no report that is proved for the session.
+    Rejected(Rejection),
+    /// A file is not there, or could not be read.
+    ReadFault,
+    /// Standard output could not be written.
+    WriteFault,
+    /// There was not enough memory.
+    Memory,
+}
+
+impl Status {
+    ghost use Rattle.ror.specs.Statuses.{code_of};
+
+    /// The process's exit status.
+    pub fn code(&self) -> u8
+        ensures { result ≡ code_of self.now }
+    {
+        match self {
+            Status::Done => 0,
+            Status::Usage => 2,
+            Status::BadTable(_) => 3,
+            Status::BadSession(_) => 4,
+            Status::Rejected(_) => 5,
+            Status::ReadFault => 6,
+            Status::WriteFault => 7,
+            Status::Memory => 8,
+        }
+    }
+}

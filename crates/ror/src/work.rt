@@ -1,0 +1,266 @@
+//! The work of a check on its three files. After a fault of the shelf nothing more is fetched.
+
+ghost use Rattle.std.specs.Prelude.{◌≡◌, ◌≤◌, ◌<◌, ℕ, List, ◌⊎◌, IfErr, IsErr, IsErrOf, IfOk, length, OnOk};
+ghost use Rattle.std.specs.List.{AllByRecursion};
+ghost use Rattle.ror_io.specs.Counts.{Rose};
+ghost use Rattle.ror_io.specs.Files.{Lacks};
+ghost use Rattle.ror_io.specs.Fetching.{Fetches, IsWithin};
+ghost use Rattle.ror_table.specs.Plain.{plain_table};
+ghost use Rattle.ror_bench.specs.Reports.{NamesADesk};
+ghost use Rattle.ror.specs.Named.{names_of};
+ghost use Rattle.ror.specs.Work.{LacksOne, session_over, ReadsTable, ReadsSession};
+ghost use Rattle.ror.specs.Stops.{IsPure, IsOfBytes, ReadsTableAs, ReadsSessionAs, Judges, OfToldFiles, ShowsTable, ShowsSession, ShowsWork};
+
+use crate::names::first_unknown;
+use crate::status::Status;
+use crate::words::FileNames;
+use ror_bench::{Bench, Reason, Rejection, ReportError, check_report};
+use ror_io::{Fetched, Shelf, ShelfFault};
+use ror_session::{Session, SessionFault, read_session};
+use ror_table::{Table, TableError, TableFault, TableKind, read_plain};
+use ror_text::Items;
+use ror_value::Input;
+use std::alloc::{AllocError, Global};
+
+/// The greatest number of bytes of a table, and of a session.
+const TEXT_BYTES: usize = 16_777_216;
+
+/// The greatest number of bytes of a report.
+const REPORT_BYTES: usize = 268_435_456;
+
+/// Why the work came to no accepted report.
+#[derive(Debug, Drop)]
+pub enum Stop {
+    /// The table's bytes are no table.
+    BadTable(TableFault),
+    /// The session's bytes are no session over the table.
+    BadSession(SessionFault),
+    /// The report's bytes are no report that is proved for the session.
+    Rejected(Rejection),
+    /// A file is not there, or could not be read.
+    ReadFault,
+    /// There was not enough memory.
+    Memory,
+}
+
+impl From<AllocError> for Stop {
+    ghost use Rattle.ror.specs.declared.work.Stop.TheVariants.{Memory};
+
+    ghost from_gives = { λ _ stop. stop ≡ Memory };
+
+    fn from(_error: AllocError) -> Stop {
+        Stop::Memory
+    }
+}
+
+impl From<ShelfFault> for Stop {
+    ghost use Rattle.ror.specs.Stops.{stop_at_shelf};
+
+    ghost from_gives = { λ fault stop. stop ≡ stop_at_shelf fault };
+
+    fn from(fault: ShelfFault) -> Stop {
+        match fault {
+            ShelfFault::Failed => Stop::ReadFault,
+            ShelfFault::Memory => Stop::Memory,
+        }
+    }
+}
+
+impl From<TableError> for Stop {
+    ghost use Rattle.ror.specs.Stops.{stop_at_table};
+
+    ghost from_gives = { λ error stop. stop ≡ stop_at_table error };
+
+    fn from(error: TableError) -> Stop {
+        match error {
+            TableError::Bad(fault) => Stop::BadTable(fault),
+            TableError::Memory => Stop::Memory,
+        }
+    }
+}
+
+impl From<SessionFault> for Stop {
+    ghost use Rattle.ror.specs.Stops.{stop_at_session};
+
+    ghost from_gives = { λ fault stop. stop ≡ stop_at_session fault };
+
+    fn from(fault: SessionFault) -> Stop {
+        match fault {
+            SessionFault::Memory => Stop::Memory,
+            fault => Stop::BadSession(fault),
+        }
+    }
+}
+
+impl From<ReportError> for Stop {
+    ghost use Rattle.ror.specs.Stops.{stop_at_report};
+
+    ghost from_gives = { λ error stop. stop ≡ stop_at_report error };
+
+    fn from(error: ReportError) -> Stop {
+        match error {
+            ReportError::Rejected(rejection) => Stop::Rejected(rejection),
+            ReportError::Memory => Stop::Memory,
+        }
+    }
+}
+
+impl From<Stop> for Status {
+    ghost use Rattle.ror.specs.Stops.{status_at};
+
+    ghost from_gives = { λ stop status. status ≡ status_at stop };
+
+    fn from(stop: Stop) -> Status {
+        match stop {
+            Stop::BadTable(fault) => Status::BadTable(fault),
+            Stop::BadSession(fault) => Status::BadSession(fault),
+            Stop::Rejected(rejection) => Status::Rejected(rejection),
+            Stop::ReadFault => Status::ReadFault,
+            Stop::Memory => Status::Memory,
+        }
+    }
+}
+
+/// Fetches the three files in order, each once those before it were read, and gives the number of
+/// the report's answers.
+pub fn check_files<F: Shelf>(
+    alloc: Global,
+    names: &FileNames<'_>,
+    shelf: &mut F,
+) -> Result<u64, Stop>
+    ensures never_falls { F.faults shelf.old ≤ F.faults shelf.new }
+    ensures told_stays { F.told shelf.new ≡ F.told shelf.old }
+    ensures read_fault { IsErrOf result Stop.ReadFault
+        → Rose (F.faults shelf.old) (F.faults shelf.new)
+        ⊎ LacksOne (F.told shelf.old) (names_of names.now) }
+    ensures rose { F.faults shelf.old < F.faults shelf.new → IsErrOf result Stop.ReadFault }
+    ensures lacking { LacksOne (F.told shelf.old) (names_of names.now) → IsErr result }
+    ensures no_table { Lacks (F.told shelf.old) names.now.table.now
+        → IsErrOf result Stop.ReadFault }
+    ensures pure { IfErr result IsPure }
+    ensures shows { OfToldFiles (F.told shelf.old) (F.faults shelf.old) (F.faults shelf.new)
+        (ShowsWork (names_of names.now) result) }
+{
+    let table = fetch_table(alloc, names, shelf)?;
+    let session = fetch_session(alloc, names, shelf, &table)?;
+    check_fetched(alloc, names, shelf, table, &session)
+}
+
+/// Reads a table that was fetched.
+fn table_in(alloc: Global, fetched: Fetched) -> Result<Table, Stop>
+    ensures reads { (bytes : List ℕ) → Fetches bytes 16777216 fetched
+        → ReadsTableAs (plain_table bytes) result }
+    ensures stop { IfErr result IsOfBytes }
+{
+    let Fetched::Whole(bytes) = fetched else {
+        return Err(Stop::BadTable(TableFault {
+            kind: TableKind::TooLong,
+            line: 0,
+        }));
+    };
+    Ok(read_plain(alloc, bytes.as_slice())?)
+}
+
+/// Reads a session that was fetched, and refuses the first line that names an alternative which
+/// the table lacks.
+fn session_in(alloc: Global, table: &Table, fetched: Fetched) -> Result<Session, Stop>
+    ensures reads { (bytes : List ℕ) → Fetches bytes 16777216 fetched
+        → ReadsSessionAs (session_over table.now bytes) result }
+    ensures stop { IfErr result IsOfBytes }
+    ensures desks { IfOk result (λ s. AllByRecursion (NamesADesk (length s.desks)) s.lines) }
+    ensures few_desks { IfOk result (λ s. length s.desks ≤ 64) }
+{
+    let Fetched::Whole(bytes) = fetched else {
+        return Err(Stop::BadSession(SessionFault::TooLong));
+    };
+    let session = read_session(alloc, bytes.as_slice())?;
+    if let Some(line) = first_unknown(table, session.lines.as_slice()) {
+        return Err(Stop::BadSession(SessionFault::BadLine(line.number)));
+    }
+    Ok(session)
+}
+
+/// Checks a report that was fetched, and gives the number of its answers.
+fn answers_in(alloc: Global, table: Table, session: &Session, fetched: Fetched) -> Result<u64, Stop>
+    requires desks { AllByRecursion (NamesADesk (length session.now.desks)) session.now.lines }
+    requires few_desks { length session.now.desks ≤ 64 }
+    requires within { IsWithin 268435456 fetched }
+    ensures judges { (bytes : List ℕ) → Fetches bytes 268435456 fetched
+        → Judges table session.now bytes result }
+    ensures stop { IfErr result IsOfBytes }
+{
+    let Fetched::Whole(bytes) = fetched else {
+        return Err(Stop::Rejected(Rejection {
+            block: 0,
+            reason: Reason::TooLong,
+        }));
+    };
+    let opening = Items::from(Vec::new(alloc));
+    let desks = session.desks.len() as u32;
+    let mut bench = Bench::new(alloc, Input { table, opening }, desks)?;
+    let lines = session.lines.as_slice();
+    Ok(check_report(alloc, &mut bench, lines, bytes.as_slice())?)
+}
+
+/// Fetches and reads the table.
+fn fetch_table<F: Shelf>(alloc: Global, names: &FileNames<'_>, shelf: &mut F) -> Result<Table, Stop>
+    ensures never_falls { F.faults shelf.old ≤ F.faults shelf.new }
+    ensures told_stays { F.told shelf.new ≡ F.told shelf.old }
+    ensures read_fault { IsErrOf result Stop.ReadFault
+        → Rose (F.faults shelf.old) (F.faults shelf.new) ⊎ Lacks (F.told shelf.old) names.now.table.now }
+    ensures missing { Lacks (F.told shelf.old) names.now.table.now → IsErrOf result Stop.ReadFault }
+    ensures rose { F.faults shelf.old < F.faults shelf.new → IsErrOf result Stop.ReadFault }
+    ensures pure { IfErr result IsPure }
+    ensures shows { OfToldFiles (F.told shelf.old) (F.faults shelf.old) (F.faults shelf.new)
+        (ShowsTable (names_of names.now) result) }
+{
+    table_in(alloc, shelf.fetch(alloc, names.table, TEXT_BYTES)?)
+}
+
+/// Fetches and reads the session.
+fn fetch_session<F: Shelf>(
+    alloc: Global,
+    names: &FileNames<'_>,
+    shelf: &mut F,
+    table: &Table,
+) -> Result<Session, Stop>
+    ensures never_falls { F.faults shelf.old ≤ F.faults shelf.new }
+    ensures told_stays { F.told shelf.new ≡ F.told shelf.old }
+    ensures read_fault { IsErrOf result Stop.ReadFault
+        → Rose (F.faults shelf.old) (F.faults shelf.new) ⊎ Lacks (F.told shelf.old) names.now.session.now }
+    ensures missing { Lacks (F.told shelf.old) names.now.session.now → IsErrOf result Stop.ReadFault }
+    ensures rose { F.faults shelf.old < F.faults shelf.new → IsErrOf result Stop.ReadFault }
+    ensures pure { IfErr result IsPure }
+    ensures shows { OfToldFiles (F.told shelf.old) (F.faults shelf.old) (F.faults shelf.new)
+        (λ files. ReadsTable files (names_of names.now) table.now
+        → ShowsSession (names_of names.now) table.now result files) }
+    ensures desks { IfOk result (λ s. AllByRecursion (NamesADesk (length s.desks)) s.lines) }
+    ensures few_desks { IfOk result (λ s. length s.desks ≤ 64) }
+{
+    session_in(alloc, table, shelf.fetch(alloc, names.session, TEXT_BYTES)?)
+}
+
+/// Fetches and checks the report, and gives the number of its answers.
+fn check_fetched<F: Shelf>(
+    alloc: Global,
+    names: &FileNames<'_>,
+    shelf: &mut F,
+    table: Table,
+    session: &Session,
+) -> Result<u64, Stop>
+    requires desks { AllByRecursion (NamesADesk (length session.now.desks)) session.now.lines }
+    requires few_desks { length session.now.desks ≤ 64 }
+    ensures never_falls { F.faults shelf.old ≤ F.faults shelf.new }
+    ensures told_stays { F.told shelf.new ≡ F.told shelf.old }
+    ensures read_fault { IsErrOf result Stop.ReadFault
+        → Rose (F.faults shelf.old) (F.faults shelf.new) ⊎ Lacks (F.told shelf.old) names.now.report.now }
+    ensures missing { Lacks (F.told shelf.old) names.now.report.now → IsErrOf result Stop.ReadFault }
+    ensures rose { F.faults shelf.old < F.faults shelf.new → IsErrOf result Stop.ReadFault }
+    ensures pure { IfErr result IsPure }
+    ensures shows { OfToldFiles (F.told shelf.old) (F.faults shelf.old) (F.faults shelf.new)
+        (λ files. ReadsSession files (names_of names.now) table session.now
+        → ShowsWork (names_of names.now) result files) }
+{
+    let fetched = shelf.fetch(alloc, names.report, REPORT_BYTES)?;
+    answers_in(alloc, table, session, fetched)
+}
