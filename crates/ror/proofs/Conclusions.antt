@@ -1,9 +1,7 @@
 -- What the work's outcome says of a run that ends after it.
-use Rattle.std.proofs.Common.{◌≡◌, ◌≢◌, ℕ, ◌<◌, ◌≤◌, ◌⊎◌, List, Option, Some, Result, Ok, Err, refl, sym, ap, ◌∙◌, subst, inl, inr, arith}
+use Rattle.std.proofs.Common.{◌≡◌, ℕ, ◌<◌, ◌≤◌, List, Option, Some, Result, Ok, Err, sym, subst, inl, inr, arith}
 use Rattle.ror_io.specs.Files.{Files}
-use Rattle.ror_io.specs.Counts.{Rose, DidNotRise}
 use Rattle.ror.specs.declared.status.Status.{Status}
-use Rattle.ror.specs.declared.status.Status.TheVariants as statuses
 use Rattle.ror.specs.declared.work.Stop.{Stop}
 use Rattle.ror.specs.declared.work.Stop.TheVariants as stops
 use Rattle.ror.specs.Words.{CheckNames, check_of}

@@ -1,5 +1,5 @@
 -- What three files lead to is one thing: where a status shows it, the files decide the status.
-use Rattle.std.proofs.Common.{◌≡◌, ◌≢◌, ℕ, ◌≤◌, List, length, Some, None, Ok, Err, refl, sym, ap, ◌∙◌, subst, inl, inr, arith}
+use Rattle.std.proofs.Common.{◌≡◌, ◌≢◌, ℕ, ◌≤◌, List, length, Some, Ok, Err, refl, sym, ap, subst, inl, inr, arith}
 use Rattle.ror_io.specs.Files.{Files, file}
 use Rattle.ror_table.specs.Table.{DecisionTable}
 use Rattle.ror_table.specs.Plain.{plain_table}

@@ -1,9 +1,8 @@
 -- What a fetch and the reading of its bytes say of the files of a shelf.
-use Rattle.std.proofs.Common.{◌≡◌, ◌≢◌, ℕ, ◌<◌, ◌≤◌, ◌⊎◌, List, length, Option, Some, None, Result, Ok, Err, refl, sym, ◌∙◌, arith, inl, inr, subst, ap}
+use Rattle.std.proofs.Common.{◌≡◌, ◌≢◌, ℕ, ◌<◌, ◌≤◌, ◌⊎◌, List, length, Option, Some, None, Result, Ok, Err, refl, sym, arith, inl, inr, subst, ap}
 use Rattle.ror_io.specs.Files.{Files, file, Holds, Lacks}
 use Rattle.ror_io.specs.Counts.{Rose, DidNotRise}
-use Rattle.ror_io.specs.Fetching.{OnFailed, Fetches}
-use Rattle.ror_io.specs.declared.shelf.Fetched.{Fetched}
+use Rattle.ror_io.specs.Fetching.{OnFailed}
 use Rattle.ror_io.specs.declared.shelf.ShelfFault.{ShelfFault}
 use Rattle.ror_io.specs.declared.shelf.ShelfFault.TheVariants as shelf_faults
 use Rattle.ror_io.proofs.CountLemmas.{never_both}

@@ -1,6 +1,6 @@
 -- Lists of four words, and the words of a check.
-use Rattle.std.proofs.Common.{◌≡◌, ℕ, ◌+◌, ◌<◌, ◌≤◌, ◌≢◌, List, [], ◌∷◌, length, get_or, Option, None, refl, arith}
-use Rattle.ror.specs.Words.{CheckNames, check_of}
+use Rattle.std.proofs.Common.{◌≡◌, ℕ, ◌≢◌, List, [], ◌∷◌, length, get_or, None, refl, arith}
+use Rattle.ror.specs.Words.{check_of}
 
 -- a list of four items is made of those at its first four places
 pub four : {A : Type 0} (xs : List A) (a b c d : A) → length xs ≡ 4 → a ≡ get_or xs 0 a → b ≡ get_or xs 1 b → c ≡ get_or xs 2 c → d ≡ get_or xs 3 d → xs ≡ a ∷ b ∷ c ∷ d ∷ []

@@ -1,5 +1,4 @@
 -- The files that a command names, as values.
-use Rattle.std.specs.Prelude.{List, ℕ}
 use Rattle.ror.specs.declared.words.FileNames.{FileNames}
 use Rattle.ror.specs.Words.{CheckNames}
 

@@ -1,5 +1,5 @@
 -- The exit status of a run, and the line that it writes on standard error.
-use Rattle.std.specs.Prelude.{ℕ, List, [], ◌∷◌, ◌++◌, codes, decimal}
+use Rattle.std.specs.Prelude.{ℕ, List, [], ◌++◌, codes, decimal}
 use Rattle.ror_table.specs.declared.fault.What.{What}
 use Rattle.ror_table.specs.declared.fault.What.TheVariants as whats
 use Rattle.ror_table.specs.declared.fault.TableKind.{TableKind}

@@ -1,8 +1,6 @@
 -- The words of a command line.
-use Rattle.std.specs.Prelude.{ℕ, Bool, ◌&&◌, ◌||◌, not, List, [], ◌∷◌, length, map, Option, Some, None, codes, slice_index, nat_lt, ◌==◌, if◌then◌else◌}
-use Rattle.std.specs.String.{string_bytes}
+use Rattle.std.specs.Prelude.{ℕ, Bool, ◌&&◌, not, List, [], ◌∷◌, length, Option, Some, None, codes, slice_index, nat_lt, ◌==◌, if◌then◌else◌}
 use Rattle.std.specs.Str.{bytes_eq}
-use Rattle.std.specs.declared.string.String.{String}
 
 -- the files that a check reads, by name
 pub record CheckNames : Type 0 where

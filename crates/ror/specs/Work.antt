@@ -1,7 +1,6 @@
 -- What the bytes of the three files lead to.
 use Rattle.std.specs.Prelude.{◌≡◌, ℕ, ◌<◌, ◌≤◌, ◌⊎◌, Bool, List, [], length, Option, Some, None, is_none, Result, Ok, Err}
 use Rattle.std.specs.List.{find}
-use Rattle.std.specs.Option.{option_map}
 use Rattle.ror_text.specs.Reading.{◌>>=◌}
 use Rattle.ror_io.specs.Files.{Files, file, Lacks}
 use Rattle.ror_table.specs.Table.{DecisionTable}

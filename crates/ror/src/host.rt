@@ -16,7 +16,10 @@ pub struct FileShelf<R> {
 }
 
 impl<R: Files> FileShelf<R> {
-    pub fn new(files: R) -> FileShelf<R> {
+    /// The files that the runtime reaches; no fetch failed yet.
+    pub fn new(files: R) -> FileShelf<R>
+        ensures { result.faults ≡ 0 }
+    {
         FileShelf { files, faults: 0 }
     }
 
@@ -56,7 +59,10 @@ pub struct StreamSink<W> {
 }
 
 impl<W: Write> StreamSink<W> {
-    pub fn new(stream: W) -> StreamSink<W> {
+    /// The stream; no write failed yet.
+    pub fn new(stream: W) -> StreamSink<W>
+        ensures { result.faults ≡ 0 }
+    {
         StreamSink { stream, faults: 0 }
     }
 

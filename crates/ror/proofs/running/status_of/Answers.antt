@@ -2,7 +2,6 @@ use Rattle.std.proofs.Common.{◌≡◌, Some, map, sym}
 use Rattle.std.specs.String.{string_bytes}
 use Rattle.ror.specs.Words.{check_of}
 use Rattle.ror.specs.Named.{names_of}
-use Rattle.ror.specs.Running.{ShowsFiles}
 use Rattle.ror.proofs.Conclusions.{status_shows, status_decided, status_writes, out_rises}
 use Rattle.ror.proofs.running.status_of.Goals as goal
 

@@ -1,4 +1,4 @@
-use Rattle.std.proofs.Common.{◌≡◌, ◌++◌, refl, ap, codes, decimal, append_assoc}
+use Rattle.std.proofs.Common.{◌++◌, refl, codes, decimal, append_assoc}
 use Rattle.std.proofs.lemmas.Result.{err_from_is_err_and}
 use Rattle.ror.specs.Statuses.{reason_text}
 use Rattle.ror.proofs.PrintLemmas.{cut, follow, both, follow_cut}

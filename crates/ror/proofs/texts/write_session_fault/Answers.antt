@@ -1,4 +1,4 @@
-use Rattle.std.proofs.Common.{◌≡◌, ap}
+use Rattle.std.proofs.Common.{ap}
 use Rattle.ror.specs.Statuses.{session_line}
 use Rattle.ror.proofs.texts.write_session_fault.Goals as goal
 

@@ -1,5 +1,4 @@
 use Rattle.std.proofs.Common.{◌<◌, length}
-use Rattle.ror_io.specs.Fetching.{Fetches}
 use Rattle.ror.proofs.LongTexts.{plain_table-long}
 use Rattle.ror.proofs.work.table_in.Goals as goal
 
