@@ -7,7 +7,9 @@ use Rattle.ror.specs.declared.status.Status.{Status}
 use Rattle.ror.specs.declared.status.Status.TheVariants as statuses
 use Rattle.ror_table.specs.declared.fault.TableFault.{TableFault}
 use Rattle.ror_session.specs.declared.session.SessionFault.{SessionFault}
+use Rattle.ror_session.specs.declared.session.SessionFault.TheVariants as session_faults
 use Rattle.ror_bench.specs.declared.report.Reason.TheVariants.{TooLong}
+use Rattle.ror_bench.specs.Reports.{IsFreeOfMemory}
 use Rattle.ror.specs.Words.{CheckNames, check_of}
 use Rattle.ror.specs.Statuses.{status_text, accepted_text}
 use Rattle.ror.specs.Work.{RefusesTable, RefusesSession, ProvesReport, RefutesReport, IsNotProved, IsLongReport, IsTrue, Misses, LacksOne}
@@ -28,6 +30,17 @@ IsRejected (statuses.BadSession f) = ⊥
 IsRejected statuses.ReadFault = ⊥
 IsRejected statuses.WriteFault = ⊥
 IsRejected statuses.Memory = ⊥
+
+-- want of memory is a status of its own, and no other one holds it
+abbrev pub HoldsNoMemory : Status → Type 0
+HoldsNoMemory statuses.Done = Unit {0}
+HoldsNoMemory statuses.Usage = Unit {0}
+HoldsNoMemory (statuses.BadTable fault) = Unit {0}
+HoldsNoMemory (statuses.BadSession fault) = fault ≢ session_faults.Memory
+HoldsNoMemory (statuses.Rejected rejection) = IsFreeOfMemory rejection.reason
+HoldsNoMemory statuses.ReadFault = Unit {0}
+HoldsNoMemory statuses.WriteFault = Unit {0}
+HoldsNoMemory statuses.Memory = Unit {0}
 
 -- what the files are like where a run ends with the status; want of memory says nothing
 abbrev pub Shows : Files → CheckNames → Status → Type 0

@@ -15,7 +15,7 @@ use Rattle.ror_session.specs.declared.session.SessionFault.TheVariants as sessio
 use Rattle.ror_bench.specs.declared.report.ReportError.{ReportError}
 use Rattle.ror_bench.specs.declared.report.ReportError.TheVariants as report_errors
 use Rattle.ror_bench.specs.declared.report.Reason.TheVariants.{TooLong}
-use Rattle.ror_bench.specs.Reports.{IsProvedReport, IsTrueReport}
+use Rattle.ror_bench.specs.Reports.{IsProvedReport, IsTrueReport, IsFreeOfMemory}
 use Rattle.ror.specs.declared.status.Status.{Status}
 use Rattle.ror.specs.declared.status.Status.TheVariants as statuses
 use Rattle.ror.specs.declared.work.Stop.{Stop}
@@ -64,7 +64,7 @@ ShowsStop files names stops.Memory = Unit {0}
 abbrev pub IsPure : Stop → Type 0
 IsPure (stops.BadTable fault) = Unit {0}
 IsPure (stops.BadSession fault) = fault ≢ session_faults.Memory
-IsPure (stops.Rejected rejection) = Unit {0}
+IsPure (stops.Rejected rejection) = IsFreeOfMemory rejection.reason
 IsPure stops.ReadFault = Unit {0}
 IsPure stops.Memory = Unit {0}
 
@@ -72,7 +72,7 @@ IsPure stops.Memory = Unit {0}
 abbrev pub IsOfBytes : Stop → Type 0
 IsOfBytes (stops.BadTable fault) = Unit {0}
 IsOfBytes (stops.BadSession fault) = fault ≢ session_faults.Memory
-IsOfBytes (stops.Rejected rejection) = Unit {0}
+IsOfBytes (stops.Rejected rejection) = IsFreeOfMemory rejection.reason
 IsOfBytes stops.ReadFault = ⊥
 IsOfBytes stops.Memory = Unit {0}
 

@@ -3,10 +3,9 @@
 ghost use Rattle.std.specs.Prelude.{◌≡◌, ◌≢◌, ◌<◌, ◌≤◌, ◌⊎◌, ◌↔◌, map, None};
 ghost use Rattle.std.specs.String.{string_bytes};
 ghost use Rattle.ror_io.specs.Counts.{Rose};
-ghost use Rattle.ror_session.specs.declared.session.SessionFault.TheVariants as session_faults;
 ghost use Rattle.ror.specs.Words.{check_of};
 ghost use Rattle.ror.specs.Stops.{Concludes};
-ghost use Rattle.ror.specs.Running.{LacksNamed, LacksTable, ShowsFiles, DecidesStatus, Writes, Says};
+ghost use Rattle.ror.specs.Running.{LacksNamed, LacksTable, ShowsFiles, DecidesStatus, HoldsNoMemory, Writes, Says};
 
 use crate::status::Status;
 use crate::texts::{write_accepted, write_status};
@@ -44,7 +43,7 @@ pub fn run<F: Shelf, O: Sink, E: Sink>(
         → result ≢ Status.Done }
     ensures no_table { LacksTable (F.told shelf.old) (map string_bytes words.now)
         → result ≡ Status.ReadFault }
-    ensures pure { result ≢ Status.BadSession session_faults.Memory }
+    ensures pure { HoldsNoMemory result }
 
     // What the files are like under each status, and which status the files lead to.
     ensures shows { ShowsFiles (F.told shelf.old) (F.faults shelf.old) (F.faults shelf.new)
@@ -84,7 +83,7 @@ fn status_of<F: Shelf, O: Sink>(
         → result ≢ Status.Done }
     ensures no_table { LacksTable (F.told shelf.old) (map string_bytes words.now)
         → result ≡ Status.ReadFault }
-    ensures pure { result ≢ Status.BadSession session_faults.Memory }
+    ensures pure { HoldsNoMemory result }
     ensures shows { ShowsFiles (F.told shelf.old) (F.faults shelf.old) (F.faults shelf.new)
         (map string_bytes words.now) result }
     ensures decided { DecidesStatus (F.told shelf.old) (F.faults shelf.old) (F.faults shelf.new)

@@ -148,6 +148,7 @@ way_begins bench lines bytes place header =
             record {
               blocks = rest.blocks;
               text = text;
+              printable = rest.printable;
               answers_true = each (IsCheckedBlock bench) (λ line block. AreTrue t (standing_at bench line.desk) block) (λ line block h. h.1) lines rest.blocks rest.held;
             },
           );

@@ -8,7 +8,7 @@ ghost use Rattle.ror_text.specs.Lines.{line_of};
 ghost use Rattle.ror_table.specs.Table.{IsTable};
 ghost use Rattle.ror_report.specs.Text.{end_text};
 ghost use Rattle.ror_bench.specs.Bench.{Workbench};
-ghost use Rattle.ror_bench.specs.Reports.{IsProvedReport, IsTrueReport, NamesADesk};
+ghost use Rattle.ror_bench.specs.Reports.{IsProvedReport, IsTrueReport, NamesADesk, HoldsNoMemory};
 ghost use Rattle.ror_bench.specs.Steps.{IsNextBlock, BeginsProved};
 ghost use Rattle.ror_bench.specs.ReportSteps.{misread_error, refused_block_error, wrong_block_error};
 
@@ -71,6 +71,7 @@ pub fn check_report(
     ensures accepted { IfOk result (IsProvedReport bench.old lines.now bytes.now) }
     ensures true_answers { IfOk result (λ n. IsTrueReport bench.old lines.now bytes.now) }
     ensures not_proved { IfErr result (λ e. e ≢ ReportError.Memory → (n : ℕ) → IsProvedReport bench.old lines.now bytes.now n → ⊥) }
+    ensures pure { IfErr result HoldsNoMemory }
     ensures kept { bench.new ≡ bench.old }
 {
     // What is read back is what was written only over a table, and each table has alternatives.
@@ -105,6 +106,7 @@ fn check_blocks(
     ensures accepted { IfOk result (IsProvedReport bench.old lines.now bytes.now) }
     ensures true_answers { IfOk result (λ n. IsTrueReport bench.old lines.now bytes.now) }
     ensures not_proved { IfErr result (λ e. e ≢ ReportError.Memory → (n : ℕ) → IsProvedReport bench.old lines.now bytes.now n → ⊥) }
+    ensures pure { IfErr result HoldsNoMemory }
     ensures kept { bench.new ≡ bench.old }
 {
     let Some(start) = read_header(bytes) else {
@@ -145,6 +147,7 @@ fn check_next(
     ensures onward { IfOk result (λ x. from < x.1) }
     ensures within { IfOk result (λ x. x.1 ≤ length bytes.now) }
     ensures none { IfErr result (λ e. e ≢ ReportError.Memory → BeginsProved bench.old line.now (drop from bytes.now) → ⊥) }
+    ensures pure { IfErr result HoldsNoMemory }
     ensures kept { bench.new ≡ bench.old }
 {
     if begins_end(bytes, from) {
@@ -172,6 +175,7 @@ fn check_end(
     requires block { 0 < block }
     ensures last { OnOk result (drop from bytes.now ≡ end_text (block - 1)) }
     ensures not_last { IfErr result (λ e. e ≢ ReportError.Memory → drop from bytes.now ≡ end_text (block - 1) → ⊥) }
+    ensures pure { IfErr result HoldsNoMemory }
 {
     if !begins_end(bytes, from) {
         return Err(late_block(alloc, table, bytes, from, block));
@@ -187,6 +191,7 @@ fn check_end(
 fn early_end(alloc: Global, bytes: &[u8], from: usize, block: u32) -> ReportError
     requires within { from ≤ length bytes.now }
     requires length { length bytes.now ≤ 268435456 }
+    ensures { HoldsNoMemory result }
 {
     match read_end(alloc, bytes, from) {
         Ok(_) => wrong_block(block),
@@ -198,6 +203,7 @@ fn early_end(alloc: Global, bytes: &[u8], from: usize, block: u32) -> ReportErro
 fn late_block(alloc: Global, table: &Table, bytes: &[u8], from: usize, block: u32) -> ReportError
     requires within { from ≤ length bytes.now }
     requires length { length bytes.now ≤ 268435456 }
+    ensures { HoldsNoMemory result }
 {
     match read_block(alloc, table, bytes, from) {
         Ok(_) => wrong_block(block),
