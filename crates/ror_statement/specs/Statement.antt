@@ -47,7 +47,7 @@ IsValid alternatives s = NamesWithin alternatives (comparison_of s).difference
 abbrev pub IsValidQuestion : ℕ → Question → Type 0
 IsValidQuestion alternatives q = NamesWithin alternatives (asked_of q).comparison.difference
 
--- how many rows the statements take, with the row that bounds the total from below
+-- how many rows the system of the statements has: one says that the total is positive, and each preference takes one
 abbrev pub row_count : List Statement → ℕ
 row_count list = 1 + length list
 

@@ -4,4 +4,4 @@
 
 mod statement;
 
-pub use statement::{Conclusion, Question, Statement};
+pub use statement::{Conclusion, Numbered, Question, Statement, row_count};
