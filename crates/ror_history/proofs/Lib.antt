@@ -1,0 +1,4 @@
+pub mod AdditionLemmas
+pub mod HistoryLemmas
+pub mod RisingLemmas
+pub mod TurnLemmas
