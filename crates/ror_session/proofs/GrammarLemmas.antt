@@ -13,7 +13,8 @@ use Rattle.ror_session.specs.Session.{command_of, line_of_words, add_line}
 use Rattle.ror_session.specs.Grammar.{Spells, IsClean, IsLine, IsWellFormed, AreLines, IsFirstBadLine}
 use Rattle.ror_session.specs.declared.session.Line.{Line}
 use Rattle.ror_session.specs.declared.session.Command.{Command}
-use Rattle.ror_session.specs.declared.session.Command.TheVariants.{Ask}
+use Rattle.ror_session.specs.declared.session.Command.TheVariants.{State, Ask}
+use Rattle.ror_session.specs.declared.session.Named.TheVariants.{Prefer}
 use Rattle.ror_session.specs.declared.session.Asked.TheVariants.{Necessary}
 use Rattle.ror_session.specs.declared.session.SessionFault.{SessionFault}
 use Rattle.ror_session.specs.declared.session.SessionFault.TheVariants.{BadLine}
@@ -25,7 +26,13 @@ unfolding command_of
 command_of-sound [] command e = absurd cc
 command_of-sound (a ∷ []) command e = absurd cc
 command_of-sound (a ∷ b ∷ []) command e = absurd cc
-command_of-sound (a ∷ b ∷ c ∷ []) command e = absurd cc
+command_of-sound (a ∷ b ∷ c ∷ []) command e = elim (cases_Bool (bytes_eq a (codes "prefer"))) [
+  | inl verb ↦
+      let is_verb : a ≡ codes "prefer" = (bytes_eq-Decides a (codes "prefer")).0 verb in
+      let same : State (Prefer b c) ≡ command = let g = rw verb at e in cc in
+      subst (λ (x : Command). Spells (a ∷ b ∷ c ∷ []) x) same cc
+  | inr other ↦ let g = rw other at e in absurd cc
+]
 command_of-sound (a ∷ b ∷ c ∷ d ∷ []) command e =
     elim (cases_Bool (bytes_eq a (codes "ask"))) [
       | inl verb ↦ elim (cases_Bool (bytes_eq b (codes "necessary"))) [
@@ -42,6 +49,7 @@ command_of-sound (a ∷ b ∷ c ∷ d ∷ f ∷ more) command e = absurd cc
 
 command_of-again : (ws : List (List ℕ)) (command : Command) → Spells ws command → command_of ws ≡ Some command
 unfolding command_of
+command_of-again ws (State (Prefer first second)) h = ap command_of h
 command_of-again ws (Ask (Necessary first second)) h = ap command_of h
 
 -- ---- clean words

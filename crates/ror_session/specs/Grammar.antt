@@ -6,7 +6,8 @@ use Rattle.ror_session.specs.Session.{desks_of}
 use Rattle.ror_session.specs.declared.session.Session.{Session}
 use Rattle.ror_session.specs.declared.session.Line.{Line}
 use Rattle.ror_session.specs.declared.session.Command.{Command}
-use Rattle.ror_session.specs.declared.session.Command.TheVariants.{Ask}
+use Rattle.ror_session.specs.declared.session.Command.TheVariants.{State, Ask}
+use Rattle.ror_session.specs.declared.session.Named.TheVariants.{Prefer}
 use Rattle.ror_session.specs.declared.session.Asked.TheVariants.{Necessary}
 
 -- how long a session's text may be: lines that are passed over count too
@@ -16,6 +17,7 @@ pub record IsWithinLimits (bytes : List ℕ) : Type 0 where
 
 -- the words spell the command
 abbrev pub Spells : List (List ℕ) → Command → Type 0
+Spells ws (State (Prefer first second)) = ws ≡ codes "prefer" ∷ first ∷ second ∷ []
 Spells ws (Ask (Necessary first second)) = ws ≡ codes "ask" ∷ codes "necessary" ∷ first ∷ second ∷ []
 
 -- no byte of a word is below 0x21 or is 0x7F

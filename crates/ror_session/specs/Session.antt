@@ -6,7 +6,8 @@ use Rattle.ror_text.specs.Reading.{◌>>=◌, refuse, need, read_all}
 use Rattle.ror_session.specs.declared.session.Session.{Session}
 use Rattle.ror_session.specs.declared.session.Line.{Line}
 use Rattle.ror_session.specs.declared.session.Command.{Command}
-use Rattle.ror_session.specs.declared.session.Command.TheVariants.{Ask}
+use Rattle.ror_session.specs.declared.session.Command.TheVariants.{State, Ask}
+use Rattle.ror_session.specs.declared.session.Named.TheVariants.{Prefer}
 use Rattle.ror_session.specs.declared.session.Asked.TheVariants.{Necessary}
 use Rattle.ror_session.specs.declared.session.SessionFault.{SessionFault}
 use Rattle.ror_session.specs.declared.session.SessionFault.TheVariants as faults
@@ -21,6 +22,7 @@ session_fault faults.Memory = None
 
 -- the command that the words of a line spell, if they spell one
 unfoldable pub command_of : List (List ℕ) → Option Command
+command_of (verb ∷ first ∷ second ∷ []) = if bytes_eq verb (codes "prefer") then Some (State (Prefer first second)) else None
 command_of (verb ∷ kind ∷ first ∷ second ∷ []) = if bytes_eq verb (codes "ask") && bytes_eq kind (codes "necessary") then Some (Ask (Necessary first second)) else None
 command_of _ = None
 

@@ -1,4 +1,4 @@
-//! Sessions: the lines in which a judge and an analyst ask, and the reader of their text.
+//! Sessions: the lines in which a judge states and an analyst asks, and the reader of their text.
 #![tactic(auto)]
 
 pub mod laws;
@@ -6,7 +6,7 @@ mod reading;
 mod session;
 
 pub use reading::read_session;
-pub use session::{Asked, Command, Line, Session, SessionFault};
+pub use session::{Asked, Command, Line, Named, Session, SessionFault};
 
 #[cfg(test)]
 mod tests;

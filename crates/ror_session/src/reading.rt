@@ -8,7 +8,7 @@ ghost use Rattle.ror_text.specs.Lines.{line_count, numbered_lines};
 ghost use Rattle.ror_text.specs.Reading.{Gives, read_all};
 ghost use Rattle.ror_session.specs.Session.{session_of, session_fault, line_of_words, command_of, add_line, desks_of};
 
-use crate::session::{Asked, Command, Line, Session, SessionFault};
+use crate::session::{Asked, Command, Line, Named, Session, SessionFault};
 use ror_text::lines::{first_line, has_control, is_comment, line_count, split_words};
 use ror_text::reading::{need, refuse_if};
 use ror_text::{Items, Text};
@@ -45,6 +45,10 @@ fn read_command(alloc: Global, words: &[&[u8]]) -> Result<Option<Command>, Alloc
     ensures { IfOk result (λ command. command ≡ command_of (map (λ word. word.now) words.now)) }
 {
     match words {
+        [verb, first, second] if *verb == b"prefer".as_slice() => {
+            let named = Named::Prefer(text_of(alloc, first)?, text_of(alloc, second)?);
+            Ok(Some(Command::State(named)))
+        }
         [verb, kind, first, second]
             if *verb == b"ask".as_slice() && *kind == b"necessary".as_slice() => {
             let asked = Asked::Necessary(text_of(alloc, first)?, text_of(alloc, second)?);

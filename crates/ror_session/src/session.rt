@@ -7,6 +7,13 @@ use ror_text::{Items, Text};
 use std::alloc::{AllocError, AllocFailed};
 use thiserror::Error;
 
+/// What a line states, by the names that it gives.
+#[derive(Debug, Drop)]
+pub enum Named {
+    /// The first alternative is worth more than the second.
+    Prefer(Text, Text),
+}
+
 /// What a line asks, by the names that it gives.
 #[derive(Debug, Drop)]
 pub enum Asked {
@@ -17,6 +24,9 @@ pub enum Asked {
 /// What a line says.
 #[derive(Debug, Drop)]
 pub enum Command {
+    /// The judge states something.
+    State(Named),
+    /// The analyst asks something.
     Ask(Asked),
 }
 
