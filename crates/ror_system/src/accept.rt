@@ -6,6 +6,7 @@ ghost use Rattle.ror_system.specs.Acceptance.{rows_of, IsAcceptedSolution, AreAc
 ghost use Rattle.ror_system.specs.Signs.{IsFirstNegative};
 
 use crate::reject::Reject;
+use crate::steps::{first_negative, positive_total};
 use crate::sum::{Sum, row_sum};
 use crate::system::System;
 use ror_text::Items;
@@ -63,7 +64,7 @@ fn check_steps(s: &System, steps: &[i128]) -> Result<(), Reject>
     if let Some(place) = first_negative(steps) {
         return Err(Reject::Negative(place));
     }
-    if !is_total_accepted(steps) {
+    if positive_total(steps).is_none() {
         return Err(Reject::Total);
     }
     for place in 0..s.row_count() {
@@ -92,19 +93,7 @@ fn check_weights(s: &System, weak: &[i128], strict: &[i128]) -> Result<(), Rejec
     Ok(())
 }
 
-/// The place of the first number below 0, if there is one.
-fn first_negative(numbers: &[i128]) -> Option<usize>
-    ensures { MatchOption result (NoneNegative numbers.now) (IsFirstNegative numbers.now) }
-{
-    for (place, number) in numbers.iter().enumerate() {
-        if *number < 0 {
-            return Some(place);
-        }
-    }
-    None
-}
-
-/// The same in two lists, one after the other.
+/// The place of the first number below 0 in two lists, one after the other, if there is one.
 fn first_negative_of_both(first: &[i128], second: &[i128]) -> Option<usize>
     requires { length first.now + length second.now < 2 ^ 64 }
     ensures { MatchOption result (NoneNegative (first.now ++ second.now)) (IsFirstNegative (first.now ++ second.now)) }
@@ -114,21 +103,6 @@ fn first_negative_of_both(first: &[i128], second: &[i128]) -> Option<usize>
     }
     let place = first_negative(second)?;
     Some(first.len() + place)
-}
-
-/// Whether the numbers sum to 1 at least and 2^127 - 1 at most.
-fn is_total_accepted(steps: &[i128]) -> bool
-    requires { NoneNegative steps.now }
-    ensures { IsTrue result ↔ ((pos 0 <ℤ total steps.now) × IsNarrow (total steps.now)) }
-{
-    let mut sum: i128 = 0;
-    for step in steps {
-        match sum.checked_add(*step) {
-            Some(more) => sum = more,
-            None => return false,
-        }
-    }
-    sum > 0
 }
 
 /// Whether some number is above 0.

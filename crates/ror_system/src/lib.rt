@@ -5,6 +5,7 @@ mod accept;
 pub mod laws;
 mod reject;
 mod row;
+pub mod steps;
 mod sum;
 mod system;
 
