@@ -1,2 +1,3 @@
 pub mod Conclusions
 pub mod Values
+pub mod Walks

@@ -1,3 +1,4 @@
 pub mod Value
+pub mod ValueFaults
 pub mod Meaning
 pub mod Laws

@@ -3,5 +3,10 @@
 
 mod input;
 pub mod laws;
+mod value_function;
 
 pub use input::Input;
+pub use value_function::{ValueFault, ValueFunction};
+
+#[cfg(test)]
+mod tests;

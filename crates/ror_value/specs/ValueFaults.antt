@@ -1,0 +1,45 @@
+-- Which value functions are taken, each test of their steps that may fail, and the order of the tests.
+use Rattle.std.specs.Prelude.{◌≢◌, ℕ, ◌<◌, List, length, ℤ, pos, ◌<ℤ◌}
+use Rattle.ror_integers.specs.Vectors.{total, entry}
+use Rattle.ror_text.specs.FirstFault.{IsFirst, IsEarlier}
+use Rattle.ror_table.specs.Table.{DecisionTable, columns}
+use Rattle.ror_system.specs.System.{IsNarrow}
+use Rattle.ror_value.specs.declared.value_function.ValueFault.{ValueFault}
+use Rattle.ror_value.specs.declared.value_function.ValueFault.TheVariants as faults
+use Rattle.ror_value.specs.Value.{IsValueFunction}
+
+-- a value function of the table whose total is at most 2^127 - 1
+pub record IsAcceptedFunction (t : DecisionTable) (w : List ℤ) : Type 0 where
+  pub function : IsValueFunction t w
+  pub total_within : IsNarrow (total w)
+
+-- what each test of the steps finds at fault, each test taken alone
+abbrev pub FailsValue : DecisionTable → List ℤ → ValueFault → Type 0
+FailsValue t w faults.Length = length w ≢ columns t
+FailsValue t w (faults.Negative k) = (k < length w) × (entry w k <ℤ pos 0)
+FailsValue t w faults.Total = ((pos 0 <ℤ total w) × IsNarrow (total w)) → ⊥
+FailsValue t w faults.Memory = ⊥
+
+-- the tests in their order
+abbrev pub fault_stage : ValueFault → ℕ
+fault_stage faults.Length = 0
+fault_stage (faults.Negative k) = 1
+fault_stage faults.Total = 2
+fault_stage faults.Memory = 3
+
+-- the earlier of two numbers below 0 comes first
+abbrev pub fault_place : ValueFault → ℕ
+fault_place faults.Length = 0
+fault_place (faults.Negative k) = k
+fault_place faults.Total = 0
+fault_place faults.Memory = 0
+
+abbrev pub IsEarlierFault : ValueFault → ValueFault → Type 0
+IsEarlierFault = IsEarlier fault_stage fault_place
+
+-- the fault is the first that the steps have; want of memory says nothing
+abbrev pub IsRefusedFor : DecisionTable → List ℤ → ValueFault → Type 0
+IsRefusedFor t w faults.Length = IsFirst (FailsValue t w) IsEarlierFault faults.Length
+IsRefusedFor t w (faults.Negative k) = IsFirst (FailsValue t w) IsEarlierFault (faults.Negative k)
+IsRefusedFor t w faults.Total = IsFirst (FailsValue t w) IsEarlierFault faults.Total
+IsRefusedFor t w faults.Memory = Unit {0}
