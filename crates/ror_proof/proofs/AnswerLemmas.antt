@@ -35,7 +35,7 @@ use Rattle.ror_proof.specs.Laws.{IsAnswerText}
 use Rattle.ror_proof.specs.Reading.{solution_at, multipliers_at, certificate_at, alternative_named, alternative_at, necessary_at, question_at, verdict_at, verdict_of, system_at, answer_line, base_line, part_line, begins_part, part_lines, answer_at}
 use Rattle.ror_proof.proofs.Loops.{part_step, no_parts}
 use Rattle.ror_proof.proofs.TableIds.{alternative_named-id_of, alternative_named-sound, id_of_is_id}
-use Rattle.ror_proof.proofs.WordLemmas.{done, ok_is, length-line_text, line_again, line_sound, after_word_again, after_word_sound, no_more_sound, number_again, number_sound, numbers_again, numbers_sound, before_bar_again, before_bar_sound}
+use Rattle.ror_proof.proofs.WordLemmas.{done, ok_is, Spans, spans_then, line_spans, length-line_text, line_again, after_word_again, after_word_sound, no_more_sound, number_again, number_sound, numbers_again, numbers_sound, before_bar_again, before_bar_sound}
 
 -- ---- the words of a text are words
 
@@ -137,23 +137,40 @@ question_sound t place (form ∷ words) x e =
 -- which verdict it is
 abbrev announced : Verdict → ProvedVerdict
 announced (verdicts.Yes proof) = proved.Yes
+announced (verdicts.No proof) = proved.No
+announced (verdicts.Contradiction proof) = proved.Contradiction
 
 announced_is : (v : Verdict) → verdict_of (announced v) (proof_of v) ≡ v
 announced_is (verdicts.Yes proof) = refl
+announced_is (verdicts.No proof) = refl
+announced_is (verdicts.Contradiction proof) = refl
 
 verdict_again : (place : ℕ) (v : Verdict) (more : List (List ℕ)) → verdict_at place (verdict_word v ∷ more) ≡ Ok (announced v, more)
 unfolding verdict_at
 verdict_again place (verdicts.Yes proof) more = refl
+verdict_again place (verdicts.No proof) more = refl
+verdict_again place (verdicts.Contradiction proof) more = refl
+
+-- a verdict's name stands before what is left
+named_verdict : (name : List ℕ) (words : List (List ℕ)) (k : ProvedVerdict) (x : ProvedVerdict × List (List ℕ)) (proof : Proof) → name ≡ verdict_word (verdict_of k proof) → done (k, words) ≡ Ok x → name ∷ words ≡ verdict_word (verdict_of x.0 proof) ∷ x.1
+named_verdict name words k x proof is e =
+    subst (λ (y : ProvedVerdict × List (List ℕ)). name ∷ words ≡ verdict_word (verdict_of y.0 proof) ∷ y.1) (ok_is (k, words) x e) (ap (λ (w : List ℕ). w ∷ words) is)
 
 verdict_sound : (place : ℕ) (words : List (List ℕ)) (x : ProvedVerdict × List (List ℕ)) (proof : Proof) → verdict_at place words ≡ Ok x → words ≡ verdict_word (verdict_of x.0 proof) ∷ x.1
 unfolding verdict_at
 verdict_sound place [] x proof e = absurd cc
 verdict_sound place (name ∷ words) x proof e =
     elim (cases_Bool (bytes_eq name (codes "yes"))) [
-      | inl yes_word ↦
-          let is : name ≡ codes "yes" = (bytes_eq-Decides name (codes "yes")).0 yes_word in
-          subst (λ (y : ProvedVerdict × List (List ℕ)). name ∷ words ≡ verdict_word (verdict_of y.0 proof) ∷ y.1) (ok_is (proved.Yes, words) x (sym (cond-true _ _ _ yes_word) ∙ e)) (ap (λ (w : List ℕ). w ∷ words) is)
-      | inr other ↦ absurd (let none = sym (cond-false _ _ _ other) ∙ e in cc)
+      | inl yes_word ↦ named_verdict name words proved.Yes x proof ((bytes_eq-Decides name (codes "yes")).0 yes_word) (sym (cond-true _ _ _ yes_word) ∙ e)
+      | inr not_yes ↦ let f = sym (cond-false _ _ _ not_yes) ∙ e in
+          elim (cases_Bool (bytes_eq name (codes "no"))) [
+            | inl no_word ↦ named_verdict name words proved.No x proof ((bytes_eq-Decides name (codes "no")).0 no_word) (sym (cond-true _ _ _ no_word) ∙ f)
+            | inr not_no ↦ let g = sym (cond-false _ _ _ not_no) ∙ f in
+                elim (cases_Bool (bytes_eq name (codes "contradiction"))) [
+                  | inl contradiction_word ↦ named_verdict name words proved.Contradiction x proof ((bytes_eq-Decides name (codes "contradiction")).0 contradiction_word) (sym (cond-true _ _ _ contradiction_word) ∙ g)
+                  | inr other ↦ absurd (let none = sym (cond-false _ _ _ other) ∙ g in cc)
+                ]
+          ]
     ]
 
 -- ---- the line of the question and the verdict
@@ -164,6 +181,8 @@ head_words t q v = codes "answer" ∷ (question_words t q ++ verdict_word v ∷ 
 
 head_are_words : (t : DecisionTable) (q : Question) (v : Verdict) → IsTable t → IsValidQuestion (length t.alternatives) q → are_words (head_words t q v) ≡ true
 head_are_words t (Necessary a b) (verdicts.Yes proof) table valid = rw (id_is_word t a table valid.0, id_is_word t b table valid.1) refl
+head_are_words t (Necessary a b) (verdicts.No proof) table valid = rw (id_is_word t a table valid.0, id_is_word t b table valid.1) refl
+head_are_words t (Necessary a b) (verdicts.Contradiction proof) table valid = rw (id_is_word t a table valid.0, id_is_word t b table valid.1) refl
 
 head_again : (t : DecisionTable) (place : ℕ) (q : Question) (v : Verdict) (rest : List ℕ) → IsTable t → IsValidQuestion (length t.alternatives) q
     → answer_line t (record { place = place; rest = line_text (head_words t q v) ++ rest }) ≡ Ok ((q, announced v), record { place = place + length (line_text (head_words t q v)); rest = rest })
@@ -233,26 +252,6 @@ answer_reads_back t x place rest table printable none =
 
 -- ---- what is read was so written
 
--- the text stands between the two cursors
-record Spans (c : Cursor) (text : List ℕ) (after : Cursor) : Type 0 where
-  rest : c.rest ≡ text ++ after.rest
-  place : after.place ≡ c.place + length text
-
-spans_then : (a b c : Cursor) (x y : List ℕ) → Spans a x b → Spans b y c → Spans a (x ++ y) c
-spans_then a b c x y p q = record {
-  rest = p.rest ∙ ap (λ (r : List ℕ). x ++ r) q.rest ∙ sym (append_assoc x y c.rest);
-  place = omega (arith, p.place, q.place, length-append x y);
-}
-
--- a line that a line feed ends, and whose words are known
-line_spans : (c after : Cursor) (words : List (List ℕ)) → line_words c ≡ words → need (BadLine c.place) (next_line c) ≡ Ok after → Spans c (line_text words) after
-line_spans c after words is e =
-    let sound = line_sound c after (need_ok (BadLine c.place) (next_line c) after e) in
-    record {
-      rest = sound.0 ∙ ap (λ (ws : List (List ℕ)). line_text ws ++ after.rest) is;
-      place = sound.1 ∙ ap (λ (ws : List (List ℕ)). c.place + length (line_text ws)) is;
-    }
-
 base_sound : (c : Cursor) (x : Certificate × Cursor) → base_line c ≡ Ok x → Spans c (base_text x.0) x.1 × IsNarrowCertificate x.0
 unfolding base_line
 base_sound c x e =
@@ -261,7 +260,7 @@ base_sound c x e =
     let d = bind_ok (need (BadLine c.place) (next_line c)) (λ next. Ok (b.0, next)) x b.2 in
     let certificate = certificate_sound c.place a.0 b.0 b.1 in
     let words : line_words c ≡ codes "base" ∷ certificate_words b.0 = after_word_sound c.place (codes "base") (line_words c) a.0 a.1 ∙ ap (λ (ws : List (List ℕ)). codes "base" ∷ ws) certificate.0 in
-    subst (λ (y : Certificate × Cursor). Spans c (base_text y.0) y.1 × IsNarrowCertificate y.0) (ok_is (b.0, d.0) x d.2) (line_spans c d.0 (codes "base" ∷ certificate_words b.0) words d.1, certificate.1)
+    subst (λ (y : Certificate × Cursor). Spans c (base_text y.0) y.1 × IsNarrowCertificate y.0) (ok_is (b.0, d.0) x d.2) (line_spans c d.0 (codes "base" ∷ certificate_words b.0) words (need_ok (BadLine c.place) (next_line c) d.0 d.1), certificate.1)
 
 system_sound : (place : ℕ) (words : List (List ℕ)) (x : ℕ × List (List ℕ)) → system_at place words ≡ Ok x → (words ≡ decimal x.0 ∷ x.1) × (x.0 < 2 ^ 32)
 unfolding system_at
@@ -283,7 +282,7 @@ part_sound c x e =
     let made : Part = record { at = s.0.0; body = b.0 } in
     let words : line_words c ≡ codes "part" ∷ decimal made.at ∷ certificate_words made.body =
     after_word_sound c.place (codes "part") (line_words c) a.0 a.1 ∙ ap (λ (ws : List (List ℕ)). codes "part" ∷ ws) (system.0 ∙ ap (λ (ws : List (List ℕ)). decimal s.0.0 ∷ ws) certificate.0) in
-    subst (λ (y : Part × Cursor). Spans c (part_text y.0) y.1 × IsPrintablePart y.0) (ok_is (made, d.0) x d.2) (line_spans c d.0 (codes "part" ∷ decimal made.at ∷ certificate_words made.body) words d.1, record { number = system.1; narrow = certificate.1 })
+    subst (λ (y : Part × Cursor). Spans c (part_text y.0) y.1 × IsPrintablePart y.0) (ok_is (made, d.0) x d.2) (line_spans c d.0 (codes "part" ∷ decimal made.at ∷ certificate_words made.body) words (need_ok (BadLine c.place) (next_line c) d.0 d.1), record { number = system.1; narrow = certificate.1 })
 
 -- what was read as parts
 record AreReadParts (c : Cursor) (ps : List Part) (after : Cursor) : Type 0 where
@@ -332,19 +331,23 @@ head_sound t c x proof e =
     let last = no_more_sound c.place v.0.1 m.0 m.1 in
     let words : line_words c ≡ head_words t q.0.0 (verdict_of v.0.0 proof) =
     after_word_sound c.place (codes "answer") (line_words c) a.0 a.1 ∙ ap (λ (ws : List (List ℕ)). codes "answer" ∷ ws) (question.0 ∙ ap (λ (ws : List (List ℕ)). question_words t q.0.0 ++ ws) (verdict ∙ ap (λ (ws : List (List ℕ)). verdict_word (verdict_of v.0.0 proof) ∷ ws) last)) in
-    subst (λ (y : (Question × ProvedVerdict) × Cursor). Spans c (line_text (head_words t y.0.0 (verdict_of y.0.1 proof))) y.1 × IsValidQuestion (length t.alternatives) y.0.0) (ok_is ((q.0.0, v.0.0), d.0) x d.2) (line_spans c d.0 (head_words t q.0.0 (verdict_of v.0.0 proof)) words d.1, question.1)
+    subst (λ (y : (Question × ProvedVerdict) × Cursor). Spans c (line_text (head_words t y.0.0 (verdict_of y.0.1 proof))) y.1 × IsValidQuestion (length t.alternatives) y.0.0) (ok_is ((q.0.0, v.0.0), d.0) x d.2) (line_spans c d.0 (head_words t q.0.0 (verdict_of v.0.0 proof)) words (need_ok (BadLine c.place) (next_line c) d.0 d.1), question.1)
 
 proof_of-verdict_of : (k : ProvedVerdict) (proof : Proof) → proof_of (verdict_of k proof) ≡ proof
 proof_of-verdict_of proved.Yes proof = refl
+proof_of-verdict_of proved.No proof = refl
+proof_of-verdict_of proved.Contradiction proof = refl
 
 -- the text of what was read, part by part
 made_text : (t : DecisionTable) (q : Question) (k : ProvedVerdict) (proof : Proof) → answer_text t (record { question = q; verdict = verdict_of k proof }) ≡ line_text (head_words t q (verdict_of k proof)) ++ (base_text proof.base ++ flat_map part_text proof.parts)
 unfolding answer_text
-made_text t q k proof = rw proof_of-verdict_of refl
+made_text t q k proof = rw (proof_of-verdict_of k proof) refl
 
 printable_made : (t : DecisionTable) (q : Question) (k : ProvedVerdict) (proof : Proof) → IsValidQuestion (length t.alternatives) q → IsNarrowCertificate proof.base → AllByRecursion IsPrintablePart proof.parts
     → IsPrintable t (record { question = q; verdict = verdict_of k proof })
 printable_made t q proved.Yes proof named base parts = record { named = named; base = base; parts = parts }
+printable_made t q proved.No proof named base parts = record { named = named; base = base; parts = parts }
+printable_made t q proved.Contradiction proof named base parts = record { named = named; base = base; parts = parts }
 
 -- what is read is the text of the answer, up to where no further part begins
 pub answer_is_text : (t : DecisionTable) (c : Cursor) (x : Answer) (after : Cursor) → answer_at t c ≡ Ok (x, after) → IsAnswerText t c x after

@@ -4,3 +4,4 @@ pub mod TableIds
 pub mod WordLemmas
 pub mod AnswerLemmas
 pub mod Utf8Lemmas
+pub mod Places

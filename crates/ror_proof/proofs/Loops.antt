@@ -25,7 +25,7 @@ after_more : {X F : Type 0} (front : List X) (x : X) (reading : Result (List X) 
 after_more front x (Ok more) = ap (λ xs. Ok xs) (simp append_assoc)
 after_more front x (Err f) = refl
 
-with_more : {X Y F : Type 0} (front : List X) (x : X) (reading : Result (List X × Y) F) → with_front front (reading >>= λ y. Ok (x ∷ y.0, y.1)) ≡ with_front (front ++ x ∷ []) reading
+pub with_more : {X Y F : Type 0} (front : List X) (x : X) (reading : Result (List X × Y) F) → with_front front (reading >>= λ y. Ok (x ∷ y.0, y.1)) ≡ with_front (front ++ x ∷ []) reading
 with_more front x (Ok y) = ap (λ xs. Ok (xs, y.1)) (simp append_assoc)
 with_more front x (Err f) = refl
 

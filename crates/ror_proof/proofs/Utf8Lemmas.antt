@@ -29,7 +29,7 @@ are_below : (bs : List ℕ) → list_all (λ b. ltb b 128) bs ≡ true → AllBy
 are_below [] h = tt
 are_below (b ∷ bs) h = let both = and_parts (ltb b 128) (list_all (λ b. ltb b 128) bs) h in (ltb-true _ _ both.0, are_below bs both.1)
 
-ascii_is_utf8 : (bs : List ℕ) → list_all (λ b. ltb b 128) bs ≡ true → IsUtf8 bs
+pub ascii_is_utf8 : (bs : List ℕ) → list_all (λ b. ltb b 128) bs ≡ true → IsUtf8 bs
 ascii_is_utf8 bs h = IsUtf8-from_ascii bs (IsAscii-from_all bs (All-from_recursion (λ b. b < 128) bs (are_below bs h)))
 
 abbrev AreTexts : List (List ℕ) → Type 0
@@ -48,7 +48,7 @@ pub line_text_is_utf8 : (ws : List (List ℕ)) → AreTexts ws → IsUtf8 (line_
 unfolding line_text
 line_text_is_utf8 ws h = IsUtf8-append (join_words ws) (10 ∷ []) (joined ws h) (ascii_is_utf8 (10 ∷ []) refl)
 
-decimal_is_utf8 : (n : ℕ) → n < 10 ^ 64 → IsUtf8 (decimal n)
+pub decimal_is_utf8 : (n : ℕ) → n < 10 ^ 64 → IsUtf8 (decimal n)
 decimal_is_utf8 n h = IsUtf8-from_ascii (decimal n) (IsAscii-decimal_wide n h)
 
 signed_is_utf8 : (z : ℤ) → IsNarrow z → IsUtf8 (signed_decimal z)
@@ -72,6 +72,8 @@ question_are_texts t (Necessary a b) table valid = (ascii_is_utf8 (codes "necess
 
 verdict_is_text : (v : Verdict) → IsUtf8 (verdict_word v)
 verdict_is_text (verdicts.Yes proof) = ascii_is_utf8 (codes "yes") refl
+verdict_is_text (verdicts.No proof) = ascii_is_utf8 (codes "no") refl
+verdict_is_text (verdicts.Contradiction proof) = ascii_is_utf8 (codes "contradiction") refl
 
 part_is_utf8 : (p : Part) → IsPrintablePart p → IsUtf8 (part_text p)
 part_is_utf8 p printable = line_text_is_utf8 (codes "part" ∷ decimal p.at ∷ certificate_words p.body) (ascii_is_utf8 (codes "part") refl, (decimal_is_utf8 p.at (omega (arith, printable.number)), certificate_are_texts p.body printable.narrow))

@@ -71,6 +71,26 @@ line_sound c after e =
     let to : c.place + length line + 1 ≡ c.place + length (line_text (line_words c)) = omega (arith, length-line_text (line_words c), ap length joined) in
     (bytes, cut.2 ∙ to)
 
+-- the text stands between the two cursors
+pub record Spans (c : Cursor) (text : List ℕ) (after : Cursor) : Type 0 where
+  pub rest : c.rest ≡ text ++ after.rest
+  pub place : after.place ≡ c.place + length text
+
+pub spans_then : (a b c : Cursor) (x y : List ℕ) → Spans a x b → Spans b y c → Spans a (x ++ y) c
+spans_then a b c x y p q = record {
+  rest = p.rest ∙ ap (λ (r : List ℕ). x ++ r) q.rest ∙ sym (append_assoc x y c.rest);
+  place = omega (arith, p.place, q.place, length-append x y);
+}
+
+-- a line that a line feed ends, and whose words are known
+pub line_spans : (c after : Cursor) (words : List (List ℕ)) → line_words c ≡ words → next_line c ≡ Some after → Spans c (line_text words) after
+line_spans c after words is e =
+    let sound = line_sound c after e in
+    record {
+      rest = sound.0 ∙ ap (λ (ws : List (List ℕ)). line_text ws ++ after.rest) is;
+      place = sound.1 ∙ ap (λ (ws : List (List ℕ)). c.place + length (line_text ws)) is;
+    }
+
 -- ---- single words
 
 pub after_word_again : (place : ℕ) (word : List ℕ) (more : List (List ℕ)) → after_word place word (word ∷ more) ≡ Ok more

@@ -1,5 +1,5 @@
 -- Reading an answer: the answer and where it ends, or the first fault.
-use Rattle.std.specs.Prelude.{ℕ, Bool, zero, suc, List, [], ◌∷◌, length, Option, Some, None, Result, Ok, Err, codes, nat_eq, position, if◌then◌else◌}
+use Rattle.std.specs.Prelude.{ℕ, ◌≤◌, Bool, zero, suc, List, [], ◌∷◌, length, Option, Some, None, Result, Ok, Err, codes, nat_eq, position, if◌then◌else◌}
 use Rattle.std.specs.List.{starts_with}
 use Rattle.std.specs.Str.{bytes_eq}
 use Rattle.ror_text.specs.Numbers.{small_number_of}
@@ -26,6 +26,12 @@ abbrev pub proof_fault : ProofFault → Option ProofFault
 proof_fault (faults.BadLine at) = Some (faults.BadLine at)
 proof_fault (faults.BadNumber at) = Some (faults.BadNumber at)
 proof_fault faults.Memory = None
+
+-- the line of which an error speaks begins at a place or before it
+abbrev pub IsPlaced : ℕ → ProofFault → Type 0
+IsPlaced n (faults.BadLine at) = at ≤ n
+IsPlaced n (faults.BadNumber at) = at ≤ n
+IsPlaced n faults.Memory = Unit {0}
 
 -- ---- the words of a line; the number is the place of the line's first byte
 
@@ -77,11 +83,16 @@ question_at t place words = do
 unfoldable pub verdict_at : ℕ → List (List ℕ) → Result (ProvedVerdict × List (List ℕ)) ProofFault
 verdict_at place words = do
   name ← word_at place words
-  if bytes_eq name.0 (codes "yes") then Ok (proved.Yes, name.1) else Err (faults.BadLine place)
+  if bytes_eq name.0 (codes "yes") then Ok (proved.Yes, name.1)
+      else (if bytes_eq name.0 (codes "no") then Ok (proved.No, name.1)
+      else (if bytes_eq name.0 (codes "contradiction") then Ok (proved.Contradiction, name.1)
+      else Err (faults.BadLine place)))
 
 -- the announced verdict, with its proof
 abbrev pub verdict_of : ProvedVerdict → Proof → Verdict
 verdict_of proved.Yes proof = verdicts.Yes proof
+verdict_of proved.No proof = verdicts.No proof
+verdict_of proved.Contradiction proof = verdicts.Contradiction proof
 
 -- the number of a system, which comes first
 unfoldable pub system_at : ℕ → List (List ℕ) → Result (ℕ × List (List ℕ)) ProofFault

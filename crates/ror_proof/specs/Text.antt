@@ -13,7 +13,7 @@ use Rattle.ror_proof.specs.declared.answer.Certificate.TheVariants as certificat
 use Rattle.ror_proof.specs.declared.answer.Part.{Part}
 use Rattle.ror_proof.specs.declared.answer.Proof.{Proof}
 use Rattle.ror_proof.specs.declared.answer.Verdict.{Verdict}
-use Rattle.ror_proof.specs.declared.answer.Verdict.TheVariants.{Yes}
+use Rattle.ror_proof.specs.declared.answer.Verdict.TheVariants.{Yes, No, Contradiction}
 use Rattle.ror_proof.specs.declared.answer.Answer.{Answer}
 
 -- a line: its words with single spaces between them, and a line feed
@@ -39,9 +39,13 @@ question_words t (Necessary a b) = codes "necessary" ∷ id_of t a ∷ id_of t b
 
 abbrev pub verdict_word : Verdict → List ℕ
 verdict_word (Yes proof) = codes "yes"
+verdict_word (No proof) = codes "no"
+verdict_word (Contradiction proof) = codes "contradiction"
 
 abbrev pub proof_of : Verdict → Proof
 proof_of (Yes proof) = proof
+proof_of (No proof) = proof
+proof_of (Contradiction proof) = proof
 
 abbrev pub base_text : Certificate → List ℕ
 base_text c = line_text (codes "base" ∷ certificate_words c)

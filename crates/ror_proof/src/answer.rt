@@ -26,7 +26,12 @@ pub struct Proof {
 /// A conclusion with its proof.
 #[derive(Debug, Drop)]
 pub enum Verdict {
+    /// What was asked holds.
     Yes(Proof),
+    /// It does not hold.
+    No(Proof),
+    /// No value function is compatible with the statements.
+    Contradiction(Proof),
 }
 
 /// What is answered to a question.

@@ -1,4 +1,4 @@
-ghost use Rattle.std.specs.Prelude.{◌≤◌, ◌<◌, ◌≡◌, ◌-◌, length, IfOk, IfSome};
+ghost use Rattle.std.specs.Prelude.{◌≤◌, ◌<◌, ◌≡◌, ◌-◌, length, IfErr, IfOk, IfSome};
 ghost use Rattle.std.specs.Option.{option_map};
 ghost use Rattle.ror_text.specs.Numbers.{number_of, small_number_of};
 ghost use Rattle.ror_text.specs.Reading.{Gives};
@@ -6,7 +6,7 @@ ghost use Rattle.ror_proof.specs.Cursor.{cursor_at};
 ghost use Rattle.ror_proof.specs.Words as spec;
 ghost use Rattle.ror_proof.specs.Words.{line_words, next_line};
 ghost use Rattle.ror_proof.specs.Reading as reading;
-ghost use Rattle.ror_proof.specs.Reading.{answer_at, proof_fault};
+ghost use Rattle.ror_proof.specs.Reading.{answer_at, proof_fault, IsPlaced};
 
 use crate::answer::{Answer, Certificate, Part, Proof, Verdict};
 use crate::words::Words;
@@ -60,6 +60,8 @@ impl<T: Drop> From<AllocFailed<T>> for ProofFault {
 #[derive(Clone, Copy)]
 enum ProvedVerdict {
     Yes,
+    No,
+    Contradiction,
 }
 
 /// Reads the answer whose text begins at a place, and says where it ends.
@@ -74,6 +76,7 @@ pub fn read_answer(
     ensures exact { Gives (λ x. (x.0, cursor_at bytes.now x.1)) proof_fault result (answer_at table.now (cursor_at bytes.now from)) }
     ensures onward { IfOk result (λ x. from < x.1) }
     ensures within { IfOk result (λ x. x.1 ≤ length bytes.now) }
+    ensures placed { IfErr result (IsPlaced (length bytes.now)) }
 {
     let (question, verdict, next) = answer_line(table, bytes, from)?;
     let (base, next) = base_line(alloc, bytes, next)?;
@@ -91,11 +94,13 @@ fn verdict_of(verdict: ProvedVerdict, proof: Proof) -> Verdict
 {
     match verdict {
         ProvedVerdict::Yes => Verdict::Yes(proof),
+        ProvedVerdict::No => Verdict::No(proof),
+        ProvedVerdict::Contradiction => Verdict::Contradiction(proof),
     }
 }
 
 /// The line of the question and the verdict, and where the next line begins.
-#[tactic(auto, unfolding(crate::specs::Reading::answer_line))]
+#[tactic(auto, using(crate::proofs::Places::placed_on), unfolding(crate::specs::Reading::answer_line))]
 fn answer_line(
     table: &Table,
     bytes: &[u8],
@@ -105,6 +110,7 @@ fn answer_line(
     ensures exact { Gives (λ x. ((x.0, x.1), cursor_at bytes.now x.2)) proof_fault result (reading.answer_line table.now (cursor_at bytes.now from)) }
     ensures onward { IfOk result (λ x. from < x.2) }
     ensures within { IfOk result (λ x. x.2 ≤ length bytes.now) }
+    ensures placed { IfErr result (IsPlaced (length bytes.now)) }
 {
     let (words, next) = line_at(bytes, from);
     let words = after_word(from, b"answer".as_slice(), words)?;
@@ -116,12 +122,13 @@ fn answer_line(
 }
 
 /// The line of the base's certificate, and where the next line begins.
-#[tactic(auto, unfolding(crate::specs::Reading::base_line))]
+#[tactic(auto, using(crate::proofs::Places::placed_on), unfolding(crate::specs::Reading::base_line))]
 fn base_line(alloc: Global, bytes: &[u8], from: usize) -> Result<(Certificate, usize), ProofFault>
     requires { from ≤ length bytes.now }
     ensures exact { Gives (λ x. (x.0, cursor_at bytes.now x.1)) proof_fault result (reading.base_line (cursor_at bytes.now from)) }
     ensures onward { IfOk result (λ x. from < x.1) }
     ensures within { IfOk result (λ x. x.1 ≤ length bytes.now) }
+    ensures placed { IfErr result (IsPlaced (length bytes.now)) }
 {
     let (words, next) = line_at(bytes, from);
     let words = after_word(from, b"base".as_slice(), words)?;
@@ -136,6 +143,7 @@ fn part_lines(alloc: Global, bytes: &[u8], from: usize) -> Result<(Vec<Part>, us
     ensures exact { Gives (λ x. (x.0.items, cursor_at bytes.now x.1)) proof_fault result (reading.part_lines (length bytes.now - from) (cursor_at bytes.now from)) }
     ensures onward { IfOk result (λ x. from ≤ x.1) }
     ensures within { IfOk result (λ x. x.1 ≤ length bytes.now) }
+    ensures placed { IfErr result (IsPlaced (length bytes.now)) }
 {
     let mut parts = Vec::new(alloc);
     let mut next = from;
@@ -148,12 +156,13 @@ fn part_lines(alloc: Global, bytes: &[u8], from: usize) -> Result<(Vec<Part>, us
 }
 
 /// The line of one part, and where the next line begins.
-#[tactic(auto, unfolding(crate::specs::Reading::part_line))]
+#[tactic(auto, using(crate::proofs::Places::placed_on), unfolding(crate::specs::Reading::part_line))]
 fn part_line(alloc: Global, bytes: &[u8], from: usize) -> Result<(Part, usize), ProofFault>
     requires { from ≤ length bytes.now }
     ensures exact { Gives (λ x. (x.0, cursor_at bytes.now x.1)) proof_fault result (reading.part_line (cursor_at bytes.now from)) }
     ensures onward { IfOk result (λ x. from < x.1) }
     ensures within { IfOk result (λ x. x.1 ≤ length bytes.now) }
+    ensures placed { IfErr result (IsPlaced (length bytes.now)) }
 {
     let (words, next) = line_at(bytes, from);
     let words = after_word(from, b"part".as_slice(), words)?;
@@ -181,7 +190,8 @@ fn line_at(bytes: &[u8], from: usize) -> (Words<'_>, Option<usize>)
 /// The words after one that has to come first.
 #[tactic(auto, unfolding(crate::specs::Words::after_word))]
 fn after_word<'a>(place: usize, expected: &[u8], words: Words<'a>) -> Result<Words<'a>, ProofFault>
-    ensures { Gives (λ rest. rest) proof_fault result (spec.after_word place expected.now words.entry) }
+    ensures exact { Gives (λ rest. rest) proof_fault result (spec.after_word place expected.now words.entry) }
+    ensures placed { IfErr result (IsPlaced place) }
 {
     match words.next() {
         Some((word, rest)) if word == expected => Ok(rest),
@@ -191,7 +201,8 @@ fn after_word<'a>(place: usize, expected: &[u8], words: Words<'a>) -> Result<Wor
 
 /// That no word is left.
 fn no_more(place: usize, words: Words<'_>) -> Result<(), ProofFault>
-    ensures { Gives (λ _. tt) proof_fault result (spec.no_more place words.entry) }
+    ensures exact { Gives (λ _. tt) proof_fault result (spec.no_more place words.entry) }
+    ensures placed { IfErr result (IsPlaced place) }
 {
     match words.next() {
         Some(_) => Err(ProofFault::BadLine(place)),
@@ -206,7 +217,8 @@ fn question_at<'a>(
     place: usize,
     words: Words<'a>,
 ) -> Result<(Question, Words<'a>), ProofFault>
-    ensures { Gives (λ x. (x.0, x.1)) proof_fault result (reading.question_at table.now place words.entry) }
+    ensures exact { Gives (λ x. (x.0, x.1)) proof_fault result (reading.question_at table.now place words.entry) }
+    ensures placed { IfErr result (IsPlaced place) }
 {
     match words.next() {
         Some((form, rest)) if form == b"necessary".as_slice() => necessary_at(table, place, rest),
@@ -221,7 +233,8 @@ fn necessary_at<'a>(
     place: usize,
     words: Words<'a>,
 ) -> Result<(Question, Words<'a>), ProofFault>
-    ensures { Gives (λ x. (x.0, x.1)) proof_fault result (reading.necessary_at table.now place words.entry) }
+    ensures exact { Gives (λ x. (x.0, x.1)) proof_fault result (reading.necessary_at table.now place words.entry) }
+    ensures placed { IfErr result (IsPlaced place) }
 {
     let (first, words) = alternative_at(table, place, words)?;
     let (second, words) = alternative_at(table, place, words)?;
@@ -235,7 +248,8 @@ fn alternative_at<'a>(
     place: usize,
     words: Words<'a>,
 ) -> Result<(usize, Words<'a>), ProofFault>
-    ensures { Gives (λ x. (x.0, x.1)) proof_fault result (reading.alternative_at table.now place words.entry) }
+    ensures exact { Gives (λ x. (x.0, x.1)) proof_fault result (reading.alternative_at table.now place words.entry) }
+    ensures placed { IfErr result (IsPlaced place) }
 {
     match words.next() {
         Some((id, rest)) => {
@@ -259,10 +273,16 @@ fn find_alternative(table: &Table, id: &[u8]) -> Option<usize>
 /// The verdict that comes first.
 #[tactic(auto, unfolding(crate::specs::Reading::verdict_at))]
 fn verdict_at<'a>(place: usize, words: Words<'a>) -> Result<(ProvedVerdict, Words<'a>), ProofFault>
-    ensures { Gives (λ x. (x.0, x.1)) proof_fault result (reading.verdict_at place words.entry) }
+    ensures exact { Gives (λ x. (x.0, x.1)) proof_fault result (reading.verdict_at place words.entry) }
+    ensures placed { IfErr result (IsPlaced place) }
 {
     match words.next() {
         Some((b"yes", rest)) => Ok((ProvedVerdict::Yes, rest)),
+        Some((b"no", rest)) => Ok((ProvedVerdict::No, rest)),
+        Some((word, rest)) if word == b"contradiction".as_slice() => Ok((
+            ProvedVerdict::Contradiction,
+            rest,
+        )),
         _ => Err(ProofFault::BadLine(place)),
     }
 }
@@ -270,7 +290,8 @@ fn verdict_at<'a>(place: usize, words: Words<'a>) -> Result<(ProvedVerdict, Word
 /// The number of a system, which comes first.
 #[tactic(auto, unfolding(crate::specs::Reading::system_at))]
 fn system_at<'a>(place: usize, words: Words<'a>) -> Result<(u32, Words<'a>), ProofFault>
-    ensures { Gives (λ x. (x.0, x.1)) proof_fault result (reading.system_at place words.entry) }
+    ensures exact { Gives (λ x. (x.0, x.1)) proof_fault result (reading.system_at place words.entry) }
+    ensures placed { IfErr result (IsPlaced place) }
 {
     match words.next() {
         Some((word, rest)) => Ok((small_number_in(place, word)?, rest)),
@@ -281,7 +302,8 @@ fn system_at<'a>(place: usize, words: Words<'a>) -> Result<(u32, Words<'a>), Pro
 /// A certificate, up to the end of its line.
 #[tactic(auto, unfolding(crate::specs::Reading::certificate_at))]
 fn certificate_at(alloc: Global, place: usize, words: Words<'_>) -> Result<Certificate, ProofFault>
-    ensures { Gives (λ x. x) proof_fault result (reading.certificate_at place words.entry) }
+    ensures exact { Gives (λ x. x) proof_fault result (reading.certificate_at place words.entry) }
+    ensures placed { IfErr result (IsPlaced place) }
 {
     match words.next() {
         Some((word, rest)) if word == b"solution".as_slice() => solution_at(alloc, place, rest),
@@ -295,7 +317,8 @@ fn certificate_at(alloc: Global, place: usize, words: Words<'_>) -> Result<Certi
 /// The numbers of a solution.
 #[tactic(auto, unfolding(crate::specs::Reading::solution_at))]
 fn solution_at(alloc: Global, place: usize, words: Words<'_>) -> Result<Certificate, ProofFault>
-    ensures { Gives (λ x. x) proof_fault result (reading.solution_at place words.entry) }
+    ensures exact { Gives (λ x. x) proof_fault result (reading.solution_at place words.entry) }
+    ensures placed { IfErr result (IsPlaced place) }
 {
     let steps = Items::from(numbers_at(alloc, place, words)?);
     Ok(Certificate::Solution(Solution { steps }))
@@ -304,7 +327,8 @@ fn solution_at(alloc: Global, place: usize, words: Words<'_>) -> Result<Certific
 /// The multipliers of the weak rows, a bar, and those of the strict rows.
 #[tactic(auto, unfolding(crate::specs::Reading::multipliers_at))]
 fn multipliers_at(alloc: Global, place: usize, words: Words<'_>) -> Result<Certificate, ProofFault>
-    ensures { Gives (λ x. x) proof_fault result (reading.multipliers_at place words.entry) }
+    ensures exact { Gives (λ x. x) proof_fault result (reading.multipliers_at place words.entry) }
+    ensures placed { IfErr result (IsPlaced place) }
 {
     let (weak, words) = numbers_before_bar(alloc, place, words)?;
     let weak = Items::from(weak);
@@ -314,7 +338,8 @@ fn multipliers_at(alloc: Global, place: usize, words: Words<'_>) -> Result<Certi
 
 /// The numbers up to the end of the line.
 fn numbers_at(alloc: Global, place: usize, words: Words<'_>) -> Result<Vec<i128>, ProofFault>
-    ensures { Gives (λ numbers. numbers.items) proof_fault result (spec.numbers_at place words.entry) }
+    ensures exact { Gives (λ numbers. numbers.items) proof_fault result (spec.numbers_at place words.entry) }
+    ensures placed { IfErr result (IsPlaced place) }
 {
     let mut numbers = Vec::new(alloc);
     let mut left = words;
@@ -332,7 +357,8 @@ fn numbers_before_bar<'a>(
     place: usize,
     words: Words<'a>,
 ) -> Result<(Vec<i128>, Words<'a>), ProofFault>
-    ensures { Gives (λ x. (x.0.items, x.1)) proof_fault result (spec.numbers_before_bar place words.entry) }
+    ensures exact { Gives (λ x. (x.0.items, x.1)) proof_fault result (spec.numbers_before_bar place words.entry) }
+    ensures placed { IfErr result (IsPlaced place) }
 {
     let mut numbers = Vec::new(alloc);
     let mut left = words;
@@ -349,7 +375,8 @@ fn numbers_before_bar<'a>(
 
 /// The number that a word says.
 fn number_in(place: usize, word: &[u8]) -> Result<i128, ProofFault>
-    ensures { Gives (λ number. number) proof_fault result (spec.number_in number_of place word.now) }
+    ensures exact { Gives (λ number. number) proof_fault result (spec.number_in number_of place word.now) }
+    ensures placed { IfErr result (IsPlaced place) }
 {
     refuse_if(word.is_empty(), ProofFault::BadLine(place))?;
     need(read_number(word), ProofFault::BadNumber(place))
@@ -357,7 +384,8 @@ fn number_in(place: usize, word: &[u8]) -> Result<i128, ProofFault>
 
 /// The small number that a word says.
 fn small_number_in(place: usize, word: &[u8]) -> Result<u32, ProofFault>
-    ensures { Gives (λ number. number) proof_fault result (spec.number_in small_number_of place word.now) }
+    ensures exact { Gives (λ number. number) proof_fault result (spec.number_in small_number_of place word.now) }
+    ensures placed { IfErr result (IsPlaced place) }
 {
     refuse_if(word.is_empty(), ProofFault::BadLine(place))?;
     need(read_small_number(word), ProofFault::BadNumber(place))

@@ -18,6 +18,8 @@ fn three_alternatives(alloc: Global) -> Result<Table, Fail> {
 fn proof_of(answer: &Answer) -> &Proof {
     match &answer.verdict {
         Verdict::Yes(proof) => proof,
+        Verdict::No(proof) => proof,
+        Verdict::Contradiction(proof) => proof,
     }
 }
 
@@ -45,6 +47,7 @@ fn an_answer_is_read_up_to_its_last_part(rt: HostRuntime) -> Result<(), Fail> {
         .ok_or("this is an answer")?;
     assert_eq!(rt; end, 72);
     assert!(rt; answer.question == Question::Necessary(0, 2));
+    assert!(rt; matches!(answer.verdict, Verdict::Yes(_)));
     let proof = proof_of(&answer);
     assert!(rt; is_solution(&proof.base, &[1, 1, 1, 1]));
     assert_eq!(rt; proof.parts.len(), 1);
@@ -71,11 +74,32 @@ fn an_answer_ends_where_no_part_begins(rt: HostRuntime) -> Result<(), Fail> {
 }
 
 #[test]
+fn a_denial_and_a_contradiction_are_read(rt: HostRuntime) -> Result<(), Fail> {
+    let table = three_alternatives(rt.alloc())?;
+    let no = b"answer necessary a b no\nbase solution 1 1 1 1\npart 1 solution 0 0 0 1\n";
+    let (answer, _) = read_answer(rt.alloc(), &table, no, 0)
+        .ok()
+        .ok_or("this is an answer")?;
+    assert!(rt; matches!(answer.verdict, Verdict::No(_)));
+    for part in proof_of(&answer).parts.as_slice() {
+        assert!(rt; is_solution(&part.body, &[0, 0, 0, 1]));
+    }
+    let contradiction = b"answer necessary a b contradiction\nbase multipliers | 0 1 1\n";
+    let (answer, _) = read_answer(rt.alloc(), &table, contradiction, 0)
+        .ok()
+        .ok_or("this is an answer")?;
+    assert!(rt; matches!(answer.verdict, Verdict::Contradiction(_)));
+    assert!(rt; are_multipliers(&proof_of(&answer).base, &[], &[0, 1, 1]));
+    Ok(())
+}
+
+#[test]
 fn the_first_faulty_word_decides(rt: HostRuntime) -> Result<(), Fail> {
     let table = three_alternatives(rt.alloc())?;
-    let bad_lines: [(&[u8], usize); 9] = [
+    let bad_lines: [(&[u8], usize); 10] = [
         (b"", 0),
         (b"answer necessary a d yes\n", 0),
+        (b"answer necessary a c nothing\n", 0),
         (b"answer necessary a c\n", 0),
         (b"answer necessary a c yes yes\n", 0),
         (b"answer necessary a c yes", 0),
