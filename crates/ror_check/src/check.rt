@@ -1,26 +1,34 @@
-ghost use Rattle.std.specs.Prelude.{◌≡◌, ◌≢◌, ◌≤◌, ◌<◌, ◌+◌, ◌-◌, ◌^◌, not, ◌↔◌, length, map, true, IsTrue, OnOk, IfErr};
-ghost use Rattle.std.specs.List.{AllByRecursion, list_all, range_with_len};
-ghost use Rattle.ror_statement.specs.Statement.{IsLawful, IsValidQuestion};
+ghost use Rattle.std.specs.Prelude.{◌≡◌, ◌≢◌, ℕ, [], ◌∷◌, ◌≤◌, ◌<◌, ◌+◌, ◌-◌, ◌^◌, ◌↔◌, length, map, true, IsTrue, OnOk, IfErr};
+ghost use Rattle.std.specs.List.{AllByRecursion, range_with_len};
+ghost use Rattle.ror_statement.specs.Statement.{IsLawful, IsValidQuestion, asked_of};
 ghost use Rattle.ror_value.specs.Meaning.{Answers};
-ghost use Rattle.ror_rows.specs.Rows.{systems_of_question, extras_of};
-ghost use Rattle.ror_proof.specs.Text.{proof_of};
-ghost use Rattle.ror_check.specs.Proof.{IsProvedAnswer, ProvesYes, AreNumberedFor, ShowsSolvable, ShowsNotSolvable, base_system, conclusion_of};
-ghost use Rattle.ror_check.specs.Faults.{IsRefusedBy, IsRejectedFor, is_solution, has_kinds_of_yes};
-ghost use Rattle.ror_check.specs.Steps.{AreUsable, ShowNotSolvableBefore, RefusesBase, RefusesParts, RefusesProof, systems_with};
+ghost use Rattle.ror_proof.specs.Text as text;
+ghost use Rattle.ror_check.specs.declared.side.Side.{Side};
+ghost use Rattle.ror_check.specs.Proof as spec;
+ghost use Rattle.ror_check.specs.Proof.{IsProvedAnswer, Proves, Shows, AreNumbersFor, base_system};
+ghost use Rattle.ror_check.specs.Faults as kinds;
+ghost use Rattle.ror_check.specs.Faults.{IsRefusedBy, IsRejectedFor};
+ghost use Rattle.ror_check.specs.Steps.{AreUsable, AreShownBefore, NameSystems, RefusesBase, RefusesParts, RefusesProof, systems_with};
 
 use crate::fault::CheckFault;
+use crate::side::has_kinds;
 use ror_proof::{Answer, Certificate, Part, Proof, Verdict};
 use ror_rows::{Extras, question_systems, system_of};
-use ror_statement::{Question, Statement};
+use ror_statement::{Conclusion, Question, Statement};
 use ror_system::{Reject, System, accept_multipliers, accept_solution};
 use ror_table::Table;
 use std::alloc::Global;
 
-/// Whether the answer's proof proves its verdict on the question, over the statements: a solution of the system of the
-/// statements alone, and multipliers for each of the question's systems.
+/// Whether the answer's proof proves its verdict on the question, over the statements: for yes and for no a solution of
+/// the system of the statements alone, and for a contradiction multipliers that refute it; besides multipliers for each
+/// of the question's systems where the answer is yes, and a solution of one of them where it is no.
 ///
 /// The statements are lawful and the question is valid for the table. An answer that is accepted is true of all value
 /// functions that are compatible with the statements.
+///
+/// # Errors
+///
+/// The first test that fails, in the order of `CheckFault`.
 pub fn check_answer(
     alloc: Global,
     table: &Table,
@@ -32,7 +40,7 @@ pub fn check_answer(
     requires named { IsValidQuestion (length table.now.alternatives) asked.now }
 
     ensures accepted { OnOk result (IsProvedAnswer table.now list.now asked.now x.now) }
-    ensures true_answer { OnOk result (Answers table.now list.now asked.now (conclusion_of x.now.verdict)) }
+    ensures true_answer { OnOk result (Answers table.now list.now asked.now (spec.conclusion_of x.now.verdict)) }
 
     // Nothing that is proved is refused, and a refusal names the first test that fails.
     ensures not_proved { IfErr result (λ e. e ≢ CheckFault.Memory
@@ -42,72 +50,88 @@ pub fn check_answer(
     if x.question != *asked {
         return Err(CheckFault::WrongQuestion);
     }
+    let conclusion = conclusion_of(&x.verdict);
     let proof = proof_of(&x.verdict);
-    if !has_kinds(proof) {
+    if !has_kinds(asked, conclusion, proof) {
         return Err(CheckFault::WrongVerdict);
     }
-    check_proof(alloc, table, list, asked, proof)
+    check_proof(alloc, table, list, asked, conclusion, proof)
+}
+
+fn conclusion_of(verdict: &Verdict) -> Conclusion
+    ensures { result ≡ spec.conclusion_of verdict.now }
+{
+    match verdict {
+        Verdict::Yes(_) => Conclusion::Yes,
+        Verdict::No(_) => Conclusion::No,
+        Verdict::Contradiction(_) => Conclusion::Contradiction,
+    }
 }
 
 fn proof_of(verdict: &Verdict) -> &Proof
-    ensures { result.now ≡ proof_of verdict.now }
+    ensures { result.now ≡ text.proof_of verdict.now }
 {
     match verdict {
-        Verdict::Yes(proof) => proof,
+        Verdict::Yes(proof) | Verdict::No(proof) | Verdict::Contradiction(proof) => proof,
     }
 }
 
-/// Whether the certificates of a proof, which are of the kinds that yes wants, are accepted.
+/// Whether the certificates of a proof, which are of the right kinds, are accepted.
 fn check_proof(
     alloc: Global,
     table: &Table,
     list: &[Statement],
     asked: &Question,
+    conclusion: Conclusion,
     proof: &Proof,
 ) -> Result<(), CheckFault>
     requires lawful { IsLawful (length table.now.alternatives) list.now }
     requires named { IsValidQuestion (length table.now.alternatives) asked.now }
-    requires kinds { has_kinds_of_yes proof.now ≡ true }
-    ensures ok { OnOk result (ProvesYes table.now list.now asked.now proof.now) }
-    ensures err { IfErr result (RefusesProof table.now list.now asked.now proof.now) }
+    requires kinds { kinds.has_kinds asked.now conclusion proof.now ≡ true }
+    ensures ok { OnOk result (Proves table.now list.now asked.now conclusion proof.now) }
+    ensures err { IfErr result (RefusesProof table.now list.now asked.now conclusion proof.now) }
 {
     let systems = question_systems(alloc, table, list, asked)?;
     let extras = systems.as_slice();
     let parts = proof.parts.as_slice();
-    if !are_numbered_for(extras.len(), parts) {
+    if !are_numbered_for(asked, conclusion, extras.len(), parts) {
         return Err(CheckFault::PartCount);
     }
     check_base(alloc, table, list, &proof.base)?;
     check_parts(alloc, table, list, extras, parts)
 }
 
-fn has_kinds(proof: &Proof) -> bool
-    ensures { result ≡ has_kinds_of_yes proof.now }
+/// Whether the parts have the numbers that the conclusion wants, where the question has so many systems.
+fn are_numbered_for(asked: &Question, conclusion: Conclusion, count: usize, parts: &[Part]) -> bool
+    requires { count < 2 ^ 32 - 1 }
+    ensures { IsTrue result ↔ AreNumbersFor (asked_of asked.now).kind conclusion count (map (λ p. p.at) parts.now) }
 {
-    is_solution(&proof.base) && are_multipliers(proof.parts.as_slice())
-}
-
-fn are_multipliers(parts: &[Part]) -> bool
-    ensures { result ≡ list_all (λ p. not (is_solution p.body)) parts.now }
-{
-    parts.iter().all(|part| !is_solution(&part.body))
-}
-
-fn is_solution(certificate: &Certificate) -> bool
-    ensures { result ≡ is_solution certificate.now }
-{
-    matches!(certificate, Certificate::Solution(_))
+    match (asked, conclusion) {
+        (Question::Necessary(_, _), Conclusion::Yes) => are_all(count, parts),
+        (Question::Necessary(_, _), Conclusion::No) => is_one(count, parts),
+        (Question::Necessary(_, _), Conclusion::Contradiction) => parts.is_empty(),
+    }
 }
 
 /// Whether there are so many parts, with the numbers from 1 in order.
-fn are_numbered_for(count: usize, parts: &[Part]) -> bool
+fn are_all(count: usize, parts: &[Part]) -> bool
     requires { count < 2 ^ 32 - 1 }
-    ensures { IsTrue result ↔ AreNumberedFor count parts.now }
+    ensures { IsTrue result ↔ (map (λ p. p.at) parts.now ≡ range_with_len 1 count) }
 {
     if parts.len() != count {
         return false;
     }
     are_numbered_from(1, parts)
+}
+
+/// Whether there is one part, with the number of one of so many systems.
+fn is_one(count: usize, parts: &[Part]) -> bool
+    ensures { IsTrue result ↔ ((n : ℕ) × (1 ≤ n) × (n ≤ count) × (map (λ p. p.at) parts.now ≡ n ∷ [])) }
+{
+    match parts {
+        [part] => part.at >= 1 && part.at as usize <= count,
+        _ => false,
+    }
 }
 
 /// Whether the parts have the numbers from the first on, in order.
@@ -123,8 +147,7 @@ fn are_numbered_from(first: u32, parts: &[Part]) -> bool
 
 /// Whether the certificate is accepted for the system, whichever of the two kinds it is.
 fn accept(system: &System, certificate: &Certificate) -> Result<(), Reject>
-    ensures solvable { OnOk result (is_solution certificate.now ≡ true → ShowsSolvable system.now certificate.now) }
-    ensures not_solvable { OnOk result (is_solution certificate.now ≢ true → ShowsNotSolvable system.now certificate.now) }
+    ensures shown { OnOk result ((side : Side) → kinds.is_side side certificate.now ≡ true → Shows side system.now certificate.now) }
     ensures rejected { IfErr result (IsRejectedFor system.now certificate.now) }
 {
     match certificate {
@@ -140,7 +163,7 @@ fn check_base(
     base: &Certificate,
 ) -> Result<(), CheckFault>
     requires lawful { IsLawful (length table.now.alternatives) list.now }
-    ensures ok { OnOk result (is_solution base.now ≡ true → ShowsSolvable (base_system table.now list.now) base.now) }
+    ensures ok { OnOk result ((side : Side) → kinds.is_side side base.now ≡ true → Shows side (base_system table.now list.now) base.now) }
     ensures err { IfErr result (RefusesBase (base_system table.now list.now) base.now) }
 {
     let system = system_of(alloc, table, list, &[])?;
@@ -150,7 +173,7 @@ fn check_base(
     }
 }
 
-/// Checks each part for the system at its place, from the first on.
+/// Checks each part for the system that has its number, from the first part on.
 fn check_parts(
     alloc: Global,
     table: &Table,
@@ -160,13 +183,13 @@ fn check_parts(
 ) -> Result<(), CheckFault>
     requires lawful { IsLawful (length table.now.alternatives) list.now }
     requires usable { AllByRecursion (AreUsable (length table.now.alternatives)) systems.now }
-    requires as_many { length systems.now ≡ length parts.now }
+    requires numbers { NameSystems (length systems.now) parts.now }
     requires few { length parts.now < 2 ^ 32 - 1 }
-    ensures ok { OnOk result (ShowNotSolvableBefore (systems_with table.now list.now systems.now) parts.now (length parts.now)) }
+    ensures ok { OnOk result (AreShownBefore (systems_with table.now list.now systems.now) parts.now (length parts.now)) }
     ensures err { IfErr result (RefusesParts (systems_with table.now list.now systems.now) parts.now) }
 {
     for (i, part) in parts.iter().enumerate() {
-        let extras = &systems[i];
+        let extras = &systems[part.at as usize - 1];
         let system = system_of(alloc, table, list, extras.as_slice())?;
         if let Err(reject) = accept(&system, &part.body) {
             return Err(CheckFault::Part(i as u32 + 1, reject));

@@ -4,6 +4,7 @@
 mod check;
 mod fault;
 pub mod laws;
+mod side;
 
 pub use check::check_answer;
 pub use fault::CheckFault;

@@ -1,9 +1,21 @@
-use Rattle.std.proofs.Common.{rules, arith}
-use Rattle.ror_check.proofs.Checking.{shown_more}
+use Rattle.std.proofs.Common.{rules, arith, ◌≤◌, ◌-◌, length}
+use Rattle.ror_proof.specs.declared.answer.Part.{Part}
+use Rattle.ror_check.specs.Steps.{systems_with}
+use Rattle.ror_check.proofs.Checking.{shown_more, all_at, slice_get-at, system_here}
 use Rattle.ror_check.proofs.check.check_parts.Goals as goal
 
 pub loop-i-preserved : goal.loop-i-preserved
 loop-i-preserved c =
     let lt = c.loop-i-test.true in
-    let same = c.requires.as_many in
-    shown_more c.args.table.now c.args.list.now c.args.systems.now c.args.parts.now c.loop-i.i c.index-systems-i.result c.index-parts-i.result c.in_ok-system.system c.loop-i.invariant (omega arith) (omega arith) c.index-systems-i.is c.index-parts-i.is (search rules) c.in_default.ensures.not_solvable
+    let t = c.args.table.now in
+    let list = c.args.list.now in
+    let vs = c.args.systems.now in
+    let parts = c.args.parts.now in
+    let i = c.loop-i.i in
+    let p = c.index-parts-i.result in
+    let here = slice_get-at parts i p lt c.index-parts-i.is in
+    let named = all_at (λ (p : Part). (1 ≤ p.at) × (p.at ≤ length vs)) parts i p c.requires.numbers here in
+    let from = named.0 in
+    let to = named.1 in
+    let there = system_here t list vs (p.at - 1) c.index-systems-part.result c.in_ok-system.system (omega arith) c.index-systems-part.is (search rules) in
+    shown_more (systems_with t list vs) parts i (p.at - 1) p c.in_ok-system.system c.loop-i.invariant lt c.index-parts-i.is (omega arith) there c.in_default.ensures.shown
