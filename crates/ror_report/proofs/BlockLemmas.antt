@@ -1,10 +1,10 @@
 -- Blocks as texts, both ways: what was written is read again, and what is read was so written.
-use Rattle.std.proofs.Common.{◌≡◌, ℕ, zero, suc, ◌+◌, ◌<◌, ◌≤◌, ◌^◌, true, false, List, [], ◌∷◌, ◌++◌, length, Result, Ok, Err, refl, sym, ap, subst, ◌∙◌, append_assoc, arith, inl, inr, length-append}
+use Rattle.std.proofs.Common.{◌≡◌, ℕ, zero, suc, ◌+◌, ◌<◌, ◌≤◌, true, false, not, List, [], ◌∷◌, ◌++◌, length, Result, Ok, Err, refl, sym, ap, subst, ◌∙◌, append_assoc, arith, inl, inr, length-append}
 use Rattle.std.specs.Prelude.{codes, ◌↔◌}
 use Rattle.std.specs.List.{flat_map, AllByRecursion}
-use Rattle.std.proofs.lemmas.Bool.{cases_Bool}
-use Rattle.ror_text.specs.Reading.{◌>>=◌}
-use Rattle.ror_text.proofs.ReadingLemmas.{bind_ok}
+use Rattle.std.proofs.lemmas.Bool.{cases_Bool, cond-true, cond-false}
+use Rattle.ror_text.specs.Reading.{◌>>=◌, refuse}
+use Rattle.ror_text.proofs.ReadingLemmas.{bind_ok, refuse_ok}
 use Rattle.ror_table.specs.Table.{DecisionTable, IsTable}
 use Rattle.ror_proof.specs.declared.answer.Answer.{Answer}
 use Rattle.ror_proof.specs.declared.read.ProofFault.{ProofFault}
@@ -14,12 +14,14 @@ use Rattle.ror_proof.specs.Reading.{begins_part, answer_at}
 use Rattle.ror_proof.proofs.AnswerLemmas.{answer_reads_back, answer_is_text, answer_begins}
 use Rattle.ror_report.specs.declared.block.Block.{Block}
 use Rattle.ror_report.specs.declared.block.Body.{Body}
-use Rattle.ror_report.specs.declared.block.Body.TheVariants.{Answers}
-use Rattle.ror_report.specs.Text.{answers_of, block_text, IsPrintableBlock}
-use Rattle.ror_report.specs.Reading.{read_in_report, numbered_line, ends_body, body_answers, block_at}
+use Rattle.ror_report.specs.declared.block.Body.TheVariants.{Added, Answers}
+use Rattle.ror_report.specs.declared.read.ReportFault.TheVariants.{BadLine}
+use Rattle.ror_report.specs.Text.{body_text, block_text, IsPrintableBody, IsPrintableBlock}
+use Rattle.ror_report.specs.Reading.{read_in_report, numbered_line, begins_added, ends_body, body_answers, added_at, answers_at, body_at, block_at}
 use Rattle.ror_report.specs.Laws.{IsBlockText}
 use Rattle.ror_report.proofs.Bodies.{answer_step, no_answers}
-use Rattle.ror_report.proofs.LineForms.{Spans, spans_then, numbered_text, numbered_again, numbered_sound, done, ok_is, goes_on_at_answer, ends_no_part}
+use Rattle.ror_proof.proofs.WordLemmas.{Spans, spans_then}
+use Rattle.ror_report.proofs.LineForms.{numbered_text, numbered_again, numbered_sound, passed, done, ok_is, begins_added_text, goes_on_at_answer, ends_no_added, ends_no_part}
 
 -- ---- what was written is read again
 
@@ -56,22 +58,31 @@ body_has_bytes : (t : DecisionTable) (xs : List Answer) → length xs ≤ length
 body_has_bytes t [] = omega arith
 body_has_bytes t (x ∷ xs) = omega (arith, body_has_bytes t xs, answer_has_bytes t x, length-append (answer_text t x) (flat_map (answer_text t) xs))
 
-made_again : (t : DecisionTable) (n : ℕ) (body : Body) (place : ℕ) (rest : List ℕ) → IsTable t → n < 2 ^ 32 → AllByRecursion (IsPrintable t) (answers_of body) → ends_body rest ≡ true
-    → block_at t (record { place = place; rest = block_text t (record { line = n; body = body }) ++ rest }) ≡ Ok (record { line = n; body = body }, record { place = place + length (block_text t (record { line = n; body = body })); rest = rest })
-unfolding block_at block_text
-made_again t n (Answers xs) place rest table small printable ends =
-    let front = numbered_text (codes "line") n in
+-- no line of an added statement stands where the answers begin
+no_added_ahead : (t : DecisionTable) (xs : List Answer) (rest : List ℕ) → ends_body rest ≡ true → begins_added (flat_map (answer_text t) xs ++ rest) ≡ false
+no_added_ahead t [] rest ends = ends_no_added rest ends
+no_added_ahead t (x ∷ xs) rest ends = ap (λ (l : List ℕ). begins_added ((l ++ flat_map (answer_text t) xs) ++ rest)) (answer_begins t x).1
+
+body_reads_back : (t : DecisionTable) (body : Body) (place : ℕ) (rest : List ℕ) → IsTable t → IsPrintableBody t body → ends_body rest ≡ true
+    → body_at t (record { place = place; rest = body_text t body ++ rest }) ≡ Ok (body, record { place = place + length (body_text t body); rest = rest })
+unfolding body_at added_at answers_at
+body_reads_back t (Added n) place rest table small ends = rw (begins_added_text n rest, numbered_again (codes "added") place n rest refl small, ends) refl
+body_reads_back t (Answers xs) place rest table printable ends =
     let body = flat_map (answer_text t) xs in
-    let regrouped : (front ++ body) ++ rest ≡ front ++ (body ++ rest) = append_assoc front body rest in
     let room : length xs ≤ length (body ++ rest) = omega (arith, body_has_bytes t xs, length-append body rest) in
-    let to : place + length front + length body ≡ place + length (front ++ body) = omega (arith, length-append front body) in
-    ap (λ (r : List ℕ). block_at t (record { place = place; rest = r })) regrouped
-    ∙ (rw (numbered_again (codes "line") place n (body ++ rest) refl small, body_again t (length (body ++ rest)) (place + length front) xs rest table printable ends room)
-    (ap (λ m. Ok (record { line = n; body = Answers xs }, record { place = m; rest = rest })) to))
+    rw (no_added_ahead t xs rest ends, body_again t (length (body ++ rest)) place xs rest table printable ends room) refl
 
 pub block_reads_back : (t : DecisionTable) (b : Block) (place : ℕ) (rest : List ℕ) → IsTable t → IsPrintableBlock t b → ends_body rest ≡ true
     → block_at t (record { place = place; rest = block_text t b ++ rest }) ≡ Ok (b, record { place = place + length (block_text t b); rest = rest })
-block_reads_back t b place rest table printable ends = made_again t b.line b.body place rest table printable.number printable.answers ends
+unfolding block_at block_text
+block_reads_back t b place rest table printable ends =
+    let front = numbered_text (codes "line") b.line in
+    let body = body_text t b.body in
+    let regrouped : (front ++ body) ++ rest ≡ front ++ (body ++ rest) = append_assoc front body rest in
+    let to : place + length front + length body ≡ place + length (front ++ body) = omega (arith, length-append front body) in
+    ap (λ (r : List ℕ). block_at t (record { place = place; rest = r })) regrouped
+    ∙ (rw (numbered_again (codes "line") place b.line (body ++ rest) refl printable.number, body_reads_back t b.body (place + length front) rest table printable.body ends)
+    (ap (λ m. Ok (b, record { place = m; rest = rest })) to))
 
 -- ---- what is read was so written
 
@@ -111,21 +122,59 @@ body_sound t (suc most) c x e room =
           })
     ]
 
+-- what was read as a body
+record IsReadBody (t : DecisionTable) (c : Cursor) (body : Body) (after : Cursor) : Type 0 where
+  spans : Spans c (body_text t body) after
+  printable : IsPrintableBody t body
+  ended : ends_body after.rest ≡ true
+
+added_sound : (t : DecisionTable) (c : Cursor) (x : Body × Cursor) → added_at c ≡ Ok x → IsReadBody t c x.0 x.1
+unfolding added_at
+added_sound t c x e =
+    let last = λ (number : ℕ × Cursor). refuse (BadLine number.1.place) (not (ends_body number.1.rest)) >>= λ _. done (Added number.0, number.1) in
+    let a = bind_ok (numbered_line (codes "added") c) last x e in
+    let b = bind_ok (refuse (BadLine a.0.1.place) (not (ends_body a.0.1.rest))) (λ _. done (Added a.0.0, a.0.1)) x a.2 in
+    let line = numbered_sound (codes "added") c a.0 a.1 in
+    subst (λ (y : Body × Cursor). IsReadBody t c y.0 y.1) {x = (Added a.0.0, a.0.1)} (ok_is (Added a.0.0, a.0.1) x b.2) (record {
+      spans = line.0;
+      printable = line.1;
+      ended = passed _ (refuse_ok _ _ b.0 b.1);
+    })
+
+answers_sound : (t : DecisionTable) (c : Cursor) (x : Body × Cursor) → answers_at t c ≡ Ok x → IsReadBody t c x.0 x.1
+unfolding answers_at
+answers_sound t c x e =
+    let a = bind_ok (body_answers t (length c.rest) c) (λ answers. done (Answers answers.0, answers.1)) x e in
+    let answers = body_sound t (length c.rest) c a.0 a.1 (omega arith) in
+    subst (λ (y : Body × Cursor). IsReadBody t c y.0 y.1) {x = (Answers a.0.0, a.0.1)} (ok_is (Answers a.0.0, a.0.1) x a.2) (record {
+      spans = answers.spans;
+      printable = answers.printable;
+      ended = answers.ended;
+    })
+
+read_body : (t : DecisionTable) (c : Cursor) (x : Body × Cursor) → body_at t c ≡ Ok x → IsReadBody t c x.0 x.1
+unfolding body_at
+read_body t c x e =
+    elim (cases_Bool (begins_added c.rest)) [
+      | inl added ↦ added_sound t c x (sym (cond-true _ _ _ added) ∙ e)
+      | inr other ↦ answers_sound t c x (sym (cond-false _ _ _ other) ∙ e)
+    ]
+
 pub block_is_text : (t : DecisionTable) (c : Cursor) (b : Block) (after : Cursor) → block_at t c ≡ Ok (b, after) → IsBlockText t c b after
 unfolding block_at block_text
 block_is_text t c b after e =
-    let made = λ (n : ℕ) (xs : List Answer × Cursor). done (record { line = n; body = Answers xs.0 }, xs.1) in
-    let a = bind_ok (numbered_line (codes "line") c) (λ line. body_answers t (length line.1.rest) line.1 >>= λ answers. made line.0 answers) (b, after) e in
-    let d = bind_ok (body_answers t (length a.0.1.rest) a.0.1) (λ answers. made a.0.0 answers) (b, after) a.2 in
+    let made = λ (n : ℕ) (body : Body × Cursor). done (record { line = n; body = body.0 }, body.1) in
+    let a = bind_ok (numbered_line (codes "line") c) (λ line. body_at t line.1 >>= λ body. made line.0 body) (b, after) e in
+    let d = bind_ok (body_at t a.0.1) (λ body. made a.0.0 body) (b, after) a.2 in
     let line = numbered_sound (codes "line") c a.0 a.1 in
-    let answers = body_sound t (length a.0.1.rest) a.0.1 d.0 d.1 (omega arith) in
-    let block : Block = record { line = a.0.0; body = Answers d.0.0 } in
-    let spans = spans_then c a.0.1 d.0.1 (numbered_text (codes "line") a.0.0) (flat_map (answer_text t) d.0.0) line.0 answers.spans in
+    let body = read_body t a.0.1 d.0 d.1 in
+    let block : Block = record { line = a.0.0; body = d.0.0 } in
+    let spans = spans_then c a.0.1 d.0.1 (numbered_text (codes "line") a.0.0) (body_text t d.0.0) line.0 body.spans in
     subst (λ (y : Block × Cursor). IsBlockText t c y.0 y.1) {x = (block, d.0.1)} (ok_is (block, d.0.1) (b, after) d.2) (record {
       text = spans.rest;
       place = spans.place;
-      printable = record { number = line.1; answers = answers.printable };
-      ended = answers.ended;
+      printable = record { number = line.1; body = body.printable };
+      ended = body.ended;
     })
 
 -- ---- the two directions as one

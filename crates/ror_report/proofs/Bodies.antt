@@ -1,5 +1,5 @@
 -- Reading one answer after the other, as the loop over a body does.
-use Rattle.std.proofs.Common.{◌≡◌, ℕ, zero, suc, ◌<◌, true, false, List, [], ◌∷◌, ◌++◌, length, Result, Ok, Err, refl, sym, ap, subst, ◌∙◌, append_assoc, arith}
+use Rattle.std.proofs.Common.{◌≡◌, ℕ, zero, suc, ◌<◌, true, false, List, [], ◌∷◌, ◌++◌, length, Result, Ok, Err, refl, sym, ap, subst, ◌∙◌, arith}
 use Rattle.std.specs.Prelude.{IfSome}
 use Rattle.std.proofs.lemmas.List.{append-nil}
 use Rattle.ror_text.specs.Reading.{◌>>=◌}
@@ -9,20 +9,22 @@ use Rattle.ror_proof.specs.declared.answer.Answer.{Answer}
 use Rattle.ror_proof.specs.declared.read.ProofFault.{ProofFault}
 use Rattle.ror_proof.specs.declared.read.ProofFault.TheVariants as answers
 use Rattle.ror_proof.specs.Cursor.{Cursor}
+use Rattle.ror_proof.specs.Reading as answer_reading
 use Rattle.ror_proof.specs.Reading.{proof_fault, answer_at}
-use Rattle.ror_proof.proofs.Loops.{with_front}
+use Rattle.ror_proof.proofs.Loops.{with_front, with_more}
 use Rattle.ror_report.specs.declared.read.ReportFault.{ReportFault}
-use Rattle.ror_report.specs.Reading.{report_fault, fault_of_answer, read_in_report, ends_body, body_answers}
-
-with_more : {X Y F : Type 0} (front : List X) (x : X) (reading : Result (List X × Y) F) → with_front front (reading >>= λ y. Ok (x ∷ y.0, y.1)) ≡ with_front (front ++ x ∷ []) reading
-with_more front x (Ok y) = ap (λ xs. Ok (xs, y.1)) (simp append_assoc)
-with_more front x (Err f) = refl
+use Rattle.ror_report.specs.Reading.{report_fault, IsPlaced, fault_of_answer, read_in_report, ends_body, body_answers}
 
 -- an answer's fault is handed on with its place
 handed_on : {A : Type 0} (e : ProofFault) (reading : Result A ProofFault) → IfSome (proof_fault e) (λ f. reading ≡ Err f) → IfSome (report_fault (fault_of_answer e)) (λ f. read_in_report reading ≡ Err f)
 handed_on (answers.BadLine at) reading h = ap read_in_report h
 handed_on (answers.BadNumber at) reading h = ap read_in_report h
 handed_on answers.Memory reading h = tt
+
+pub answer_placed : (n : ℕ) (e : ProofFault) → answer_reading.IsPlaced n e → IsPlaced n (fault_of_answer e)
+answer_placed n (answers.BadLine at) h = h
+answer_placed n (answers.BadNumber at) h = h
+answer_placed n answers.Memory h = tt
 
 pub answer_step : (t : DecisionTable) (most : ℕ) (c : Cursor) → ends_body c.rest ≡ false
     → body_answers t (suc most) c ≡ (read_in_report (answer_at t c) >>= λ first. body_answers t most first.1 >>= λ others. Ok (first.0 ∷ others.0, others.1))

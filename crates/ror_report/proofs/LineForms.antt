@@ -1,8 +1,7 @@
 -- A line of a name and a number, both ways, and how the pieces of a report begin.
-use Rattle.std.proofs.Common.{◌≡◌, ℕ, ◌+◌, ◌<◌, ◌^◌, Bool, true, false, not, eqb, List, [], ◌∷◌, ◌++◌, length, drop, Some, Result, Ok, refl, sym, ap, subst, ◌∙◌, append_assoc, arith, inl, inr, length-append}
+use Rattle.std.proofs.Common.{◌≡◌, ℕ, ◌+◌, ◌<◌, ◌^◌, Bool, true, false, not, eqb, List, [], ◌∷◌, ◌++◌, length, drop, Some, Result, Ok, refl, ap, subst, ◌∙◌, arith, inl, inr}
 use Rattle.std.specs.Prelude.{codes, slice_get}
 use Rattle.std.specs.Fmt.{decimal}
-use Rattle.std.specs.List.{flat_map}
 use Rattle.std.specs.Str.{bytes_eq}
 use Rattle.std.proofs.lemmas.Bool.{cases_Bool, and_from, ne_eqb, eqb-true}
 use Rattle.std.proofs.lemmas.Slice.Eq.{bytes_eq-Decides}
@@ -13,27 +12,16 @@ use Rattle.ror_text.proofs.NumberLemmas.{small_number_of-decimal, small_number_o
 use Rattle.ror_text.proofs.ReadingLemmas.{bind_ok, need_ok, refuse_ok}
 use Rattle.ror_table.specs.Table.{DecisionTable}
 use Rattle.ror_proof.specs.Cursor.{Cursor}
-use Rattle.ror_proof.specs.Text.{line_text, answer_text}
+use Rattle.ror_proof.specs.Text.{line_text}
 use Rattle.ror_proof.specs.Words.{line_words, next_line}
 use Rattle.ror_proof.specs.Reading.{begins_part}
 use Rattle.ror_proof.proofs.TableIds.{bytes_same}
-use Rattle.ror_proof.proofs.WordLemmas.{line_again, line_sound}
+use Rattle.ror_proof.proofs.WordLemmas.{Spans, line_again, line_spans}
 use Rattle.ror_report.specs.declared.block.Block.{Block}
 use Rattle.ror_report.specs.declared.read.ReportFault.{ReportFault}
 use Rattle.ror_report.specs.declared.read.ReportFault.TheVariants.{BadLine, BadNumber}
-use Rattle.ror_report.specs.Text.{answers_of, block_text, end_text}
-use Rattle.ror_report.specs.Reading.{numbered_line, ends_body}
-
--- the text stands between the two cursors
-pub record Spans (c : Cursor) (text : List ℕ) (after : Cursor) : Type 0 where
-  pub rest : c.rest ≡ text ++ after.rest
-  pub place : after.place ≡ c.place + length text
-
-pub spans_then : (a b c : Cursor) (x y : List ℕ) → Spans a x b → Spans b y c → Spans a (x ++ y) c
-spans_then a b c x y p q = record {
-  rest = p.rest ∙ ap (λ (r : List ℕ). x ++ r) q.rest ∙ sym (append_assoc x y c.rest);
-  place = omega (arith, p.place, q.place, length-append x y);
-}
+use Rattle.ror_report.specs.Text.{body_text, block_text, end_text}
+use Rattle.ror_report.specs.Reading.{numbered_line, begins_added, ends_body}
 
 -- ---- a line of a name and a number
 
@@ -74,15 +62,6 @@ named_words name ws first word n p same q says two =
     let number = small_number_of-sound word n says in
     (two_words ws first word p q (eqb-true _ _ (passed _ two)) ∙ ap (λ (w : List ℕ). w ∷ word ∷ []) is ∙ ap (λ (w : List ℕ). name ∷ w ∷ []) number.0, number.1)
 
--- a line that a line feed ends, and whose words are known
-line_spans : (c after : Cursor) (ws : List (List ℕ)) → line_words c ≡ ws → next_line c ≡ Some after → Spans c (line_text ws) after
-line_spans c after ws is e =
-    let sound = line_sound c after e in
-    record {
-      rest = sound.0 ∙ ap (λ (l : List (List ℕ)). line_text l ++ after.rest) is;
-      place = sound.1 ∙ ap (λ (l : List (List ℕ)). c.place + length (line_text l)) is;
-    }
-
 pub numbered_sound : (name : List ℕ) (c : Cursor) (x : ℕ × Cursor) → numbered_line name c ≡ Ok x → Spans c (numbered_text name x.0) x.1 × (x.0 < 2 ^ 32)
 unfolding numbered_line
 numbered_sound name c x e =
@@ -112,9 +91,16 @@ line_begins n = (drop 5 (numbered_text (codes "line") n), refl)
 pub block_begins : (t : DecisionTable) (b : Block) → (more : List ℕ) × (block_text t b ≡ codes "line " ++ more)
 unfolding block_text
 block_begins t b =
-    let body = flat_map (answer_text t) (answers_of b.body) in
+    let body = body_text t b.body in
     let head = line_begins b.line in
     (head.0 ++ body, ap (λ (l : List ℕ). l ++ body) head.1)
+
+added_begins : (n : ℕ) → (more : List ℕ) × (numbered_text (codes "added") n ≡ codes "added " ++ more)
+unfolding line_text
+added_begins n = (drop 6 (numbered_text (codes "added") n), refl)
+
+pub begins_added_text : (n : ℕ) (rest : List ℕ) → begins_added (numbered_text (codes "added") n ++ rest) ≡ true
+begins_added_text n rest = ap (λ (l : List ℕ). begins_added (l ++ rest)) (added_begins n).1
 
 pub end_begins : (n : ℕ) → (more : List ℕ) × (end_text n ≡ codes "end " ++ more)
 unfolding end_text line_text
@@ -139,6 +125,15 @@ ends_at_block t b rest =
 
 pub ends_at_end_text : (n : ℕ) → ends_body (end_text n) ≡ true
 ends_at_end_text n = let begins = end_begins n in ap ends_body begins.1 ∙ ends_at_end begins.0
+
+-- what ends a body is no line of an added statement
+pub ends_no_added : (rest : List ℕ) → ends_body rest ≡ true → begins_added rest ≡ false
+ends_no_added [] ends = refl
+ends_no_added (b ∷ bs) ends =
+    elim (cases_Bool (eqb 97 b)) [
+      | inl hit ↦ absurd (let no = rw (← (eqb-true 97 b hit), some_bytes 97 bs) at ends in cc)
+      | inr miss ↦ rw miss refl
+    ]
 
 -- what ends a body is no part, and no more is an answer
 pub ends_no_part : (rest : List ℕ) → ends_body rest ≡ true → begins_part rest ≡ false

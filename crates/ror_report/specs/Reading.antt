@@ -12,7 +12,8 @@ use Rattle.ror_proof.specs.declared.answer.Answer.{Answer}
 use Rattle.ror_proof.specs.declared.read.ProofFault.{ProofFault}
 use Rattle.ror_proof.specs.declared.read.ProofFault.TheVariants as answers
 use Rattle.ror_report.specs.declared.block.Block.{Block}
-use Rattle.ror_report.specs.declared.block.Body.TheVariants.{Answers}
+use Rattle.ror_report.specs.declared.block.Body.{Body}
+use Rattle.ror_report.specs.declared.block.Body.TheVariants.{Added, Answers}
 use Rattle.ror_report.specs.declared.read.ReportFault.{ReportFault}
 use Rattle.ror_report.specs.declared.read.ReportFault.TheVariants as faults
 use Rattle.ror_report.specs.Text.{header_text}
@@ -73,12 +74,32 @@ body_answers t (suc most) c = if ends_body c.rest then Ok ([], c) else (do
   others ← body_answers t most first.1
   Ok (first.0 ∷ others.0, others.1))
 
--- the line that names the session's line, and all answers: an answer has a byte at least
+abbrev pub begins_added : List ℕ → Bool
+begins_added bytes = starts_with nat_eq bytes (codes "added ")
+
+-- the line of an added statement, at whose end the body ends
+unfoldable pub added_at : Cursor → Result (Body × Cursor) ReportFault
+added_at c = do
+  number ← numbered_line (codes "added") c
+  _ ← refuse (faults.BadLine number.1.place) (not (ends_body number.1.rest))
+  Ok (Added number.0, number.1)
+
+-- all answers up to the body's end: an answer has a byte at least
+unfoldable pub answers_at : DecisionTable → Cursor → Result (Body × Cursor) ReportFault
+answers_at t c = do
+  answers ← body_answers t (length c.rest) c
+  Ok (Answers answers.0, answers.1)
+
+-- a body, by how its first line begins
+unfoldable pub body_at : DecisionTable → Cursor → Result (Body × Cursor) ReportFault
+body_at t c = if begins_added c.rest then added_at c else answers_at t c
+
+-- the line that names the session's line, and the body
 unfoldable pub block_at : DecisionTable → Cursor → Result (Block × Cursor) ReportFault
 block_at t c = do
   line ← numbered_line (codes "line") c
-  answers ← body_answers t (length line.1.rest) line.1
-  Ok (record { line = line.0; body = Answers answers.0 }, answers.1)
+  body ← body_at t line.1
+  Ok (record { line = line.0; body = body.0 }, body.1)
 
 -- the line with the number of blocks, and nothing after it
 unfoldable pub end_at : Cursor → Result ℕ ReportFault

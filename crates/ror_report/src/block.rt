@@ -4,6 +4,8 @@ use ror_text::Items;
 /// What stands in a block.
 #[derive(Debug, Drop)]
 pub enum Body {
+    /// The number that the line's statement got.
+    Added(u32),
     /// The answers to the questions of the line, in order.
     Answers(Items<Answer>),
 }

@@ -97,9 +97,61 @@ pub fn read_block(
     ensures placed { IfErr result (IsPlaced (length bytes.now)) }
 {
     let (line, next) = numbered_line(alloc, b"line".as_slice(), bytes, from)?;
-    let (answers, next) = body_answers(alloc, table, bytes, next)?;
-    let body = Body::Answers(Items::from(answers));
+    let (body, next) = body_at(alloc, table, bytes, next)?;
     Ok((Block { line, body }, next))
+}
+
+/// The body that begins at a place, and where it ends.
+#[tactic(auto, unfolding(crate::specs::Reading::body_at))]
+fn body_at(
+    alloc: Global,
+    table: &Table,
+    bytes: &[u8],
+    from: usize,
+) -> Result<(Body, usize), ReportFault>
+    requires { from ≤ length bytes.now }
+    ensures exact { Gives (λ x. (x.0, cursor_at bytes.now x.1)) report_fault result (reading.body_at table.now (cursor_at bytes.now from)) }
+    ensures onward { IfOk result (λ x. from ≤ x.1) }
+    ensures within { IfOk result (λ x. x.1 ≤ length bytes.now) }
+    ensures placed { IfErr result (IsPlaced (length bytes.now)) }
+{
+    if bytes[from..].starts_with(b"added ") {
+        added_at(alloc, bytes, from)
+    } else {
+        answers_at(alloc, table, bytes, from)
+    }
+}
+
+/// The line of an added statement, at whose end the body ends.
+#[tactic(auto, unfolding(crate::specs::Reading::added_at))]
+fn added_at(alloc: Global, bytes: &[u8], from: usize) -> Result<(Body, usize), ReportFault>
+    requires { from ≤ length bytes.now }
+    ensures exact { Gives (λ x. (x.0, cursor_at bytes.now x.1)) report_fault result (reading.added_at (cursor_at bytes.now from)) }
+    ensures onward { IfOk result (λ x. from ≤ x.1) }
+    ensures within { IfOk result (λ x. x.1 ≤ length bytes.now) }
+    ensures placed { IfErr result (IsPlaced (length bytes.now)) }
+{
+    let (number, next) = numbered_line(alloc, b"added".as_slice(), bytes, from)?;
+    refuse_if(!ends_body(bytes, next), ReportFault::BadLine(next))?;
+    Ok((Body::Added(number), next))
+}
+
+/// All answers up to the body's end.
+#[tactic(auto, unfolding(crate::specs::Reading::answers_at))]
+fn answers_at(
+    alloc: Global,
+    table: &Table,
+    bytes: &[u8],
+    from: usize,
+) -> Result<(Body, usize), ReportFault>
+    requires { from ≤ length bytes.now }
+    ensures exact { Gives (λ x. (x.0, cursor_at bytes.now x.1)) report_fault result (reading.answers_at table.now (cursor_at bytes.now from)) }
+    ensures onward { IfOk result (λ x. from ≤ x.1) }
+    ensures within { IfOk result (λ x. x.1 ≤ length bytes.now) }
+    ensures placed { IfErr result (IsPlaced (length bytes.now)) }
+{
+    let (answers, next) = body_answers(alloc, table, bytes, from)?;
+    Ok((Body::Answers(Items::from(answers)), next))
 }
 
 /// Reads the last line, from its first byte to the end of the bytes: the number of blocks that it gives.

@@ -23,8 +23,7 @@ fn a_report_is_read_piece_by_piece(rt: HostRuntime) -> Result<(), Fail> {
         .ok_or("this is a block")?;
     assert_eq!(rt; next, 92);
     assert_eq!(rt; block.line, 1);
-    let Body::Answers(answers) = block.body;
-    assert_eq!(rt; answers.len(), 1);
+    assert!(rt; matches!(&block.body, Body::Answers(answers) if answers.len() == 1));
     assert!(rt; begins_end(REPORT, 92));
     assert!(rt; !begins_end(REPORT, 13));
     assert!(rt; matches!(read_end(rt.alloc(), REPORT, 92), Ok(1)));
@@ -70,9 +69,47 @@ fn a_block_may_be_empty_and_ends_before_the_next(rt: HostRuntime) -> Result<(), 
 }
 
 #[test]
+fn an_added_statement_is_a_body_of_one_line(rt: HostRuntime) -> Result<(), Fail> {
+    let table = three_alternatives(rt.alloc())?;
+    let bodies: [(&[u8], usize); 3] = [
+        (b"line 7\nadded 1\n", 15),
+        (b"line 7\nadded 1\nline 8\nadded 2\n", 15),
+        (b"line 7\nadded 1\nend 1\n", 15),
+    ];
+    for (bytes, end) in bodies {
+        let (block, next) = read_block(rt.alloc(), &table, bytes, 0)
+            .ok()
+            .ok_or("this is a block")?;
+        assert_eq!(rt; next, end);
+        assert!(rt; matches!(block.body, Body::Added(1)));
+    }
+    let (second, end) = read_block(
+        rt.alloc(),
+        &table,
+        b"line 7\nadded 1\nline 8\nadded 2\n",
+        15,
+    )
+    .ok()
+    .ok_or("this is a block")?;
+    assert_eq!(rt; end, 30);
+    assert_eq!(rt; second.line, 8);
+    assert!(rt; matches!(second.body, Body::Added(2)));
+    Ok(())
+}
+
+#[test]
 fn the_first_faulty_line_of_a_block_decides(rt: HostRuntime) -> Result<(), Fail> {
     let table = three_alternatives(rt.alloc())?;
-    let bad_lines: [(&[u8], usize); 11] = [
+    let bad_lines: [(&[u8], usize); 17] = [
+        (b"line 1\nadded\n", 7),
+        (b"line 1\nadded 1 2\n", 7),
+        (b"line 1\nadded 1", 7),
+        (b"line 1\nadded 1\nadded 2\n", 15),
+        (b"line 1\nadded 1\nend\n", 15),
+        (
+            b"line 1\nanswer necessary a c yes\nbase solution\nadded 1\n",
+            46,
+        ),
         (b"", 0),
         (b"end 1\n", 0),
         (b"line\n", 0),
@@ -89,7 +126,8 @@ fn the_first_faulty_line_of_a_block_decides(rt: HostRuntime) -> Result<(), Fail>
         let block = read_block(rt.alloc(), &table, bytes, 0);
         assert!(rt; matches!(block, Err(ReportFault::BadLine(at)) if at == place));
     }
-    let bad_numbers: [(&[u8], usize); 5] = [
+    let bad_numbers: [(&[u8], usize); 6] = [
+        (b"line 1\nadded x 2", 7),
         (b"line x", 0),
         (b"line 01\n", 0),
         (b"line -1 2\n", 0),

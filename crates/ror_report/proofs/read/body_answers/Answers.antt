@@ -4,8 +4,7 @@ use Rattle.std.proofs.lemmas.List.{length_push}
 use Rattle.ror_proof.specs.Cursor.{cursor_at}
 use Rattle.ror_proof.proofs.Loops.{with_front}
 use Rattle.ror_report.specs.Reading.{ends_body, body_answers}
-use Rattle.ror_report.proofs.Bodies.{answers_go_on, answers_exit, answers_end, goes_on_some}
-use Rattle.ror_report.proofs.FaultPlaces.{answer_fault_placed}
+use Rattle.ror_report.proofs.Bodies.{answer_placed, answers_go_on, answers_exit, answers_end, goes_on_some}
 use Rattle.ror_report.proofs.read.body_answers.Goals as goal
 
 pub returns-in_err-answer-clause-exact : goal.returns-in_err-answer-clause-exact
@@ -22,7 +21,7 @@ returns-in_err-answer-clause-exact c =
 pub returns-in_err-answer-clause-placed : goal.returns-in_err-answer-clause-placed
 returns-in_err-answer-clause-placed c =
     let p = err_from_is_err_and c.from_residual.result c.from_residual.ensures.1 in
-    rw (p.1, p.2) (answer_fault_placed c.args.table.now c.args.bytes.now c.answers.next c.in_err-answer.field-0.0 c.answers.invariant.within c.in_err-answer.ensures.exact)
+    rw (p.1, p.2) (answer_placed (length c.args.bytes.now) c.in_err-answer.field-0.0 c.in_err-answer.ensures.placed)
 
 pub answers-preserved : goal.answers-preserved
 answers-preserved c =
