@@ -3,3 +3,4 @@ pub mod Asking
 pub mod Standing
 pub mod ReportProofs
 pub mod Utf8Proofs
+pub mod Asked

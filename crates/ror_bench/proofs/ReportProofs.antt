@@ -1,9 +1,12 @@
 -- What is left of a report, block by block, and that reading it is a function.
-use Rattle.std.proofs.Common.{◌≡◌, ◌≢◌, ℕ, zero, suc, ◌+◌, ◌<◌, ◌≤◌, ◌^◌, true, false, List, [], ◌∷◌, ◌++◌, length, drop, get_or, Some, None, Result, Ok, Err, refl, sym, ap, ◌∙◌, subst, append_assoc, zero-add, add-one, drop-cons, arith}
-use Rattle.std.specs.Prelude.{codes, IfSome}
-use Rattle.std.specs.List.{AllZip, AllByRecursion, flat_map, sum_by}
+use Rattle.std.proofs.Common.{length-set, append-nil, inl, inr, rules, ◌≡◌, ◌≢◌, ℕ, zero, suc, ◌+◌, ◌<◌, ◌≤◌, ◌^◌, true, false, List, [], ◌∷◌, ◌++◌, length, drop, get_or, Some, None, Result, Ok, Err, refl, sym, ap, ◌∙◌, subst, append_assoc, zero-add, add-one, drop-cons, arith}
+use Rattle.std.specs.Prelude.{codes, IfSome, ◌==◌, ◌⊎◌}
+use Rattle.std.proofs.lemmas.Bool.{cases_lt}
+use Rattle.std.specs.List.{AllByRecursion, flat_map, sum_by, filter}
 use Rattle.std.proofs.lemmas.List.{append_cancel_left, drop_all}
-use Rattle.std.proofs.lemmas.List.Sums.{sum_by-append}
+use Rattle.std.proofs.lemmas.List.{get_or-set_same, get_or-set_other}
+use Rattle.std.proofs.lemmas.List.Elements.{filter-append}
+use Rattle.std.proofs.lemmas.List.Sums.{sum_by-append, fold-append}
 use Rattle.ror_session.specs.declared.session.Line.{Line}
 use Rattle.ror_table.specs.Table.{DecisionTable, IsTable}
 use Rattle.ror_proof.specs.Cursor.{Cursor, cursor_at}
@@ -16,9 +19,10 @@ use Rattle.ror_report.proofs.BlockLemmas.{block_reads_back, is_read_iff_text}
 use Rattle.ror_report.proofs.ReportLemmas.{ends_at_rest, header_is_text, header_reads_back, end_is_text, end_reads_back}
 use Rattle.ror_report.proofs.LineForms.{block_begins, end_begins}
 use Rattle.ror_bench.specs.declared.bench.Passed.{Passed}
-use Rattle.ror_bench.specs.Bench.{Workbench, standing_at}
-use Rattle.ror_bench.specs.Blocks.{IsProvedBlock, answer_count, AreTrue}
-use Rattle.ror_bench.specs.Reports.{IsProvedReport, IsTrueReport, NamesADesk}
+use Rattle.ror_history.specs.History.{Revisions, statements_of}
+use Rattle.ror_bench.specs.Bench.{Workbench, revisions_at}
+use Rattle.ror_bench.specs.Blocks.{IsProvedBlock, answer_count, AreTrue, revisions_with, with_block}
+use Rattle.ror_bench.specs.Reports.{IsProvedReport, IsTrueReport, NamesADesk, EachHolds, at_desk, revisions_after, revisions_then}
 use Rattle.ror_bench.specs.Steps.{IsCheckedBlock, IsNextBlock, BeginsProved, IsRest}
 
 -- ---- reading is a function
@@ -59,101 +63,158 @@ sums : (b : Block) (bs : List Block) → sum_by answer_count (b ∷ bs) ≡ answ
 sums b bs = sum_by-append answer_count (b ∷ []) bs ∙ ap (λ n. n + sum_by answer_count bs) (zero-add (answer_count b))
 
 -- a block that holds of a line, and what is left behind it
-pub rest_with : (t : DecisionTable) (Holds : Line → Block → Type 0) (line : Line) (lines : List Line) (total : ℕ) (bytes after : List ℕ) (b : Block) (n : ℕ)
-    → bytes ≡ block_text t b ++ after → IsPrintableBlock t b → Holds line b → IsRest t Holds lines total after n → IsRest t Holds (line ∷ lines) total bytes (answer_count b + n)
-rest_with t Holds line lines total bytes after b n text printable holds rest = record {
+pub rest_with : (start : Workbench) (Holds : Revisions → Line → Block → Type 0) (before : List (Line × Block)) (line : Line) (lines : List Line) (total : ℕ) (bytes after : List ℕ) (b : Block) (n : ℕ)
+    → bytes ≡ block_text start.table b ++ after → IsPrintableBlock start.table b → Holds (revisions_then start before line.desk) line b → IsRest start Holds (before ++ (line, b) ∷ []) lines total after n → IsRest start Holds before (line ∷ lines) total bytes (answer_count b + n)
+rest_with start Holds before line lines total bytes after b n text printable holds rest = record {
   blocks = b ∷ rest.blocks;
-  text = text ∙ ap (λ (l : List ℕ). block_text t b ++ l) rest.text ∙ sym (append_assoc (block_text t b) (flat_map (block_text t) rest.blocks) (end_text total));
+  text = text ∙ ap (λ (l : List ℕ). block_text start.table b ++ l) rest.text ∙ sym (append_assoc (block_text start.table b) (flat_map (block_text start.table) rest.blocks) (end_text total));
   printable = (printable, rest.printable);
   held = (holds, rest.held);
   counted = ap (λ m. answer_count b + m) rest.counted ∙ sym (sums b rest.blocks);
 }
 
 -- the first block of what is left for a line and more
-pub record HasFirst (t : DecisionTable) (Holds : Line → Block → Type 0) (line : Line) (lines : List Line) (total : ℕ) (bytes : List ℕ) : Type 0 where
+pub record HasFirst (start : Workbench) (Holds : Revisions → Line → Block → Type 0) (before : List (Line × Block)) (line : Line) (lines : List Line) (total : ℕ) (bytes : List ℕ) : Type 0 where
   pub block : Block
   pub after : List ℕ
   pub answers : ℕ
-  pub text : bytes ≡ block_text t block ++ after
+  pub text : bytes ≡ block_text start.table block ++ after
   pub ended : ends_body after ≡ true
-  pub printable : IsPrintableBlock t block
-  pub holds : Holds line block
-  pub rest : IsRest t Holds lines total after answers
+  pub printable : IsPrintableBlock start.table block
+  pub holds : Holds (revisions_then start before line.desk) line block
+  pub rest : IsRest start Holds (before ++ (line, block) ∷ []) lines total after answers
 
-first_of_blocks : (t : DecisionTable) (Holds : Line → Block → Type 0) (line : Line) (lines : List Line) (total : ℕ) (bytes : List ℕ) (blocks : List Block)
-    → bytes ≡ flat_map (block_text t) blocks ++ end_text total → AllByRecursion (IsPrintableBlock t) blocks → AllZip Holds (line ∷ lines) blocks → HasFirst t Holds line lines total bytes
-first_of_blocks t Holds line lines total bytes [] text printable held = absurd held
-first_of_blocks t Holds line lines total bytes (b ∷ bs) text printable held = record {
+first_of_blocks : (start : Workbench) (Holds : Revisions → Line → Block → Type 0) (before : List (Line × Block)) (line : Line) (lines : List Line) (total : ℕ) (bytes : List ℕ) (blocks : List Block)
+    → bytes ≡ flat_map (block_text start.table) blocks ++ end_text total → AllByRecursion (IsPrintableBlock start.table) blocks → EachHolds Holds start before (line ∷ lines) blocks → HasFirst start Holds before line lines total bytes
+first_of_blocks start Holds before line lines total bytes [] text printable held = absurd held
+first_of_blocks start Holds before line lines total bytes (b ∷ bs) text printable held = record {
   block = b;
-  after = flat_map (block_text t) bs ++ end_text total;
+  after = flat_map (block_text start.table) bs ++ end_text total;
   answers = sum_by answer_count bs;
-  text = text ∙ append_assoc (block_text t b) (flat_map (block_text t) bs) (end_text total);
-  ended = ends_at_rest t bs total;
+  text = text ∙ append_assoc (block_text start.table b) (flat_map (block_text start.table) bs) (end_text total);
+  ended = ends_at_rest start.table bs total;
   printable = printable.0;
   holds = held.0;
   rest = record { blocks = bs; text = refl; printable = printable.1; held = held.1; counted = refl };
 }
 
-pub first_of_rest : (t : DecisionTable) (Holds : Line → Block → Type 0) (line : Line) (lines : List Line) (total : ℕ) (bytes : List ℕ) (n : ℕ) → IsRest t Holds (line ∷ lines) total bytes n → HasFirst t Holds line lines total bytes
-first_of_rest t Holds line lines total bytes n rest = first_of_blocks t Holds line lines total bytes rest.blocks rest.text rest.printable rest.held
+pub first_of_rest : (start : Workbench) (Holds : Revisions → Line → Block → Type 0) (before : List (Line × Block)) (line : Line) (lines : List Line) (total : ℕ) (bytes : List ℕ) (n : ℕ) → IsRest start Holds before (line ∷ lines) total bytes n → HasFirst start Holds before line lines total bytes
+first_of_rest start Holds before line lines total bytes n rest = first_of_blocks start Holds before line lines total bytes rest.blocks rest.text rest.printable rest.held
 
 -- where no line is left, the last line is
-last_of_blocks : (t : DecisionTable) (Holds : Line → Block → Type 0) (total : ℕ) (bytes : List ℕ) (blocks : List Block) → bytes ≡ flat_map (block_text t) blocks ++ end_text total → AllZip Holds [] blocks → bytes ≡ end_text total
-last_of_blocks t Holds total bytes [] text held = text
-last_of_blocks t Holds total bytes (b ∷ bs) text held = absurd held
+last_of_blocks : (start : Workbench) (Holds : Revisions → Line → Block → Type 0) (before : List (Line × Block)) (total : ℕ) (bytes : List ℕ) (blocks : List Block) → bytes ≡ flat_map (block_text start.table) blocks ++ end_text total → EachHolds Holds start before [] blocks → bytes ≡ end_text total
+last_of_blocks start Holds before total bytes [] text held = text
+last_of_blocks start Holds before total bytes (b ∷ bs) text held = absurd held
 
-pub last_of_rest : (t : DecisionTable) (Holds : Line → Block → Type 0) (total : ℕ) (bytes : List ℕ) (n : ℕ) → IsRest t Holds [] total bytes n → bytes ≡ end_text total
-last_of_rest t Holds total bytes n rest = last_of_blocks t Holds total bytes rest.blocks rest.text rest.held
+pub last_of_rest : (start : Workbench) (Holds : Revisions → Line → Block → Type 0) (before : List (Line × Block)) (total : ℕ) (bytes : List ℕ) (n : ℕ) → IsRest start Holds before [] total bytes n → bytes ≡ end_text total
+last_of_rest start Holds before total bytes n rest = last_of_blocks start Holds before total bytes rest.blocks rest.text rest.held
 
-pub no_rest : (t : DecisionTable) (Holds : Line → Block → Type 0) (total : ℕ) (bytes : List ℕ) → bytes ≡ end_text total → IsRest t Holds [] total bytes 0
-no_rest t Holds total bytes text = record { blocks = []; text = text; printable = tt; held = tt; counted = refl }
+pub no_rest : (start : Workbench) (Holds : Revisions → Line → Block → Type 0) (before : List (Line × Block)) (total : ℕ) (bytes : List ℕ) → bytes ≡ end_text total → IsRest start Holds before [] total bytes 0
+no_rest start Holds before total bytes text = record { blocks = []; text = text; printable = tt; held = tt; counted = refl }
+
+-- ---- what the desks hold
+
+same_number : (m n : ℕ) → m ≡ n → (m == n) ≡ true
+same_number m n e = search rules
+
+other_number : (m n : ℕ) → m ≢ n → (m == n) ≡ false
+other_number m n ne = search rules
+
+number_cases : (m n : ℕ) → (m ≡ n) ⊎ (m ≢ n)
+number_cases m n = elim (cases_lt m n) [
+  | inl less ↦ inr (λ e. omega arith)
+  | inr le ↦ elim (cases_lt n m) [ inl more ↦ inr (λ e. omega arith) | inr ge ↦ inl (omega arith) ]
+]
+
+-- one more line with its block moves its own desk on
+pub then_at_own : (start : Workbench) (before : List (Line × Block)) (line : Line) (block : Block) (desk : ℕ) → line.desk ≡ desk → revisions_then start (before ++ (line, block) ∷ []) desk ≡ revisions_with start.table (revisions_then start before desk) line.command block.body
+then_at_own start before line block desk own =
+    let t = start.table in
+    let here : filter (λ (x : Line × Block). x.0.desk == desk) ((line, block) ∷ []) ≡ (line, block) ∷ [] = rw (same_number line.desk desk own) refl in
+    let split : at_desk desk (before ++ (line, block) ∷ []) ≡ at_desk desk before ++ (line, block) ∷ [] = filter-append (λ (x : Line × Block). x.0.desk == desk) before ((line, block) ∷ []) ∙ ap (λ (l : List (Line × Block)). at_desk desk before ++ l) here in
+    ap (revisions_after t (revisions_at start desk)) split ∙ fold-append (λ (r : Revisions) (x : Line × Block). revisions_with t r x.0.command x.1.body) (revisions_at start desk) (at_desk desk before) ((line, block) ∷ [])
+
+-- and leaves the others
+pub then_at_other : (start : Workbench) (before : List (Line × Block)) (line : Line) (block : Block) (desk : ℕ) → line.desk ≢ desk → revisions_then start (before ++ (line, block) ∷ []) desk ≡ revisions_then start before desk
+then_at_other start before line block desk other =
+    let here : filter (λ (x : Line × Block). x.0.desk == desk) ((line, block) ∷ []) ≡ [] = rw (other_number line.desk desk other) refl in
+    let split : at_desk desk (before ++ (line, block) ∷ []) ≡ at_desk desk before = filter-append (λ (x : Line × Block). x.0.desk == desk) before ((line, block) ∷ []) ∙ ap (λ (l : List (Line × Block)). at_desk desk before ++ l) here ∙ append-nil (at_desk desk before) in
+    ap (revisions_after start.table (revisions_at start desk)) split
+
+-- a bench holds at each desk what the lines so far and their blocks left there
+pub record IsAfter (start : Workbench) (before : List (Line × Block)) (bench : Workbench) : Type 0 where
+  pub table : bench.table ≡ start.table
+  pub desks : length bench.state ≡ length start.state
+  pub holds : (desk : ℕ) → desk < length start.state → revisions_at bench desk ≡ revisions_then start before desk
+
+pub after_nothing : (start : Workbench) → IsAfter start [] start
+after_nothing start = record { table = refl; desks = refl; holds = λ desk within. refl }
+
+pub after_block : (start : Workbench) (before : List (Line × Block)) (bench moved : Workbench) (line : Line) (block : Block) → IsAfter start before bench → line.desk < length start.state → moved ≡ with_block bench line block → IsAfter start (before ++ (line, block) ∷ []) moved
+after_block start before bench moved line block is within moved-is =
+    subst (IsAfter start (before ++ (line, block) ∷ [])) (sym moved-is) (record {
+      table = is.table;
+      desks = length-set bench.state line.desk (revisions_with bench.table (revisions_at bench line.desk) line.command block.body) ∙ is.desks;
+      holds = λ desk inside. elim (number_cases line.desk desk) [
+        | inl own ↦
+            let set = get_or-set_same bench.state line.desk (revisions_with bench.table (revisions_at bench line.desk) line.command block.body) (record { opening = []; surviving = [] }) (let d = is.desks in omega arith) in
+            let both : revisions_with bench.table (revisions_at bench line.desk) line.command block.body ≡ revisions_with start.table (revisions_then start before line.desk) line.command block.body =
+            ap (λ (t : DecisionTable). revisions_with t (revisions_at bench line.desk) line.command block.body) is.table ∙ ap (λ (r : Revisions). revisions_with start.table r line.command block.body) (is.holds line.desk within) in
+            let at_own = then_at_own start before line block line.desk refl in
+            subst (λ (d : ℕ). revisions_at (with_block bench line block) d ≡ revisions_then start (before ++ (line, block) ∷ []) d) own (set ∙ both ∙ sym at_own)
+        | inr other ↦
+            let set = get_or-set_other bench.state line.desk desk (revisions_with bench.table (revisions_at bench line.desk) line.command block.body) (record { opening = []; surviving = [] }) (λ e. other (sym e)) in
+            set ∙ is.holds desk inside ∙ sym (then_at_other start before line block desk other)
+      ];
+    })
 
 -- ---- the loop over the lines
 
-abbrev pub Proves : Workbench → Line → Block → Type 0
-Proves bench line block = IsProvedBlock bench.table (standing_at bench line.desk) line block
-
 -- what is read from a place on completes the report, and any report that is proved goes on so
-pub record IsWay (bench : Workbench) (lines : List Line) (bytes : List ℕ) (left : List Line) (from answers : ℕ) : Type 0 where
-  pub completes : (n : ℕ) → IsRest bench.table (IsCheckedBlock bench) left (length lines) (drop from bytes) n → IsProvedReport bench lines bytes (answers + n) × IsTrueReport bench lines bytes
-  pub goes_on : (m : ℕ) → IsProvedReport bench lines bytes m → (n : ℕ) × IsRest bench.table (Proves bench) left (length lines) (drop from bytes) n
+pub record IsWay (start : Workbench) (lines : List Line) (bytes : List ℕ) (bench : Workbench) (left : List Line) (from answers : ℕ) : Type 0 where
+  pub before : List (Line × Block)
+  pub after : IsAfter start before bench
+  pub completes : (n : ℕ) → IsRest start (IsCheckedBlock start.table) before left (length lines) (drop from bytes) n → IsProvedReport start lines bytes (answers + n) × IsTrueReport start lines bytes
+  pub goes_on : (m : ℕ) → IsProvedReport start lines bytes m → (n : ℕ) × IsRest start (IsProvedBlock start.table) before left (length lines) (drop from bytes) n
 
-lengths : {A B : Type 0} (R : A → B → Type 0) (xs : List A) (ys : List B) → AllZip R xs ys → length xs ≡ length ys
-lengths R [] [] h = refl
-lengths R [] (y ∷ ys) h = absurd h
-lengths R (x ∷ xs) [] h = absurd h
-lengths R (x ∷ xs) (y ∷ ys) h = let others = lengths R xs ys h.1 in omega arith
+lengths : (Holds : Revisions → Line → Block → Type 0) (start : Workbench) (before : List (Line × Block)) (xs : List Line) (ys : List Block) → EachHolds Holds start before xs ys → length xs ≡ length ys
+lengths Holds start before [] [] h = refl
+lengths Holds start before [] (y ∷ ys) h = absurd h
+lengths Holds start before (x ∷ xs) [] h = absurd h
+lengths Holds start before (x ∷ xs) (y ∷ ys) h = let others = lengths Holds start (before ++ (x, y) ∷ []) xs ys h.1 in omega arith
 
-each : {A B : Type 0} (R S : A → B → Type 0) → ((x : A) (y : B) → R x y → S x y) → (xs : List A) (ys : List B) → AllZip R xs ys → AllZip S xs ys
-each R S f [] [] h = tt
-each R S f [] (y ∷ ys) h = h
-each R S f (x ∷ xs) [] h = h
-each R S f (x ∷ xs) (y ∷ ys) h = (f x y h.0, each R S f xs ys h.1)
+each : (R S : Revisions → Line → Block → Type 0) → ((r : Revisions) (x : Line) (y : Block) → R r x y → S r x y) → (start : Workbench) (before : List (Line × Block)) (xs : List Line) (ys : List Block) → EachHolds R start before xs ys → EachHolds S start before xs ys
+each R S f start before [] [] h = tt
+each R S f start before [] (y ∷ ys) h = h
+each R S f start before (x ∷ xs) [] h = h
+each R S f start before (x ∷ xs) (y ∷ ys) h = (f (revisions_then start before x.desk) x y h.0, each R S f start (before ++ (x, y) ∷ []) xs ys h.1)
 
-pub way_begins : (bench : Workbench) (lines : List Line) (bytes : List ℕ) (place : ℕ) → header_at bytes ≡ Some place → IsWay bench lines bytes lines place 0
-way_begins bench lines bytes place header =
-    let t = bench.table in
+pub way_begins : (start : Workbench) (lines : List Line) (bytes : List ℕ) (place : ℕ) → header_at bytes ≡ Some place → IsWay start lines bytes start lines place 0
+way_begins start lines bytes place header =
+    let t = start.table in
     let is = header_is_text bytes place header in
     record {
+      before = [];
+      after = after_nothing start;
       completes = λ n rest.
-          let as_many = lengths (IsCheckedBlock bench) lines rest.blocks rest.held in
+          let as_many = lengths (IsCheckedBlock t) start [] lines rest.blocks rest.held in
           let text : bytes ≡ report_text t rest.blocks = is.1 ∙ ap (λ (l : List ℕ). header_text ++ l) (rest.text ∙ ap (λ m. flat_map (block_text t) rest.blocks ++ end_text m) as_many) in (
             record {
               blocks = rest.blocks;
               text = text;
               printable = rest.printable;
-              proved = each (IsCheckedBlock bench) (Proves bench) (λ line block h. h.0) lines rest.blocks rest.held;
+              proved = each (IsCheckedBlock t) (IsProvedBlock t) (λ r line block h. h.0) start [] lines rest.blocks rest.held;
               counted = zero-add n ∙ rest.counted;
             },
             record {
               blocks = rest.blocks;
               text = text;
               printable = rest.printable;
-              answers_true = each (IsCheckedBlock bench) (λ line block. AreTrue t (standing_at bench line.desk) block) (λ line block h. h.1) lines rest.blocks rest.held;
+              answers_true = each (IsCheckedBlock t) (λ r line block. AreTrue t (statements_of r) block) (λ r line block h. h.1) start [] lines rest.blocks rest.held;
             },
           );
       goes_on = λ m report.
-          let as_many = lengths (Proves bench) lines report.blocks report.proved in (
+          let as_many = lengths (IsProvedBlock t) start [] lines report.blocks report.proved in (
             m,
             record {
               blocks = report.blocks;
@@ -170,58 +231,83 @@ no_header bench lines bytes n none report =
     let back = header_reads_back (flat_map (block_text bench.table) report.blocks ++ end_text (length report.blocks)) in
     absurd (let both = sym none ∙ ap header_at report.text ∙ back in cc)
 
-pub way_goes_on : (bench : Workbench) (lines : List Line) (bytes : List ℕ) (line : Line) (left : List Line) (from answers passed after : ℕ) → IsTable bench.table
-    → IsWay bench lines bytes (line ∷ left) from answers → IsNextBlock bench line bytes from passed after → IsWay bench lines bytes left after (answers + passed)
-way_goes_on bench lines bytes line left from answers passed after table way next =
-    let t = bench.table in
+-- the next block over the start's table and what its desk holds then
+record IsNextHere (start : Workbench) (before : List (Line × Block)) (line : Line) (bytes : List ℕ) (from : ℕ) (block : Block) (after : ℕ) : Type 0 where
+  pub text : drop from bytes ≡ block_text start.table block ++ drop after bytes
+  pub printable : IsPrintableBlock start.table block
+  pub checked : IsCheckedBlock start.table (revisions_then start before line.desk) line block
+
+next_here : (start : Workbench) (before : List (Line × Block)) (bench moved : Workbench) (line : Line) (bytes : List ℕ) (from passed after : ℕ) → IsAfter start before bench → line.desk < length start.state → (next : IsNextBlock bench moved line bytes from passed after) → IsNextHere start before line bytes from next.block after
+next_here start before bench moved line bytes from passed after is within next = record {
+  text = subst (λ (t : DecisionTable). drop from bytes ≡ block_text t next.block ++ drop after bytes) is.table next.text;
+  printable = subst (λ (t : DecisionTable). IsPrintableBlock t next.block) is.table next.printable;
+  checked = subst (λ (t : DecisionTable). IsCheckedBlock t (revisions_then start before line.desk) line next.block) is.table (subst (λ (r : Revisions). IsCheckedBlock bench.table r line next.block) (is.holds line.desk within) next.checked);
+}
+
+pub way_goes_on : (start : Workbench) (lines : List Line) (bytes : List ℕ) (bench moved : Workbench) (line : Line) (left : List Line) (from answers passed after : ℕ) → IsTable start.table → line.desk < length start.state
+    → IsWay start lines bytes bench (line ∷ left) from answers → IsNextBlock bench moved line bytes from passed after → IsWay start lines bytes moved left after (answers + passed)
+way_goes_on start lines bytes bench moved line left from answers passed after table within way next =
+    let t = start.table in
+    let here = next_here start way.before bench moved line bytes from passed after way.after within next in
     record {
+      before = way.before ++ (line, next.block) ∷ [];
+      after = after_block start way.before bench moved line next.block way.after within next.moved_on;
       completes = λ n rest.
-          let whole = way.completes (answer_count next.block + n) (rest_with t (IsCheckedBlock bench) line left (length lines) (drop from bytes) (drop after bytes) next.block n next.text next.printable next.checked rest) in
+          let whole = way.completes (answer_count next.block + n) (rest_with start (IsCheckedBlock t) way.before line left (length lines) (drop from bytes) (drop after bytes) next.block n here.text here.printable here.checked rest) in
           let counted = next.counted in
-          (subst (IsProvedReport bench lines bytes) {x = answers + (answer_count next.block + n)} (omega arith) whole.0, whole.1);
+          (subst (IsProvedReport start lines bytes) {x = answers + (answer_count next.block + n)} (omega arith) whole.0, whole.1);
       goes_on = λ m report.
-          let here = way.goes_on m report in
-          let first = first_of_rest t (Proves bench) line left (length lines) (drop from bytes) here.0 here.1 in
-          let same = same_block t first.block next.block (drop from bytes) first.after (drop after bytes) table first.printable next.printable first.ended next.ended first.text next.text in
-          (first.answers, subst (λ (l : List ℕ). IsRest t (Proves bench) left (length lines) l first.answers) same.1 first.rest);
+          let on = way.goes_on m report in
+          let first = first_of_rest start (IsProvedBlock t) way.before line left (length lines) (drop from bytes) on.0 on.1 in
+          let same = same_block t first.block next.block (drop from bytes) first.after (drop after bytes) table first.printable here.printable first.ended next.ended first.text here.text in
+          let rest : IsRest start (IsProvedBlock t) (way.before ++ (line, next.block) ∷ []) left (length lines) first.after first.answers = subst (λ (b : Block). IsRest start (IsProvedBlock t) (way.before ++ (line, b) ∷ []) left (length lines) first.after first.answers) same.0 first.rest in
+          (first.answers, subst (λ (l : List ℕ). IsRest start (IsProvedBlock t) (way.before ++ (line, next.block) ∷ []) left (length lines) l first.answers) same.1 rest);
     }
 
-pub way_breaks : (bench : Workbench) (lines : List Line) (bytes : List ℕ) (line : Line) (left : List Line) (from answers : ℕ) → IsWay bench lines bytes (line ∷ left) from answers
-    → (BeginsProved bench line (drop from bytes) → ⊥) → (m : ℕ) → IsProvedReport bench lines bytes m → ⊥
-way_breaks bench lines bytes line left from answers way none m report =
-    let here = way.goes_on m report in
-    let first = first_of_rest bench.table (Proves bench) line left (length lines) (drop from bytes) here.0 here.1 in
-    none (record { block = first.block; rest = first.after; text = first.text; ended = first.ended; printable = first.printable; proved = first.holds })
+pub way_breaks : (start : Workbench) (lines : List Line) (bytes : List ℕ) (bench : Workbench) (line : Line) (left : List Line) (from answers : ℕ) → line.desk < length start.state → IsWay start lines bytes bench (line ∷ left) from answers
+    → (BeginsProved bench line (drop from bytes) → ⊥) → (m : ℕ) → IsProvedReport start lines bytes m → ⊥
+way_breaks start lines bytes bench line left from answers within way none m report =
+    let on = way.goes_on m report in
+    let first = first_of_rest start (IsProvedBlock start.table) way.before line left (length lines) (drop from bytes) on.0 on.1 in
+    let same_table = sym way.after.table in
+    none (record {
+      block = first.block;
+      rest = first.after;
+      text = subst (λ (t : DecisionTable). drop from bytes ≡ block_text t first.block ++ first.after) same_table first.text;
+      ended = first.ended;
+      printable = subst (λ (t : DecisionTable). IsPrintableBlock t first.block) same_table first.printable;
+      proved = subst (λ (r : Revisions). IsProvedBlock bench.table r line first.block) (sym (way.after.holds line.desk within)) (subst (λ (t : DecisionTable). IsProvedBlock t (revisions_then start way.before line.desk) line first.block) same_table first.holds);
+    })
 
-pub way_ends : (bench : Workbench) (lines : List Line) (bytes : List ℕ) (from answers : ℕ) → IsWay bench lines bytes [] from answers → drop from bytes ≡ end_text (length lines) → IsProvedReport bench lines bytes answers × IsTrueReport bench lines bytes
-way_ends bench lines bytes from answers way text =
-    let whole = way.completes 0 (no_rest bench.table (IsCheckedBlock bench) (length lines) (drop from bytes) text) in
-    (subst (IsProvedReport bench lines bytes) {x = answers + 0} (omega arith) whole.0, whole.1)
+pub way_ends : (start : Workbench) (lines : List Line) (bytes : List ℕ) (bench : Workbench) (from answers : ℕ) → IsWay start lines bytes bench [] from answers → drop from bytes ≡ end_text (length lines) → IsProvedReport start lines bytes answers × IsTrueReport start lines bytes
+way_ends start lines bytes bench from answers way text =
+    let whole = way.completes 0 (no_rest start (IsCheckedBlock start.table) way.before (length lines) (drop from bytes) text) in
+    (subst (IsProvedReport start lines bytes) {x = answers + 0} (omega arith) whole.0, whole.1)
 
-pub way_ends_badly : (bench : Workbench) (lines : List Line) (bytes : List ℕ) (from answers : ℕ) → IsWay bench lines bytes [] from answers → (drop from bytes ≡ end_text (length lines) → ⊥) → (m : ℕ) → IsProvedReport bench lines bytes m → ⊥
-way_ends_badly bench lines bytes from answers way none m report =
-    let here = way.goes_on m report in
-    none (last_of_rest bench.table (Proves bench) (length lines) (drop from bytes) here.0 here.1)
+pub way_ends_badly : (start : Workbench) (lines : List Line) (bytes : List ℕ) (bench : Workbench) (from answers : ℕ) → IsWay start lines bytes bench [] from answers → (drop from bytes ≡ end_text (length lines) → ⊥) → (m : ℕ) → IsProvedReport start lines bytes m → ⊥
+way_ends_badly start lines bytes bench from answers way none m report =
+    let on = way.goes_on m report in
+    none (last_of_rest start (IsProvedBlock start.table) way.before (length lines) (drop from bytes) on.0 on.1)
 
 -- ---- one block and the last line
 
 -- a block that was read and is proved is the next
-pub read_next : (bench : Workbench) (line : Line) (bytes : List ℕ) (from after : ℕ) (found : Block) (t : DecisionTable) (passed : Passed) → t ≡ bench.table → IsTable bench.table
-    → block_at t (cursor_at bytes from) ≡ Ok (found, cursor_at bytes after) → IsProvedBlock bench.table (standing_at bench line.desk) line found → AreTrue bench.table (standing_at bench line.desk) found
-    → passed ≡ record { answers = answer_count found; wide = 0 } → IsNextBlock bench line bytes from passed.answers after
-read_next bench line bytes from after found t passed same table read proved is_true counted =
+pub read_next : (bench moved : Workbench) (line : Line) (bytes : List ℕ) (from after : ℕ) (found : Block) (t : DecisionTable) (passed : Passed) → t ≡ bench.table → IsTable bench.table
+    → block_at t (cursor_at bytes from) ≡ Ok (found, cursor_at bytes after) → IsProvedBlock bench.table (revisions_at bench line.desk) line found → AreTrue bench.table (statements_of (revisions_at bench line.desk)) found
+    → passed ≡ record { answers = answer_count found; wide = 0 } → moved ≡ with_block bench line found → IsNextBlock bench moved line bytes from passed.answers after
+read_next bench moved line bytes from after found t passed same table read proved is_true counted moved-is =
     let here : block_at bench.table (cursor_at bytes from) ≡ Ok (found, cursor_at bytes after) = ap (λ (u : DecisionTable). block_at u (cursor_at bytes from)) (sym same) ∙ read in
     let is = (is_read_iff_text bench.table (cursor_at bytes from) found (cursor_at bytes after) table).0 here in
-    record { block = found; text = is.text; ended = is.ended; printable = is.printable; checked = (proved, is_true); counted = ap (λ (p : Passed). p.answers) counted }
+    record { block = found; text = is.text; ended = is.ended; printable = is.printable; checked = (proved, is_true); counted = ap (λ (p : Passed). p.answers) counted; moved_on = moved-is }
 
 -- a block that was read and is not proved is in the way of each that is
 pub read_not_proved : (bench : Workbench) (line : Line) (bytes : List ℕ) (from after : ℕ) (found : Block) (t : DecisionTable) → t ≡ bench.table → IsTable bench.table
-    → block_at t (cursor_at bytes from) ≡ Ok (found, cursor_at bytes after) → (IsProvedBlock bench.table (standing_at bench line.desk) line found → ⊥) → BeginsProved bench line (drop from bytes) → ⊥
+    → block_at t (cursor_at bytes from) ≡ Ok (found, cursor_at bytes after) → (IsProvedBlock bench.table (revisions_at bench line.desk) line found → ⊥) → BeginsProved bench line (drop from bytes) → ⊥
 read_not_proved bench line bytes from after found t same table read none begins =
     let here : block_at bench.table (cursor_at bytes from) ≡ Ok (found, cursor_at bytes after) = ap (λ (u : DecisionTable). block_at u (cursor_at bytes from)) (sym same) ∙ read in
     let is = (is_read_iff_text bench.table (cursor_at bytes from) found (cursor_at bytes after) table).0 here in
     let one = same_block bench.table begins.block found (drop from bytes) begins.rest (drop after bytes) table begins.printable is.printable begins.ended is.ended begins.text is.text in
-    none (subst (IsProvedBlock bench.table (standing_at bench line.desk) line) one.0 begins.proved)
+    none (subst (IsProvedBlock bench.table (revisions_at bench line.desk) line) one.0 begins.proved)
 
 -- what has a fault of its form is not read
 unread : {A : Type 0} (r : Result A ReportFault) (fault : ReportFault) (x : A) → IfSome (report_fault fault) (λ f. r ≡ Err f) → fault ≢ forms.Memory → r ≡ Ok x → ⊥
@@ -261,13 +347,13 @@ desk_at desks (x ∷ xs) zero line named within is = subst (NamesADesk desks) (s
 desk_at desks (x ∷ xs) (suc i) line named within is = desk_at desks xs i line named.1 (omega arith) is
 
 -- the next of the lines that are left
-pub way_at : (bench : Workbench) (lines : List Line) (bytes : List ℕ) (i : ℕ) (line : Line) (from answers : ℕ) → i < length lines → line ≡ get_or lines i line
-    → IsWay bench lines bytes (drop i lines) from answers → IsWay bench lines bytes (line ∷ drop (i + 1) lines) from answers
-way_at bench lines bytes i line from answers within is way =
+pub way_at : (start : Workbench) (lines : List Line) (bytes : List ℕ) (bench : Workbench) (i : ℕ) (line : Line) (from answers : ℕ) → i < length lines → line ≡ get_or lines i line
+    → IsWay start lines bytes bench (drop i lines) from answers → IsWay start lines bytes bench (line ∷ drop (i + 1) lines) from answers
+way_at start lines bytes bench i line from answers within is way =
     let e : drop i lines ≡ line ∷ drop (i + 1) lines = rw add-one (drop-cons lines i line within ∙ ap (λ (x : Line). x ∷ drop (suc i) lines) (sym is)) in
-    subst (λ (left : List Line). IsWay bench lines bytes left from answers) e way
+    subst (λ (left : List Line). IsWay start lines bytes bench left from answers) e way
 
 -- none of the lines is left
-pub way_over : (bench : Workbench) (lines : List Line) (bytes : List ℕ) (i from answers : ℕ) → length lines ≤ i → IsWay bench lines bytes (drop i lines) from answers → IsWay bench lines bytes [] from answers
-way_over bench lines bytes i from answers past way =
-    subst (λ (left : List Line). IsWay bench lines bytes left from answers) (drop_all i lines past) way
+pub way_over : (start : Workbench) (lines : List Line) (bytes : List ℕ) (bench : Workbench) (i from answers : ℕ) → length lines ≤ i → IsWay start lines bytes bench (drop i lines) from answers → IsWay start lines bytes bench [] from answers
+way_over start lines bytes bench i from answers past way =
+    subst (λ (left : List Line). IsWay start lines bytes bench left from answers) (drop_all i lines past) way

@@ -1,33 +1,79 @@
 -- What stands at a desk.
-use Rattle.std.proofs.Common.{◌≡◌, ◌≢◌, ℕ, ◌<◌, List, length, Result, Ok, Err, replicate, sym, ap, subst, arith}
-use Rattle.std.specs.Prelude.{[], IfErr}
-use Rattle.std.proofs.lemmas.List.{get_or-replicate, length-replicate}
+use Rattle.std.proofs.Common.{◌≡◌, ℕ, zero, suc, replicate, ◌<◌, List, [], ◌∷◌, ◌++◌, length, map, get_or, Some, sym, ap, subst, ◌∙◌, arith}
+use Rattle.std.specs.Prelude.{slice_set}
+use Rattle.std.specs.List.{AllByRecursion}
+use Rattle.std.proofs.lemmas.List.{length-map, map-append, length-append, set-get_or, get_or-map, map-set}
+use Rattle.std.proofs.Math.Seq.{map-set_same}
 use Rattle.ror_statement.specs.declared.statement.Statement.{Statement}
+use Rattle.ror_statement.specs.declared.statement.Numbered.{Numbered}
+use Rattle.ror_statement.specs.Statement.{IsLawful, IsValid}
 use Rattle.ror_table.specs.Table.{DecisionTable}
-use Rattle.ror_session.specs.declared.session.Line.{Line}
-use Rattle.ror_report.specs.declared.block.Block.{Block}
-use Rattle.ror_bench.specs.declared.bench.BlockFault.{BlockFault}
-use Rattle.ror_bench.specs.declared.bench.BlockFault.TheVariants as faults
-use Rattle.ror_bench.specs.declared.bench.Passed.{Passed}
-use Rattle.ror_bench.specs.Bench.{Desk, Workbench, standing_at}
-use Rattle.ror_bench.specs.Blocks.{IsProvedBlock, IsBlockRefusedBy}
-use Rattle.ror_bench.proofs.Refusals.{refused_not_proved}
+use Rattle.ror_session.specs.declared.session.Command.TheVariants.{State, Ask}
+use Rattle.ror_session.specs.declared.session.Named.{Named}
+use Rattle.ror_session.specs.declared.session.Asked.{Asked}
+use Rattle.ror_proof.specs.declared.answer.Answer.{Answer}
+use Rattle.ror_report.specs.declared.block.Body.TheVariants.{Added, Answers}
+use Rattle.ror_history.specs.History.{Revisions, HistoryView, addition, standing, statements_of, with_revision}
+use Rattle.ror_history.specs.Faults.{CanBeAdded}
+use Rattle.ror_history.proofs.HistoryLemmas.{numbered_from-statements}
+use Rattle.ror_history.proofs.TurnLemmas.{standing-more}
+use Rattle.ror_bench.specs.Bench.{Workbench}
+use Rattle.ror_bench.specs.Blocks.{statement_of, with_statement, with_body}
 
-abbrev pub bench_over : DecisionTable → List Statement → ℕ → Workbench
-bench_over t list desks = record { table = t; state = replicate desks (record { opening = list }) }
+pub statements-added : (r : Revisions) (n : ℕ) (s : Statement) → statements_of (with_revision r (addition n s)) ≡ statements_of r ++ s ∷ []
+statements-added r n s = ap (map (λ (x : Numbered). x.statement)) (standing-more r.opening r.surviving (addition n s)) ∙ map-append (λ (x : Numbered). x.statement) (standing r) (record { number = n; statement = s } ∷ [])
 
-stands_over : (t : DecisionTable) (list : List Statement) (n desk : ℕ) → desk < length (bench_over t list n).state → standing_at (bench_over t list n) desk ≡ list
-stands_over t list n desk there =
-    let d : Desk = record { opening = list } in
-    let none : Desk = record { opening = [] } in
-    let within : desk < n = omega (arith, length-replicate n d) in
-    ap (λ (x : Desk). x.opening) (get_or-replicate n desk d none within)
+all-append : {X : Type 0} (P : X → Type 0) (xs : List X) (x : X) → AllByRecursion P xs → P x → AllByRecursion P (xs ++ x ∷ [])
+all-append P [] x h own = (own, tt)
+all-append P (y ∷ ys) x h own = (h.0, all-append P ys x h.1 own)
 
--- what holds of the one list of a bench holds at each desk
-pub at_desk : (P : DecisionTable → List Statement → Type 0) (t : DecisionTable) (list : List Statement) (n desk : ℕ) (bench : Workbench) → bench_over t list n ≡ bench → desk < length bench.state → P t list → P bench.table (standing_at bench desk)
-at_desk P t list n desk bench is there h =
-    subst (λ (b : Workbench). desk < length b.state → P b.table (standing_at b desk)) is (λ within. subst (P t) (sym (stands_over t list n desk within)) h) there
+stand : (r : Revisions) → length (statements_of r) ≡ length (standing r)
+stand r = simp length-map
 
-pub none_proved : (t : DecisionTable) (list : List Statement) (line : Line) (block : Block) (r : Result Passed BlockFault) → IfErr r (IsBlockRefusedBy t list line block) → IfErr r (λ e. e ≢ faults.Memory → IsProvedBlock t list line block → ⊥)
-none_proved t list line block (Ok x) h = tt
-none_proved t list line block (Err e) h = refused_not_proved t list line block e h
+-- with a statement that can be added a list stays lawful
+pub added-lawful : (alternatives : ℕ) (r : Revisions) (n : ℕ) (s : Statement) → IsLawful alternatives (statements_of r) → IsValid alternatives s → CanBeAdded r s → IsLawful alternatives (statements_of (with_revision r (addition n s)))
+added-lawful alternatives r n s lawful valid can =
+    subst (IsLawful alternatives) (sym (statements-added r n s)) (record {
+      few = let few = can.few in omega (arith, length-append (statements_of r) (s ∷ []), stand r);
+      rows = can.rows;
+      each_valid = all-append (IsValid alternatives) (statements_of r) s lawful.each_valid valid;
+    })
+
+abbrev pub bench_with : DecisionTable → List Revisions → Workbench
+bench_with t state = record { table = t; state = state }
+
+-- histories that begin with a lawful list hold lawful lists
+pub all-begin : (alternatives : ℕ) (opening : List Statement) (views : List HistoryView) (count : ℕ) → map (λ (h : HistoryView). h.state) views ≡ replicate count (record { opening = opening; surviving = [] }) → IsLawful alternatives opening → AllByRecursion (λ (h : HistoryView). IsLawful alternatives (statements_of h.state)) views
+all-begin alternatives opening [] count e lawful = tt
+all-begin alternatives opening (h ∷ hs) zero e lawful = absurd cc
+all-begin alternatives opening (h ∷ hs) (suc count) e lawful =
+    let first : h.state ≡ record { opening = opening; surviving = [] } = cc in
+    let others : map (λ (h : HistoryView). h.state) hs ≡ replicate count (record { opening = opening; surviving = [] }) = cc in
+    (subst (λ (r : Revisions). IsLawful alternatives (statements_of r)) (sym first) (subst (IsLawful alternatives) (sym (numbered_from-statements 1 opening)) lawful), all-begin alternatives opening hs count others lawful)
+
+-- a history that is changed at its place changes the desk there
+pub history-set : (views : List HistoryView) (desk : ℕ) (old new : HistoryView) (r : Revisions) → desk < length views → old ≡ get_or views desk old → (old.state ≡ get_or (map (λ (h : HistoryView). h.state) views) desk r) × (map (λ (h : HistoryView). h.state) (slice_set views desk new) ≡ slice_set (map (λ (h : HistoryView). h.state) views) desk new.state)
+history-set views desk old new r within is = (ap (λ (h : HistoryView). h.state) is ∙ sym (get_or-map (λ (h : HistoryView). h.state) views desk old r within), map-set (λ (h : HistoryView). h.state) views desk new)
+
+states-count : (views : List HistoryView) → length (map (λ (h : HistoryView). h.state) views) ≡ length views
+states-count views = simp length-map
+
+pub added-moves : (t : DecisionTable) (views : List HistoryView) (desk n : ℕ) (named : Named) (s : Statement) (old new : HistoryView) → desk < length (map (λ (h : HistoryView). h.state) views) → old ≡ get_or views desk old → statement_of t named ≡ Some s → new.state ≡ with_revision old.state (addition n s)
+    → record { table = t; state = map (λ (h : HistoryView). h.state) (slice_set views desk new) } ≡ with_body (record { table = t; state = map (λ (h : HistoryView). h.state) views }) desk (State named) (Added n)
+added-moves t views desk n named s old new within is stated added =
+    let inside : desk < length views = (let n = states-count views in omega arith) in
+    let e = history-set views desk old new (record { opening = []; surviving = [] }) inside is in
+    let own : with_revision old.state (addition n s) ≡ with_statement (get_or (map (λ (h : HistoryView). h.state) views) desk (record { opening = []; surviving = [] })) n (statement_of t named) =
+    ap (λ (r : Revisions). with_revision r (addition n s)) e.0 ∙ ap (with_statement (get_or (map (λ (h : HistoryView). h.state) views) desk (record { opening = []; surviving = [] })) n) (sym stated) in
+    ap (λ (state : List Revisions). record { table = t; state = state }) (e.1 ∙ ap (slice_set (map (λ (h : HistoryView). h.state) views) desk) (added ∙ own))
+
+pub unchanged-stays : (t : DecisionTable) (views : List HistoryView) (desk : ℕ) (old new : HistoryView) → old ≡ get_or views desk old → new.state ≡ old.state
+    → bench_with t (map (λ (h : HistoryView). h.state) (slice_set views desk new)) ≡ bench_with t (map (λ (h : HistoryView). h.state) views)
+unchanged-stays t views desk old new is same =
+    let here : new.state ≡ (get_or views desk old).state = same ∙ ap (λ (h : HistoryView). h.state) is in
+    let all : map (λ (h : HistoryView). h.state) (slice_set views desk new) ≡ map (λ (h : HistoryView). h.state) views = map-set_same (λ (h : HistoryView). h.state) views desk new old here in
+    ap (bench_with t) all
+
+-- where nothing is added, what is written at the desk is what is there
+pub asked-stays : (bench : Workbench) (desk : ℕ) (asked : Asked) (answers : List Answer) → with_body bench desk (Ask asked) (Answers answers) ≡ bench
+asked-stays bench desk asked answers = ap (λ (state : List Revisions). record { table = bench.table; state = state }) (set-get_or bench.state desk (record { opening = []; surviving = [] }))

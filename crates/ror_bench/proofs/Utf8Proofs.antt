@@ -1,12 +1,12 @@
 -- A report that is proved is UTF-8.
-use Rattle.std.proofs.Common.{◌≡◌, ℕ, ◌+◌, ◌<◌, ◌≤◌, ◌^◌, List, [], ◌∷◌, ◌++◌, length, sym, subst, ap, ◌∙◌, arith, length-append}
+use Rattle.std.proofs.Common.{ℕ, ◌<◌, ◌≤◌, ◌^◌, List, [], ◌∷◌, ◌++◌, length, sym, subst, ap, arith, length-append}
 use Rattle.std.specs.Prelude.{codes}
 use Rattle.std.specs.List.{flat_map}
 use Rattle.std.specs.Str.{IsUtf8}
 use Rattle.ror_table.specs.Table.{DecisionTable, IsTable}
 use Rattle.ror_session.specs.declared.session.Line.{Line}
 use Rattle.ror_report.specs.declared.block.Block.{Block}
-use Rattle.ror_report.specs.Text.{block_text, header_text, end_text, report_text}
+use Rattle.ror_report.specs.Text.{block_text, header_text, end_text}
 use Rattle.ror_report.proofs.LineForms.{block_begins}
 use Rattle.ror_report.proofs.Utf8Lemmas.{report_text_is_utf8}
 use Rattle.ror_bench.specs.Bench.{Workbench}

@@ -1,22 +1,19 @@
 -- A workbench: a table, and what each desk holds.
 use Rattle.std.specs.Prelude.{ℕ, List, [], replicate, slice_index_or}
-use Rattle.ror_statement.specs.declared.statement.Statement.{Statement}
 use Rattle.ror_table.specs.Table.{DecisionTable}
 use Rattle.ror_value.specs.declared.input.Input.{Input}
+use Rattle.ror_history.specs.History.{Revisions}
 
--- what a desk holds: the statements that it began with
-pub record Desk : Type 0 where
-  pub opening : List Statement
-
--- a table that no line changes, and the state of the desks
+-- a table that no line changes, and the state of the desks: the statements that each began with and its surviving
+-- revisions
 pub record Workbench : Type 0 where
   pub table : DecisionTable
-  pub state : List Desk
+  pub state : List Revisions
 
 -- the desks of an input: each begins with its opening statements
 abbrev pub bench_of : Input → ℕ → Workbench
-bench_of input desks = record { table = input.table; state = replicate desks (record { opening = input.opening }) }
+bench_of input desks = record { table = input.table; state = replicate desks (record { opening = input.opening; surviving = [] }) }
 
--- the statements that stand at a desk
-abbrev pub standing_at : Workbench → ℕ → List Statement
-standing_at bench desk = (slice_index_or bench.state desk (record { opening = [] })).opening
+-- what a desk holds
+abbrev pub revisions_at : Workbench → ℕ → Revisions
+revisions_at bench desk = slice_index_or bench.state desk (record { opening = []; surviving = [] })

@@ -1,25 +1,31 @@
 -- What each step of a check leaves to the next: the answers that passed, the block that was read, and what is left.
 use Rattle.std.specs.Prelude.{◌≡◌, ℕ, ◌+◌, ◌<◌, true, List, ◌++◌, drop, map, slice_get, Some}
-use Rattle.std.specs.List.{AllZip, AllByRecursion, flat_map, sum_by}
+use Rattle.std.specs.List.{AllByRecursion, flat_map, sum_by}
 use Rattle.ror_statement.specs.declared.statement.Statement.{Statement}
 use Rattle.ror_statement.specs.Statement.{IsValidQuestion}
 use Rattle.ror_table.specs.Table.{DecisionTable}
 use Rattle.ror_session.specs.declared.session.Line.{Line}
+use Rattle.ror_session.specs.declared.session.Command.TheVariants.{State}
+use Rattle.ror_session.specs.declared.session.Named.{Named}
+use Rattle.ror_session.specs.declared.session.Asked.{Asked}
+use Rattle.ror_history.specs.History.{Revisions, statements_of}
 use Rattle.ror_proof.specs.declared.answer.Answer.{Answer}
 use Rattle.ror_check.specs.declared.fault.CheckFault.{CheckFault}
 use Rattle.ror_check.specs.declared.fault.CheckFault.TheVariants as checks
 use Rattle.ror_check.specs.Proof.{IsProvedAnswer}
 use Rattle.ror_report.specs.declared.block.Block.{Block}
+use Rattle.ror_report.specs.declared.block.Body.TheVariants.{Added}
 use Rattle.ror_report.specs.Text.{block_text, end_text, IsPrintableBlock}
 use Rattle.ror_report.specs.Reading.{ends_body}
 use Rattle.ror_bench.specs.declared.bench.BlockFault.{BlockFault}
 use Rattle.ror_bench.specs.declared.bench.BlockFault.TheVariants as faults
-use Rattle.ror_bench.specs.Bench.{Workbench, standing_at}
-use Rattle.ror_bench.specs.Blocks.{IsProvedBlock, AreTrue, FailsAnswerAt, answer_count, questions_of}
+use Rattle.ror_bench.specs.Bench.{Workbench, revisions_at}
+use Rattle.ror_bench.specs.Blocks.{IsProvedBlock, IsOfCommand, AreTrue, FailsAnswerAt, answer_count, questions_of, with_block}
+use Rattle.ror_bench.specs.Reports.{EachHolds}
 
--- a block of this number and with these answers is for the line: its number, and its questions in order
-abbrev pub IsForLine : DecisionTable → Line → ℕ → List Answer → Type 0
-IsForLine t line number answers = (number ≡ line.number) × (questions_of t line.command ≡ Some (map (λ x. x.question) answers))
+-- the answers are to what is asked, in order
+abbrev pub AreAsked : DecisionTable → Asked → List Answer → Type 0
+AreAsked t asked answers = questions_of t asked ≡ Some (map (λ x. x.question) answers)
 
 -- each answer before the place is proved, to the question that it names
 abbrev pub AreProvedBefore : DecisionTable → List Statement → List Answer → ℕ → Type 0
@@ -44,18 +50,32 @@ RefusesAnswers t list answers faults.WrongBlock = ⊥
 RefusesAnswers t list answers (faults.Answer k fault) = FailsAnswerAt t list answers k fault × ((before : ℕ) → k ≡ before + 1 → AreProvedBefore t list answers before)
 RefusesAnswers t list answers faults.Memory = Unit {0}
 
--- the block is proved for the line, and so each answer is true
-abbrev pub IsCheckedBlock : Workbench → Line → Block → Type 0
-IsCheckedBlock bench line block = IsProvedBlock bench.table (standing_at bench line.desk) line block × AreTrue bench.table (standing_at bench line.desk) block
+-- the answers are not to what is asked, or one is refused, those before it being proved; or memory ran out
+abbrev pub RefusesAsked : DecisionTable → List Statement → Asked → List Answer → BlockFault → Type 0
+RefusesAsked t list asked answers faults.WrongBlock = AreAsked t asked answers → ⊥
+RefusesAsked t list asked answers (faults.Answer k fault) = AreAsked t asked answers × RefusesAnswers t list answers (faults.Answer k fault)
+RefusesAsked t list asked answers faults.Memory = Unit {0}
 
--- a block of the line stands at the place and ends at the other, and it is proved with so many answers
-pub record IsNextBlock (bench : Workbench) (line : Line) (bytes : List ℕ) (from : ℕ) (answers after : ℕ) : Type 0 where
+-- the statement can't be added with this number; or memory ran out
+abbrev pub RefusesAdded : DecisionTable → Revisions → Named → ℕ → BlockFault → Type 0
+RefusesAdded t r named n faults.WrongBlock = IsOfCommand t r (State named) (Added n) → ⊥
+RefusesAdded t r named n (faults.Answer k fault) = ⊥
+RefusesAdded t r named n faults.Memory = Unit {0}
+
+-- the block is proved for the line over what its desk holds, and so each answer is true
+abbrev pub IsCheckedBlock : DecisionTable → Revisions → Line → Block → Type 0
+IsCheckedBlock t r line block = IsProvedBlock t r line block × AreTrue t (statements_of r) block
+
+-- a block of the line stands at the place and ends at the other, it is proved with so many answers, and the bench is moved
+-- on by it
+pub record IsNextBlock (bench moved : Workbench) (line : Line) (bytes : List ℕ) (from : ℕ) (answers after : ℕ) : Type 0 where
   pub block : Block
   pub text : drop from bytes ≡ block_text bench.table block ++ drop after bytes
   pub ended : ends_body (drop after bytes) ≡ true
   pub printable : IsPrintableBlock bench.table block
-  pub checked : IsCheckedBlock bench line block
+  pub checked : IsCheckedBlock bench.table (revisions_at bench line.desk) line block
   pub counted : answers ≡ answer_count block
+  pub moved_on : moved ≡ with_block bench line block
 
 -- the bytes begin with a block that is proved for the line
 pub record BeginsProved (bench : Workbench) (line : Line) (bytes : List ℕ) : Type 0 where
@@ -64,12 +84,13 @@ pub record BeginsProved (bench : Workbench) (line : Line) (bytes : List ℕ) : T
   pub text : bytes ≡ block_text bench.table block ++ rest
   pub ended : ends_body rest ≡ true
   pub printable : IsPrintableBlock bench.table block
-  pub proved : IsProvedBlock bench.table (standing_at bench line.desk) line block
+  pub proved : IsProvedBlock bench.table (revisions_at bench line.desk) line block
 
--- the bytes are the texts of blocks that hold of the lines, and the last line of a report of so many blocks
-pub record IsRest (t : DecisionTable) (Holds : Line → Block → Type 0) (lines : List Line) (total : ℕ) (bytes : List ℕ) (answers : ℕ) : Type 0 where
+-- the bytes are the texts of blocks that hold of the lines, after those before, and the last line of a report of so many
+-- blocks
+pub record IsRest (start : Workbench) (Holds : Revisions → Line → Block → Type 0) (before : List (Line × Block)) (lines : List Line) (total : ℕ) (bytes : List ℕ) (answers : ℕ) : Type 0 where
   pub blocks : List Block
-  pub text : bytes ≡ flat_map (block_text t) blocks ++ end_text total
-  pub printable : AllByRecursion (IsPrintableBlock t) blocks
-  pub held : AllZip Holds lines blocks
+  pub text : bytes ≡ flat_map (block_text start.table) blocks ++ end_text total
+  pub printable : AllByRecursion (IsPrintableBlock start.table) blocks
+  pub held : EachHolds Holds start before lines blocks
   pub counted : answers ≡ sum_by answer_count blocks

@@ -1,25 +1,28 @@
 //! The desks of a session over one table, and the check of a block.
 
-ghost use Rattle.std.specs.Prelude.{◌≡◌, ◌≢◌, ◌<◌, ◌≤◌, ◌^◌, ◌-◌, length, map, OnOk, IfOk, IfErr, IfSome, replicate, ◌↔◌, IsTrue};
+ghost use Rattle.std.specs.Prelude.{◌≡◌, ◌≢◌, ◌<◌, ◌≤◌, ◌^◌, ◌-◌, length, map, [], replicate, OnOk, IfOk, IfErr, IfSome, ◌↔◌, IsTrue};
 ghost use Rattle.std.specs.List.{AllByRecursion};
 ghost use Rattle.std.specs.Option.{option_map};
-ghost use Rattle.ror_statement.specs.Statement.{IsLawful, IsValidQuestion};
+ghost use Rattle.ror_statement.specs.Statement.{row_count, IsLawful, IsValid, IsValidQuestion};
+ghost use Rattle.ror_history.specs.History.{statements_of};
 ghost use Rattle.ror_proof.specs.Reading as reading;
-ghost use Rattle.ror_report.specs.Text as text;
-ghost use Rattle.ror_bench.specs.Bench.{Workbench, standing_at, bench_of};
+ghost use Rattle.ror_session.specs.declared.session.Command.TheVariants.{State};
+ghost use Rattle.ror_report.specs.declared.block.Body.TheVariants.{Added};
+ghost use Rattle.ror_bench.specs.Bench.{Workbench, revisions_at, bench_of};
 ghost use Rattle.ror_bench.specs.Blocks as blocks;
-ghost use Rattle.ror_bench.specs.Blocks.{IsProvedBlock, answer_count, AreTrue, IsBlockRefusedBy};
+ghost use Rattle.ror_bench.specs.Blocks.{IsProvedBlock, IsOfCommand, answer_count, AreTrue, IsBlockRefusedBy, with_body, with_block};
 ghost use Rattle.ror_bench.specs.Steps as steps;
-ghost use Rattle.ror_bench.specs.Steps.{IsForLine, AreProvedBefore, AreOfTheTable, RefusesAnswers};
+ghost use Rattle.ror_bench.specs.Steps.{AreAsked, AreProvedBefore, AreOfTheTable, RefusesAnswers, RefusesAsked, RefusesAdded};
 ghost use Rattle.ror_bench.specs.declared.bench.BlockFault.TheVariants.{Memory};
 
 use ror_check::{CheckFault, check_answer};
+use ror_history::{History, HistoryFault};
 use ror_proof::Answer;
 use ror_report::{Block, Body};
-use ror_session::{Asked, Command, Line};
-use ror_statement::{Question, Statement};
+use ror_session::{Asked, Command, Line, Named};
+use ror_statement::{Numbered, Question, Statement};
 use ror_table::Table;
-use ror_text::{Items, Text};
+use ror_text::Text;
 use ror_value::Input;
 use std::alloc::{AllocError, AllocFailed, Global};
 use std::marker::Model;
@@ -35,7 +38,8 @@ pub struct Passed {
 /// Why a block is not the one of its line.
 #[derive(Debug, Drop, Error)]
 pub enum BlockFault {
-    /// Not the line's number, or not its list of questions.
+    /// Not the line's number, not a body of its command's form, not the number that its statement gets, or not its list of
+    /// questions.
     #[error("wrong block")]
     WrongBlock,
     /// The first answer that is not accepted, counted from 1, and why.
@@ -66,20 +70,21 @@ impl<T: Drop> From<AllocFailed<T>> for BlockFault {
 pub struct Bench {
     alloc: Global,
     table: Table,
-    opening: Items<Statement>,
-    desks: u32,
+    desks: Vec<History>,
 }
 
 impl Model for Bench {
-    ghost use Rattle.std.specs.Prelude.{replicate, length};
+    ghost use Rattle.std.specs.Prelude.{map, length};
+    ghost use Rattle.std.specs.List.{AllByRecursion};
     ghost use Rattle.ror_statement.specs.Statement.{IsLawful};
+    ghost use Rattle.ror_history.specs.History.{statements_of};
     ghost use Rattle.ror_bench.specs.Bench.{Workbench};
 
     ghost Value = { Workbench };
 
-    ghost view = { λ b. record { table = b.table; state = replicate b.desks (record { opening = b.opening }) } };
+    ghost view = { λ b. record { table = b.table; state = map (λ h. h.state) b.desks.items } };
 
-    ghost invariant = { λ b. IsLawful (length b.table.alternatives) b.opening };
+    ghost invariant = { λ b. AllByRecursion (λ h. IsLawful (length b.table.alternatives) (statements_of h.state)) b.desks.items };
 }
 
 impl Bench {
@@ -89,10 +94,11 @@ impl Bench {
         requires lawful { IsLawful (length input.table.alternatives) input.opening }
         ensures { IfOk result (λ bench. bench ≡ bench_of input desks) }
     {
+        let Input { table, opening } = input;
+        let desks = histories(alloc, opening.as_slice(), desks)?;
         Ok(Bench {
             alloc,
-            table: input.table,
-            opening: input.opening,
+            table,
             desks,
         })
     }
@@ -104,88 +110,166 @@ impl Bench {
         &self.table
     }
 
-    /// Whether the block is proved for the line; nothing changes at any desk.
+    /// Whether the block is proved for the line, over what stands at its desk. The desk then holds the line's statement
+    /// with the block's number besides; no other desk changes, and a block that is refused changes none.
+    ///
+    /// # Errors
+    ///
+    /// `WrongBlock`, and then the first answer that is not accepted.
     pub fn check_line(&mut self, line: &Line, block: &Block) -> Result<Passed, BlockFault>
         requires { line.now.desk < length self.old.state }
-        ensures accepted { OnOk result (IsProvedBlock self.old.table (standing_at self.old line.now.desk) line.now block.now) }
+        ensures accepted { OnOk result (IsProvedBlock self.old.table (revisions_at self.old line.now.desk) line.now block.now) }
         ensures counted { IfOk result (λ passed. passed ≡ record { answers = answer_count block.now; wide = 0 }) }
-        ensures true_answers { OnOk result (AreTrue self.old.table (standing_at self.old line.now.desk) block.now) }
-        ensures not_proved { IfErr result (λ e. e ≢ BlockFault.Memory → IsProvedBlock self.old.table (standing_at self.old line.now.desk) line.now block.now → ⊥) }
-        ensures refused { IfErr result (IsBlockRefusedBy self.old.table (standing_at self.old line.now.desk) line.now block.now) }
-        ensures kept { self.new ≡ self.old }
+        ensures true_answers { OnOk result (AreTrue self.old.table (statements_of (revisions_at self.old line.now.desk)) block.now) }
+        ensures not_proved { IfErr result (λ e. e ≢ BlockFault.Memory → IsProvedBlock self.old.table (revisions_at self.old line.now.desk) line.now block.now → ⊥) }
+        ensures refused { IfErr result (IsBlockRefusedBy self.old.table (revisions_at self.old line.now.desk) line.now block.now) }
+        ensures moved { OnOk result (self.new ≡ with_block self.old line.now block.now) }
+        ensures kept { IfErr result (λ _. self.new ≡ self.old) }
     {
-        let list = self.opening.as_slice();
-        check_block(self.alloc, &self.table, list, line, block)
+        if block.line != line.number {
+            return Err(BlockFault::WrongBlock);
+        }
+        match (&line.command, &block.body) {
+            (Command::State(named), Body::Added(number)) => self.check_added(
+                line.desk, named, *number,
+            ),
+            (Command::Ask(asked), Body::Answers(answers)) => self.check_asked(
+                line.desk,
+                asked,
+                answers.as_slice(),
+            ),
+            _ => Err(BlockFault::WrongBlock),
+        }
+    }
+
+    /// Whether the statement can be added at the desk, with this number; it then stands there.
+    fn check_added(&mut self, desk: u32, named: &Named, number: u32) -> Result<Passed, BlockFault>
+        requires { desk < length self.old.state }
+        ensures of_command { OnOk result (IsOfCommand self.old.table (revisions_at self.old desk) (State named.now) (Added number)) }
+        ensures counted { IfOk result (λ passed. passed ≡ record { answers = 0; wide = 0 }) }
+        ensures refused { IfErr result (RefusesAdded self.old.table (revisions_at self.old desk) named.now number) }
+        ensures moved { OnOk result (self.new ≡ with_body self.old desk (State named.now) (Added number)) }
+        ensures kept { IfErr result (λ _. self.new ≡ self.old) }
+    {
+        let Some(statement) = statement_of(&self.table, named) else {
+            return Err(BlockFault::WrongBlock);
+        };
+        let history = &mut self.desks[desk as usize];
+        if history.next_number() != number {
+            return Err(BlockFault::WrongBlock);
+        }
+        match history.add(statement) {
+            Ok(_) => Ok(Passed {
+                answers: 0,
+                wide: 0,
+            }),
+            Err(HistoryFault::Memory) => Err(BlockFault::Memory),
+            Err(_) => Err(BlockFault::WrongBlock),
+        }
+    }
+
+    /// Whether the answers are to what is asked, each with its proof over what stands at the desk.
+    fn check_asked(
+        &self,
+        desk: u32,
+        asked: &Asked,
+        answers: &[Answer],
+    ) -> Result<Passed, BlockFault>
+        requires { desk < length self.now.state }
+        ensures asked { OnOk result (AreAsked self.now.table asked.now answers.now) }
+        ensures proved { OnOk result (AreProvedBefore self.now.table (statements_of (revisions_at self.now desk)) answers.now (length answers.now)) }
+        ensures valid { OnOk result (AreOfTheTable (length self.now.table.alternatives) answers.now) }
+        ensures lawful { OnOk result (IsLawful (length self.now.table.alternatives) (statements_of (revisions_at self.now desk))) }
+        ensures counted { IfOk result (λ passed. passed ≡ record { answers = length answers.now; wide = 0 }) }
+        ensures refused { IfErr result (RefusesAsked self.now.table (statements_of (revisions_at self.now desk)) asked.now answers.now) }
+    {
+        if !are_asked(self.alloc, &self.table, asked, answers)? {
+            return Err(BlockFault::WrongBlock);
+        }
+        let list = self.statements_at(desk)?;
+        check_answers(self.alloc, &self.table, list.as_slice(), answers)?;
+        Ok(Passed {
+            answers: answers.len() as u32,
+            wide: 0,
+        })
+    }
+
+    /// The statements that stand at a desk, in order.
+    fn statements_at(&self, desk: u32) -> Result<Vec<Statement>, AllocError>
+        requires { desk < length self.now.state }
+        ensures exact { IfOk result (λ list. list.items ≡ statements_of (revisions_at self.now desk)) }
+        ensures lawful { IfOk result (λ list. IsLawful (length self.now.table.alternatives) list.items) }
+    {
+        let standing = self.desks[desk as usize].standing()?;
+        statements(self.alloc, standing.as_slice())
     }
 }
 
-/// Whether the block is proved for the line over a list of statements.
-fn check_block(
+/// So many histories, each of which begins with the opening statements.
+fn histories(alloc: Global, opening: &[Statement], count: u32) -> Result<Vec<History>, AllocError>
+    requires few { length opening.now ≤ 200 }
+    requires rows { row_count opening.now ≤ 2000 }
+    ensures { IfOk result (λ desks. map (λ h. h.state) desks.items ≡ replicate count (record { opening = opening.now; surviving = [] })) }
+{
+    let mut desks = Vec::new(alloc);
+    for _ in 0..count {
+        desks.push(History::new(alloc, opening)?)?;
+    }
+    Ok(desks)
+}
+
+/// The statements without their numbers.
+fn statements(alloc: Global, standing: &[Numbered]) -> Result<Vec<Statement>, AllocError>
+    ensures { IfOk result (λ list. list.items ≡ map (λ x. x.statement) standing.now) }
+{
+    let mut list = Vec::new(alloc);
+    for numbered in standing {
+        list.push(numbered.statement)?;
+    }
+    Ok(list)
+}
+
+/// The statement of these names, where the table has both.
+fn statement_of(table: &Table, named: &Named) -> Option<Statement>
+    ensures exact { result ≡ blocks.statement_of table.now named.now }
+    ensures valid { IfSome result (IsValid (length table.now.alternatives)) }
+{
+    match named {
+        Named::Prefer(first, second) => {
+            let first = alternative_named(table, first)?;
+            let second = alternative_named(table, second)?;
+            Some(Statement::Prefer(first, second))
+        }
+    }
+}
+
+/// Whether the answers are to what is asked, in order.
+fn are_asked(
     alloc: Global,
     table: &Table,
-    list: &[Statement],
-    line: &Line,
-    block: &Block,
-) -> Result<Passed, BlockFault>
-    requires lawful { IsLawful (length table.now.alternatives) list.now }
-    ensures accepted { OnOk result (IsProvedBlock table.now list.now line.now block.now) }
-    ensures counted { IfOk result (λ passed. passed ≡ record { answers = answer_count block.now; wide = 0 }) }
-    ensures true_answers { OnOk result (AreTrue table.now list.now block.now) }
-    ensures refused { IfErr result (IsBlockRefusedBy table.now list.now line.now block.now) }
-{
-    let answers = answers_of(&block.body);
-    if !is_for_line(alloc, table, line, block.line, answers)? {
-        return Err(BlockFault::WrongBlock);
-    }
-    check_answers(alloc, table, list, answers)?;
-    Ok(Passed {
-        answers: answers.len() as u32,
-        wide: 0,
-    })
-}
-
-fn answers_of(body: &Body) -> &[Answer]
-    ensures { result.now ≡ text.answers_of body.now }
-{
-    match body {
-        Body::Answers(answers) => answers.as_slice(),
-    }
-}
-
-/// Whether a block of this number and these answers is for the line: the line's number, and its questions in order.
-fn is_for_line(
-    alloc: Global,
-    table: &Table,
-    line: &Line,
-    number: u32,
+    asked: &Asked,
     answers: &[Answer],
 ) -> Result<bool, AllocError>
-    ensures exact { IfOk result (λ is. IsTrue is ↔ IsForLine table.now line.now number answers.now) }
-    ensures valid { IfOk result (λ is. IsTrue is → AreOfTheTable (length table.now.alternatives) answers.now) }
-    ensures few { IfOk result (λ is. IsTrue is → length answers.now < 2 ^ 32 - 1) }
+    ensures exact { IfOk result (λ are. IsTrue are ↔ AreAsked table.now asked.now answers.now) }
+    ensures valid { IfOk result (λ are. IsTrue are → AreOfTheTable (length table.now.alternatives) answers.now) }
+    ensures few { IfOk result (λ are. IsTrue are → length answers.now < 2 ^ 32 - 1) }
 {
-    if number != line.number {
-        return Ok(false);
-    }
-    match questions_of(alloc, table, &line.command)? {
+    match questions_of(alloc, table, asked)? {
         Some(questions) => Ok(are_to(questions.as_slice(), answers)),
         None => Ok(false),
     }
 }
 
-/// The questions of a line, where the table has every name.
+/// The questions that are asked, in order, where the table has every name.
 fn questions_of(
     alloc: Global,
     table: &Table,
-    command: &Command,
+    asked: &Asked,
 ) -> Result<Option<Vec<Question>>, AllocError>
-    ensures exact { IfOk result (λ questions. option_map (λ v. v.items) questions ≡ blocks.questions_of table.now command.now) }
+    ensures exact { IfOk result (λ questions. option_map (λ v. v.items) questions ≡ blocks.questions_of table.now asked.now) }
     ensures valid { IfOk result (λ questions. IfSome questions (λ v. AllByRecursion (IsValidQuestion (length table.now.alternatives)) v.items)) }
     ensures few { IfOk result (λ questions. IfSome questions (λ v. length v.items ≤ 1)) }
 {
-    let asked = match command {
-        Command::Ask(asked) => asked,
-    };
     match question_of(table, asked) {
         Some(question) => {
             let mut questions = Vec::new(alloc);
@@ -196,7 +280,7 @@ fn questions_of(
     }
 }
 
-/// The question of two names, where the table has both.
+/// The question of these names, where the table has both.
 fn question_of(table: &Table, asked: &Asked) -> Option<Question>
     ensures exact { result ≡ blocks.question_of table.now asked.now }
     ensures valid { IfSome result (IsValidQuestion (length table.now.alternatives)) }

@@ -53,8 +53,8 @@ pub enum ReportError {
     Memory,
 }
 
-/// Checks a report against the session's lines, and gives the number of its answers. The report has at most
-/// 268,435,456 bytes.
+/// Checks a report against the session's lines, block by block, each over what the blocks before it left at its desk, and
+/// gives the number of its answers. The report has at most 268,435,456 bytes.
 ///
 /// # Errors
 ///
@@ -62,17 +62,16 @@ pub enum ReportError {
 /// not accepted.
 pub fn check_report(
     alloc: Global,
-    bench: &mut Bench,
+    bench: Bench,
     lines: &[Line],
     bytes: &[u8],
 ) -> Result<u64, ReportError>
-    requires desks { AllByRecursion (NamesADesk (length bench.old.state)) lines.now }
+    requires desks { AllByRecursion (NamesADesk (length bench.state)) lines.now }
     requires length { length bytes.now ≤ 268435456 }
-    ensures accepted { IfOk result (IsProvedReport bench.old lines.now bytes.now) }
-    ensures true_answers { IfOk result (λ n. IsTrueReport bench.old lines.now bytes.now) }
-    ensures not_proved { IfErr result (λ e. e ≢ ReportError.Memory → (n : ℕ) → IsProvedReport bench.old lines.now bytes.now n → ⊥) }
+    ensures accepted { IfOk result (IsProvedReport bench lines.now bytes.now) }
+    ensures true_answers { IfOk result (λ n. IsTrueReport bench lines.now bytes.now) }
+    ensures not_proved { IfErr result (λ e. e ≢ ReportError.Memory → (n : ℕ) → IsProvedReport bench lines.now bytes.now n → ⊥) }
     ensures pure { IfErr result HoldsNoMemory }
-    ensures kept { bench.new ≡ bench.old }
 {
     // What is read back is what was written only over a table, and each table has alternatives.
     prove!(bench.table().alternatives() > 0);
@@ -97,17 +96,16 @@ fn is_text(bytes: &[u8]) -> bool
 /// Checks the blocks of a report, whatever its bytes are.
 fn check_blocks(
     alloc: Global,
-    bench: &mut Bench,
+    bench: Bench,
     lines: &[Line],
     bytes: &[u8],
 ) -> Result<u64, ReportError>
-    requires desks { AllByRecursion (NamesADesk (length bench.old.state)) lines.now }
+    requires desks { AllByRecursion (NamesADesk (length bench.state)) lines.now }
     requires length { length bytes.now ≤ 268435456 }
-    ensures accepted { IfOk result (IsProvedReport bench.old lines.now bytes.now) }
-    ensures true_answers { IfOk result (λ n. IsTrueReport bench.old lines.now bytes.now) }
-    ensures not_proved { IfErr result (λ e. e ≢ ReportError.Memory → (n : ℕ) → IsProvedReport bench.old lines.now bytes.now n → ⊥) }
+    ensures accepted { IfOk result (IsProvedReport bench lines.now bytes.now) }
+    ensures true_answers { IfOk result (λ n. IsTrueReport bench lines.now bytes.now) }
+    ensures not_proved { IfErr result (λ e. e ≢ ReportError.Memory → (n : ℕ) → IsProvedReport bench lines.now bytes.now n → ⊥) }
     ensures pure { IfErr result HoldsNoMemory }
-    ensures kept { bench.new ≡ bench.old }
 {
     let Some(start) = read_header(bytes) else {
         return Err(ReportError::Rejected(Rejection {
@@ -117,11 +115,12 @@ fn check_blocks(
     };
     // What is read back is what was written only over a table, and each table has alternatives.
     prove!(bench.table().alternatives() > 0);
+    let mut bench = bench;
     let mut next = start;
     let mut answers: u64 = 0;
     let mut block: u32 = 1;
     for line in lines {
-        let (passed, after) = check_next(alloc, bench, line, bytes, next, block)?;
+        let (passed, after) = check_next(alloc, &mut bench, line, bytes, next, block)?;
         answers += passed as u64;
         next = after;
         block += 1;
@@ -143,12 +142,12 @@ fn check_next(
     requires desk { NamesADesk (length bench.old.state) line.now }
     requires within { from ≤ length bytes.now }
     requires length { length bytes.now ≤ 268435456 }
-    ensures next { IfOk result (λ x. IsNextBlock bench.old line.now bytes.now from x.0 x.1) }
+    ensures next { IfOk result (λ x. IsNextBlock bench.old bench.new line.now bytes.now from x.0 x.1) }
     ensures onward { IfOk result (λ x. from < x.1) }
     ensures within { IfOk result (λ x. x.1 ≤ length bytes.now) }
     ensures none { IfErr result (λ e. e ≢ ReportError.Memory → BeginsProved bench.old line.now (drop from bytes.now) → ⊥) }
     ensures pure { IfErr result HoldsNoMemory }
-    ensures kept { bench.new ≡ bench.old }
+    ensures kept { IfErr result (λ _. bench.new ≡ bench.old) }
 {
     if begins_end(bytes, from) {
         return Err(early_end(alloc, bytes, from, block));

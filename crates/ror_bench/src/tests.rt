@@ -44,22 +44,22 @@ fn rejected(rejection: Rejection) -> Outcome {
 }
 
 /// What comes of a report on the session over the table.
-fn outcome_of(alloc: Global, report: &[u8]) -> Outcome {
+fn outcome_of(alloc: Global, session: &[u8], report: &[u8]) -> Outcome {
     if report.len() > 268_435_456 {
         return Outcome::Other;
     }
     let Ok(table) = read_plain(alloc, TABLE) else {
         return Outcome::Other;
     };
-    let Ok(session) = read_session(alloc, SESSION) else {
+    let Ok(session) = read_session(alloc, session) else {
         return Outcome::Other;
     };
     let opening = Items::from(Vec::new(alloc));
     let input = Input { table, opening };
-    let Ok(mut bench) = Bench::new(alloc, input, session.desks.len() as u32) else {
+    let Ok(bench) = Bench::new(alloc, input, session.desks.len() as u32) else {
         return Outcome::Other;
     };
-    match check_report(alloc, &mut bench, session.lines.as_slice(), report) {
+    match check_report(alloc, bench, session.lines.as_slice(), report) {
         Ok(answers) => Outcome::Accepted(answers),
         Err(ReportError::Rejected(rejection)) => rejected(rejection),
         Err(ReportError::Memory) => Outcome::Other,
@@ -108,7 +108,40 @@ fn reports_are_checked(rt: HostRuntime) -> Result<(), Fail> {
         (b"ror-report 1\nend 0\n", Outcome::WrongBlock(1)),
     ];
     for (report, expected) in cases {
-        assert_eq!(rt; outcome_of(alloc, report), expected);
+        assert_eq!(rt; outcome_of(alloc, SESSION, report), expected);
+    }
+    Ok(())
+}
+
+/// Two preferences and a question, and the blocks of their report.
+fn stated() -> [(&'static str, Outcome); 6] {
+    [
+        ("line 1\nadded 1\nline 2\nadded 2\n", Outcome::Accepted(1)),
+        ("line 1\nadded 2\nline 2\nadded 1\n", Outcome::WrongBlock(1)),
+        ("line 1\nadded 1\nline 2\nadded 1\n", Outcome::WrongBlock(2)),
+        ("line 1\nadded 1\nline 2\n", Outcome::WrongBlock(2)),
+        (
+            "line 1\nadded 1\nadded 2\nline 2\nadded 2\n",
+            Outcome::BadLine(1, 4),
+        ),
+        ("line 1\nadded x\n", Outcome::BadNumber(1, 3)),
+    ]
+}
+
+// With a preferred to b and b to c the strict rows are (1, 1, 1, 1), (0, 1, 0, -1), (1, 0, 1, 1), and for the question
+// whether a is worth at least c (-1, -1, -1, 0).
+#[test]
+fn statements_stand_after_their_blocks(rt: HostRuntime) -> Result<(), Fail> {
+    let session = b"prefer a b\nprefer b c\nask necessary a c\n";
+    for (blocks, expected) in stated() {
+        let report = format!(in rt.alloc();
+            "ror-report 1\n{blocks}line 3\nanswer necessary a c yes\nbase solution 1 1 0 0\npart 1 multipliers | 0 1 1 1\nend 3\n"
+        )?;
+        assert_eq!(rt;
+            outcome_of(rt.alloc(), session, report.as_bytes()),
+            expected,
+            "{blocks}"
+        );
     }
     Ok(())
 }

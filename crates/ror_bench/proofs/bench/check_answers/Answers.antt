@@ -1,4 +1,5 @@
-use Rattle.ror_bench.proofs.Refusals.{proved_more, answer_refused, slice_get-at}
+use Rattle.ror_check.proofs.Checking.{slice_get-at}
+use Rattle.ror_bench.proofs.Refusals.{proved_more, answer_refused}
 use Rattle.ror_bench.proofs.bench.check_answers.Goals as goal
 
 pub returns-in-Err-clause-err : goal.returns-in-Err-clause-err

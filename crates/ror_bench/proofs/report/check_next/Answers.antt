@@ -13,8 +13,8 @@ returns-then-begins_end-clause-none c = λ ne begins.
 
 pub returns-in-Ok-check_line-clause-next : goal.returns-in-Ok-check_line-clause-next
 returns-in-Ok-check_line-clause-next c =
-    read_next c.args.bench.now c.args.line.now c.args.bytes.now c.args.from c.in-Ok.after c.in-Ok.found c.table.result.now c.in-Ok-check_line.passed c.table.ensures c.requires.table
-    c.in-Ok.ensures.exact c.in-Ok-check_line.ensures.accepted c.in-Ok-check_line.ensures.true_answers c.in-Ok-check_line.ensures.counted
+    read_next c.args.bench.now c.check_line.new.self c.args.line.now c.args.bytes.now c.args.from c.in-Ok.after c.in-Ok.found c.table.result.now c.in-Ok-check_line.passed c.table.ensures c.requires.table
+    c.in-Ok.ensures.exact c.in-Ok-check_line.ensures.accepted c.in-Ok-check_line.ensures.true_answers c.in-Ok-check_line.ensures.counted c.in-Ok-check_line.ensures.moved
 
 pub returns-in-Ok-clause-none : goal.returns-in-Ok-clause-none
 returns-in-Ok-clause-none c = λ ne begins.

@@ -5,5 +5,5 @@ use Rattle.ror_bench.proofs.report.check_report.Goals as goal
 
 pub returns-then-not-is_text-clause-not_proved : goal.returns-then-not-is_text-clause-not_proved
 returns-then-not-is_text-clause-not_proved c =
-    let table : IsTable c.args.bench.now.table = subst IsTable c.table.ensures c.alternatives.ensures.table in
-    λ ne n report. c.if-not-is_text.ensures (proved_is_utf8 c.args.bench.now c.args.lines.now c.args.bytes.now n table c.requires.length report)
+    let table : IsTable c.args.bench.table = subst IsTable c.table.ensures c.alternatives.ensures.table in
+    λ ne n report. c.if-not-is_text.ensures (proved_is_utf8 c.args.bench c.args.lines.now c.args.bytes.now n table c.requires.length report)

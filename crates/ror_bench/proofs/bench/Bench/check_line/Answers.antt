@@ -1,20 +1,21 @@
-use Rattle.std.proofs.Common.{◌≢◌, List, subst}
-use Rattle.std.specs.Prelude.{OnOk, IfErr}
-use Rattle.ror_statement.specs.declared.statement.Statement.{Statement}
-use Rattle.ror_table.specs.Table.{DecisionTable}
-use Rattle.ror_bench.specs.declared.bench.BlockFault.TheVariants as faults
-use Rattle.ror_bench.specs.Blocks.{AreTrue, IsProvedBlock}
-use Rattle.ror_bench.proofs.Standing.{at_desk, none_proved}
+use Rattle.std.proofs.Common.{rules, ◌≡◌}
+use Rattle.ror_bench.specs.Bench.{revisions_at}
+use Rattle.ror_bench.proofs.Asked.{asked_proved, asked_true, asked_refused, none_asked}
 use Rattle.ror_bench.proofs.bench.Bench.check_line.Goals as goal
 
-pub returns-clause-true_answers : goal.returns-clause-true_answers
-returns-clause-true_answers c =
-    let P : DecisionTable → List Statement → Type 0 = λ t list. OnOk c.check_block.result (AreTrue t list c.args.block.now) in
-    at_desk P c.self.inside.table c.self.inside.opening c.self.inside.desks c.args.line.now.desk c.args.self.now c.self.view_is c.requires
-    (subst (P c.self.inside.table) c.as_slice-list.ensures c.check_block.ensures.true_answers)
+pub returns-in-Ask-Answers-clause-accepted : goal.returns-in-Ask-Answers-clause-accepted
+returns-in-Ask-Answers-clause-accepted c =
+    let number : c.args.block.now.line ≡ c.args.line.now.number = search rules in
+    asked_proved c.args.self.now.table (revisions_at c.args.self.now c.args.line.now.desk) c.args.line.now c.args.block.now c.in-Ask-Answers.asked c.in-Ask-Answers.answers c.as_slice.result.now c.check_asked.result number (search rules) (search rules) c.as_slice.ensures c.check_asked.ensures.asked c.check_asked.ensures.proved
 
-pub returns-clause-not_proved : goal.returns-clause-not_proved
-returns-clause-not_proved c =
-    let P : DecisionTable → List Statement → Type 0 = λ t list. IfErr c.check_block.result (λ e. e ≢ faults.Memory → IsProvedBlock t list c.args.line.now c.args.block.now → ⊥) in
-    at_desk P c.self.inside.table c.self.inside.opening c.self.inside.desks c.args.line.now.desk c.args.self.now c.self.view_is c.requires
-    (subst (P c.self.inside.table) c.as_slice-list.ensures (none_proved c.self.inside.table c.as_slice-list.result.now c.args.line.now c.args.block.now c.check_block.result c.check_block.ensures.refused))
+pub returns-in-Ask-Answers-clause-true_answers : goal.returns-in-Ask-Answers-clause-true_answers
+returns-in-Ask-Answers-clause-true_answers c =
+    asked_true c.args.self.now.table (revisions_at c.args.self.now c.args.line.now.desk) c.args.block.now c.in-Ask-Answers.answers c.as_slice.result.now c.check_asked.result (search rules) c.as_slice.ensures c.check_asked.ensures.lawful c.check_asked.ensures.valid c.check_asked.ensures.proved
+
+pub returns-in-Ask-Answers-clause-refused : goal.returns-in-Ask-Answers-clause-refused
+returns-in-Ask-Answers-clause-refused c =
+    let number : c.args.block.now.line ≡ c.args.line.now.number = search rules in
+    asked_refused c.args.self.now.table (revisions_at c.args.self.now c.args.line.now.desk) c.args.line.now c.args.block.now c.in-Ask-Answers.asked c.in-Ask-Answers.answers c.as_slice.result.now c.check_asked.result number (search rules) (search rules) c.as_slice.ensures c.check_asked.ensures.refused
+
+pub returns-in-Ask-Answers-clause-not_proved : goal.returns-in-Ask-Answers-clause-not_proved
+returns-in-Ask-Answers-clause-not_proved c = none_asked c.args.self.now.table (revisions_at c.args.self.now c.args.line.now.desk) c.args.line.now c.args.block.now c.check_asked.result (returns-in-Ask-Answers-clause-refused c)

@@ -2,7 +2,7 @@ use Rattle.std.proofs.Common.{◌≡◌, length, map, sym, subst, ◌∙◌}
 use Rattle.std.specs.List.{AllByRecursion}
 use Rattle.ror_statement.specs.Statement.{IsValidQuestion}
 use Rattle.ror_bench.proofs.Asking.{of_the_table}
-use Rattle.ror_bench.proofs.bench.is_for_line.Goals as goal
+use Rattle.ror_bench.proofs.bench.are_asked.Goals as goal
 
 pub returns-in-Some-clause-valid : goal.returns-in-Some-clause-valid
 returns-in-Some-clause-valid c = λ yes.
