@@ -4,3 +4,4 @@ pub mod LongTexts
 pub mod FileSteps
 pub mod Deciding
 pub mod Conclusions
+pub mod RefusedLines

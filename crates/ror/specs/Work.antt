@@ -1,6 +1,6 @@
 -- What the bytes of the three files lead to.
-use Rattle.std.specs.Prelude.{◌≡◌, ℕ, ◌<◌, ◌≤◌, ◌⊎◌, Bool, List, [], length, Option, Some, None, is_none, Result, Ok, Err}
-use Rattle.std.specs.List.{find}
+use Rattle.std.specs.Prelude.{◌≡◌, ℕ, ◌<◌, ◌≤◌, ◌⊎◌, Bool, true, false, ◌||◌, ◌&&◌, nat_le, if◌then◌else◌, List, [], ◌∷◌, ◌++◌, length, Option, Some, None, is_none, Result, Ok, Err}
+use Rattle.std.specs.List.{filter}
 use Rattle.ror_text.specs.Reading.{◌>>=◌}
 use Rattle.ror_io.specs.Files.{Files, file, Lacks}
 use Rattle.ror_table.specs.Table.{DecisionTable}
@@ -8,27 +8,48 @@ use Rattle.ror_table.specs.Plain.{plain_table}
 use Rattle.ror_table.specs.declared.fault.TableFault.{TableFault}
 use Rattle.ror_session.specs.declared.session.Session.{Session}
 use Rattle.ror_session.specs.declared.session.Line.{Line}
+use Rattle.ror_session.specs.declared.session.Command.{Command}
+use Rattle.ror_session.specs.declared.session.Command.TheVariants.{State, Ask}
 use Rattle.ror_session.specs.declared.session.SessionFault.{SessionFault}
 use Rattle.ror_session.specs.declared.session.SessionFault.TheVariants.{BadLine}
 use Rattle.ror_session.specs.Session.{session_of}
 use Rattle.ror_bench.specs.declared.report.Rejection.{Rejection}
 use Rattle.ror_bench.specs.declared.report.Reason.TheVariants.{TooLong}
 use Rattle.ror_bench.specs.Bench.{Workbench, bench_of}
-use Rattle.ror_bench.specs.Blocks.{questions_of}
+use Rattle.ror_bench.specs.Blocks.{statement_of, questions_of}
 use Rattle.ror_bench.specs.Reports.{IsProvedReport, IsTrueReport}
 use Rattle.ror.specs.Words.{CheckNames}
 
--- the lines of a session at whose names the table has none
-abbrev pub names_nothing : DecisionTable → Line → Bool
-names_nothing t line = is_none (questions_of t line.command)
+-- a name of the command is none of the table
+abbrev pub names_nothing : DecisionTable → Command → Bool
+names_nothing t (State named) = is_none (statement_of t named)
+names_nothing t (Ask asked) = is_none (questions_of t asked)
 
--- the session, unless a line names an alternative that the table lacks: the first such line is a bad one
-abbrev pub refuse_unknown : Option Line → Session → Result Session SessionFault
-refuse_unknown None s = Ok s
-refuse_unknown (Some line) s = Err (BadLine line.number)
+abbrev pub is_statement : Command → Bool
+is_statement (State named) = true
+is_statement (Ask asked) = false
+
+-- how many of the lines state
+abbrev pub statement_count : List Line → ℕ
+statement_count lines = length (filter (λ line. is_statement line.command) lines)
+
+-- The lines that a session over the table may not have: one with a name that the table lacks, and one that states after
+-- 200 others did.
+abbrev pub is_refused : DecisionTable → ℕ → Line → Bool
+is_refused t stated line = names_nothing t line.command || (is_statement line.command && nat_le 200 stated)
+
+-- the first such line, after those before
+abbrev pub first_refused : DecisionTable → List Line → List Line → Option Line
+first_refused t before [] = None
+first_refused t before (line ∷ more) = if is_refused t (statement_count before) line then Some line else first_refused t (before ++ line ∷ []) more
+
+-- the session, unless a line is refused: the first such line is a bad one
+abbrev pub refuse_line : Option Line → Session → Result Session SessionFault
+refuse_line None s = Ok s
+refuse_line (Some line) s = Err (BadLine line.number)
 
 abbrev pub session_over : DecisionTable → List ℕ → Result Session SessionFault
-session_over t bytes = session_of bytes >>= λ s. refuse_unknown (find (names_nothing t) s.lines) s
+session_over t bytes = session_of bytes >>= λ s. refuse_line (first_refused t [] s.lines) s
 
 -- a workbench over the table at whose desks no statement stands
 abbrev pub bench_for : DecisionTable → Session → Workbench
@@ -60,7 +81,7 @@ pub record RefusesSession (files : Files) (names : CheckNames) (fault : SessionF
   pub refused : session_over table bytes ≡ Err fault
 
 -- table and session were read, and the report's bytes, of which there are at most 268,435,456, are the text of a
--- report that is proved for them, with so many answers, every one of which is true
+-- report that is proved for them, with so many answers
 pub record ProvesReport (files : Files) (names : CheckNames) (answers : ℕ) : Type 0 where
   pub table : DecisionTable
   pub session : Session

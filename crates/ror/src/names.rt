@@ -1,25 +1,65 @@
-//! The names of a session's lines.
+//! The lines of a session that its table refuses.
 
-ghost use Rattle.std.specs.Prelude.{◌≡◌, is_none};
-ghost use Rattle.std.specs.List.{find};
+ghost use Rattle.std.specs.Prelude.{◌≡◌, ◌<◌, ◌^◌, ◌-◌, ◌+◌, [], is_none, if◌then◌else◌};
 ghost use Rattle.std.specs.Option.{option_copied};
 ghost use Rattle.ror_proof.specs.Reading.{alternative_named};
-ghost use Rattle.ror.specs.Work.{names_nothing};
+ghost use Rattle.ror.specs.Work as spec;
 
-use ror_session::{Asked, Command, Line};
+use ror_session::{Asked, Command, Line, Named};
 use ror_table::Table;
 
-/// The first line that names an alternative which the table lacks.
-pub fn first_unknown<'a>(table: &Table, lines: &'a [Line]) -> Option<&'a Line>
-    ensures { option_copied result ≡ find (names_nothing table.now) lines.now }
+/// How many statements a session may make.
+const MOST_STATEMENTS: usize = 200;
+
+/// The first line that names an alternative which the table lacks, or that states after 200 others did.
+pub fn first_refused<'a>(table: &Table, lines: &'a [Line]) -> Option<&'a Line>
+    ensures { option_copied result ≡ spec.first_refused table.now [] lines.now }
 {
-    lines.iter().find(|line| names_nothing(table, line))
+    let mut stated = 0;
+    for line in lines {
+        if is_refused(table, stated, line) {
+            return Some(line);
+        }
+        stated = count_with(stated, &line.command);
+    }
+    None
 }
 
-fn names_nothing(table: &Table, line: &Line) -> bool
-    ensures { result ≡ names_nothing table.now line.now }
+fn is_refused(table: &Table, stated: usize, line: &Line) -> bool
+    ensures { result ≡ spec.is_refused table.now stated line.now }
 {
-    match &line.command {
+    names_nothing(table, &line.command)
+        || (is_statement(&line.command) && stated >= MOST_STATEMENTS)
+}
+
+/// The number of statements so far with a command that may be one.
+fn count_with(stated: usize, command: &Command) -> usize
+    requires { stated < 2 ^ 64 - 1 }
+    ensures { result ≡ (if spec.is_statement command.now then stated + 1 else stated) }
+{
+    if is_statement(command) {
+        stated + 1
+    } else {
+        stated
+    }
+}
+
+fn is_statement(command: &Command) -> bool
+    ensures { result ≡ spec.is_statement command.now }
+{
+    match command {
+        Command::State(_) => true,
+        Command::Ask(_) => false,
+    }
+}
+
+fn names_nothing(table: &Table, command: &Command) -> bool
+    ensures { result ≡ spec.names_nothing table.now command.now }
+{
+    match command {
+        Command::State(Named::Prefer(first, second)) => {
+            lacks(table, first.as_str()) || lacks(table, second.as_str())
+        }
         Command::Ask(Asked::Necessary(first, second)) => {
             lacks(table, first.as_str()) || lacks(table, second.as_str())
         }

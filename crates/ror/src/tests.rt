@@ -150,6 +150,121 @@ fn refuses_certificates(rt: HostRuntime) -> Result<(), Fail> {
     Ok(())
 }
 
+/// A session over the table, the blocks of a report, and what is said of it: nothing where it is accepted with one answer.
+fn sessions() -> [(&'static str, &'static str, &'static str); 12] {
+    let question = "ask necessary a b\n";
+    let stated = "prefer a b\nask necessary a b\n";
+    let yes =
+        "line 1\nadded 1\nline 2\nanswer necessary a b yes\nbase solution 0 1 0 0\npart 1 multipliers | 0 1 1\nend 2\n";
+    [
+        (stated, yes, ""),
+        (
+            "# who is better?\r\n\r\n \tprefer\ta  b \r\n\task necessary a b",
+            "line 3\nadded 1\nline 4\nanswer necessary a b yes\nbase solution 0 1 0 0\npart 1 multipliers | 0 1 1\nend 2\n",
+            "",
+        ),
+        (
+            question,
+            "line 1\nanswer necessary a b no\nbase solution 1 1 1 1\npart 1 solution 0 0 0 1\nend 1\n",
+            "",
+        ),
+        (
+            "prefer a b\nprefer b a\nask necessary a b\n",
+            "line 1\nadded 1\nline 2\nadded 2\nline 3\nanswer necessary a b contradiction\nbase multipliers | 0 1 1\nend 3\n",
+            "",
+        ),
+        (
+            stated,
+            "line 1\nadded 2\nline 2\nanswer necessary a b yes\nbase solution 0 1 0 0\npart 1 multipliers | 0 1 1\nend 2\n",
+            "rejected: block 1 WrongBlock\n",
+        ),
+        (
+            stated,
+            "line 1\nline 2\nanswer necessary a b yes\nbase solution 0 1 0 0\npart 1 multipliers | 0 1 1\nend 2\n",
+            "rejected: block 1 WrongBlock\n",
+        ),
+        (
+            "prefer a b\nprefer b a\nask necessary a b\n",
+            "line 1\nadded 1\nline 2\nadded 2\nline 3\nanswer necessary a b yes\nbase solution 0 1 0 0\npart 1 multipliers | 0 1 1 0\nend 3\n",
+            "rejected: block 3 answer 1 base Row 2\n",
+        ),
+        (question, yes, "rejected: block 1 WrongBlock\n"),
+        (
+            "ask necessary a c\n",
+            "line 1\nanswer necessary a c no\nbase solution 1 1 1 1\npart 1 multipliers | 0 1\nend 1\n",
+            "rejected: block 1 answer 1 WrongVerdict\n",
+        ),
+        (
+            "ask necessary a c\n",
+            "line 1\nanswer necessary a c yes\nbase solution 1 1 1 1\npart 2 multipliers | 0 1\nend 1\n",
+            "rejected: block 1 answer 1 PartCount\n",
+        ),
+        ("prefer a z\n", "end 0\n", "bad session: BadLine line 1\n"),
+        (
+            "prefer a b\nPREFER a b\n",
+            "end 0\n",
+            "bad session: BadLine line 2\n",
+        ),
+    ]
+}
+
+fn code_of(err: &str) -> u8 {
+    match err.as_bytes().first() {
+        None => 0,
+        Some(b'r') => 5,
+        Some(_) => 4,
+    }
+}
+
+#[test]
+fn checks_what_stands_at_each_line(rt: HostRuntime) -> Result<(), Fail> {
+    for (session, blocks, err) in sessions() {
+        let report = format!(in rt.alloc(); "ror-report 1\n{blocks}")?;
+        let case = Case {
+            session: session.as_bytes(),
+            report: report.as_bytes(),
+            ..accepted()
+        };
+        let code = code_of(err);
+        if code == 0 {
+            expect_check(&rt, &case)?;
+        } else {
+            expect_check(&rt, &refused(case, code, err.as_bytes()))?;
+        }
+    }
+    Ok(())
+}
+
+/// A session of so many preferences, and the report of it.
+fn many_preferences(alloc: Global, count: u32) -> Result<(String, String), AllocError> {
+    let mut session = String::new(alloc);
+    let mut report = String::from_str(alloc, "ror-report 1\n")?;
+    for number in 1..=count {
+        session.push_str("prefer a b\n")?;
+        report.push_str(format!(in alloc; "line {number}\nadded {number}\n")?.as_str())?;
+    }
+    report.push_str(format!(in alloc; "end {count}\n")?.as_str())?;
+    Ok((session, report))
+}
+
+#[test]
+fn lets_two_hundred_statements_stand(rt: HostRuntime) -> Result<(), Fail> {
+    let (session, report) = many_preferences(rt.alloc(), 200)?;
+    let case = Case {
+        session: session.as_bytes(),
+        report: report.as_bytes(),
+        ..of_table(table())
+    };
+    expect_check(&rt, &case)?;
+    let (session, report) = many_preferences(rt.alloc(), 201)?;
+    let case = Case {
+        session: session.as_bytes(),
+        report: report.as_bytes(),
+        ..of_table(table())
+    };
+    expect_check(&rt, &refused(case, 4, b"bad session: BadLine line 201\n"))
+}
+
 #[test]
 fn asks_for_the_words_of_a_check(rt: HostRuntime) -> Result<(), Fail> {
     let usage = b"usage: ror check TABLE SESSION REPORT\n".as_slice();

@@ -11,7 +11,7 @@ ghost use Rattle.ror.specs.Named.{names_of};
 ghost use Rattle.ror.specs.Work.{LacksOne, session_over, ReadsTable, ReadsSession};
 ghost use Rattle.ror.specs.Stops.{IsPure, IsOfBytes, ReadsTableAs, ReadsSessionAs, Judges, OfToldFiles, ShowsTable, ShowsSession, ShowsWork};
 
-use crate::names::first_unknown;
+use crate::names::first_refused;
 use crate::status::Status;
 use crate::words::FileNames;
 use ror_bench::{Bench, Reason, Rejection, ReportError, check_report};
@@ -162,7 +162,7 @@ fn table_in(alloc: Global, fetched: Fetched) -> Result<Table, Stop>
 }
 
 /// Reads a session that was fetched, and refuses the first line that names an alternative which
-/// the table lacks.
+/// the table lacks, or that states after 200 others did.
 fn session_in(alloc: Global, table: &Table, fetched: Fetched) -> Result<Session, Stop>
     ensures reads { (bytes : List ℕ) → Fetches bytes 16777216 fetched
         → ReadsSessionAs (session_over table.now bytes) result }
@@ -174,7 +174,7 @@ fn session_in(alloc: Global, table: &Table, fetched: Fetched) -> Result<Session,
         return Err(Stop::BadSession(SessionFault::TooLong));
     };
     let session = read_session(alloc, bytes.as_slice())?;
-    if let Some(line) = first_unknown(table, session.lines.as_slice()) {
+    if let Some(line) = first_refused(table, session.lines.as_slice()) {
         return Err(Stop::BadSession(SessionFault::BadLine(line.number)));
     }
     Ok(session)
@@ -197,9 +197,9 @@ fn answers_in(alloc: Global, table: Table, session: &Session, fetched: Fetched) 
     };
     let opening = Items::from(Vec::new(alloc));
     let desks = session.desks.len() as u32;
-    let mut bench = Bench::new(alloc, Input { table, opening }, desks)?;
+    let bench = Bench::new(alloc, Input { table, opening }, desks)?;
     let lines = session.lines.as_slice();
-    Ok(check_report(alloc, &mut bench, lines, bytes.as_slice())?)
+    Ok(check_report(alloc, bench, lines, bytes.as_slice())?)
 }
 
 /// Fetches and reads the table.
