@@ -1,0 +1,12 @@
+use Rattle.std.proofs.Common.{refl}
+use Rattle.std.proofs.lemmas.Nat.Gcd.{dvd_of_mod-eq-zero}
+use Rattle.ror_word.proofs.tests.exact_quotients.Goals as goal
+
+pub div_exact-requires-clause-divides : goal.div_exact-requires-clause-divides
+div_exact-requires-clause-divides g c = dvd_of_mod-eq-zero 1 refl
+
+pub div_exact-requires-4-clause-divides : goal.div_exact-requires-4-clause-divides
+div_exact-requires-4-clause-divides g c = dvd_of_mod-eq-zero 7 refl
+
+pub div_exact-requires-5-clause-divides : goal.div_exact-requires-5-clause-divides
+div_exact-requires-5-clause-divides g c = dvd_of_mod-eq-zero 7 refl

@@ -1,0 +1,2 @@
+pub mod OddParts
+pub mod Within

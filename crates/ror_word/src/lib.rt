@@ -1,0 +1,14 @@
+//! Words: signed whole numbers of four widths, with arithmetic that is exact or says that it can't be.
+#![tactic(auto)]
+
+mod divisors;
+mod word;
+mod word_128;
+mod word_16;
+mod word_32;
+mod word_64;
+
+pub use word::Word;
+
+#[cfg(test)]
+mod tests;
