@@ -1,0 +1,4 @@
+pub mod Laws
+pub mod Ratios
+pub mod Rows
+pub mod Wide
