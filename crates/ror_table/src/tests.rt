@@ -103,6 +103,41 @@ fn the_first_fault_is_named(rt: HostRuntime) {
     }
 }
 
+/// A table of eleven criteria and 200 alternatives: 199 steps on each of the first ten, and so many on the last.
+fn table_with_steps(alloc: Global, last: u32) -> Result<String, AllocError> {
+    let mut text = String::from_str(alloc, "ror-table 1\n")?;
+    for criterion in 0..11u32 {
+        text.push_str(format!(in alloc; "criterion q{criterion} max\n")?.as_str())?;
+    }
+    for level in 0..200u32 {
+        let place = format!(in alloc; "{level}")?;
+        text.push_str("alternative a")?;
+        for _ in 0..11u32 {
+            text.push_str(place.as_str())?;
+            text.push_str(" ")?;
+        }
+        text.push_str(format!(in alloc;
+            "{}\n",
+            if level < last { level } else { last }
+        )?.as_str())?;
+    }
+    Ok(text)
+}
+
+#[test]
+fn two_thousand_steps_are_taken(rt: HostRuntime) -> Result<(), Fail> {
+    let most = table_with_steps(rt.alloc(), 10)?;
+    let table = read_plain(rt.alloc(), most.as_bytes())?;
+    assert_eq!(rt; table.columns(), 2000);
+    let more = table_with_steps(rt.alloc(), 11)?;
+    let kind = TableKind::TooMany(What::Steps);
+    assert_eq!(rt;
+        fault_of(rt.alloc(), more.as_bytes()),
+        Some(TableFault { kind, line: 0 })
+    );
+    Ok(())
+}
+
 #[test]
 fn a_draft_is_finished(rt: HostRuntime) -> Result<(), Fail> {
     let mut draft = Draft::new(rt.alloc());
