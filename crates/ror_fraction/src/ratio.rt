@@ -21,6 +21,9 @@ pub fn compare_ratios<W: Word>(a: W, p: W, b: W, q: W) -> Ordering
     requires q_positive { pos 0 <ℤ W.value q }
     ensures { result ≡ fraction_cmp (W.value a) (W.value p) (W.value b) (W.value q) }
 {
+    if is_zero(a) && is_zero(b) {
+        return Ordering::Equal;
+    }
     let (whole, rest) = a.quot_rem(p);
     let (other_whole, other_rest) = b.quot_rem(q);
     match whole.cmp(&other_whole) {

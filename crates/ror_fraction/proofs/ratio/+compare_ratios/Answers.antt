@@ -1,8 +1,8 @@
 -- The whole parts decide, or the rests, or the inverses of the rests.
-use Rattle.std.proofs.Common.{◌≡◌, ◌⊎◌, inl, inr, pos, sym, ◌∙◌}
+use Rattle.std.proofs.Common.{◌≡◌, ◌⊎◌, inl, inr, pos, refl, sym, ◌∙◌}
 use Rattle.ror_fraction.proofs.Comparison.{by_wholes, by_rests, by_zero, by_inverses}
 use Rattle.ror_fraction.proofs.ratio.+compare_ratios.Goals as goal
-use Rattle.ror_fraction.proofs.ratio.+compare_ratios.Goals.{then-is_zero, else-is_zero}
+use Rattle.ror_fraction.proofs.ratio.+compare_ratios.Goals.{then-is_zero-3, else-is_zero-3}
 
 pub returns-in_default : goal.returns-in_default
 returns-in_default g t c =
@@ -19,9 +19,9 @@ returns-in-Equal g t c =
     let rest = value c.quot_rem-whole.result.1 in
     let other_rest = value c.quot_rem-other_whole.result.1 in
     let zero : (rest ≡ pos 0) ⊎ (other_rest ≡ pos 0) =
-    (elim c.if-is_zero.branch [
-      | then-is_zero w ↦ inl (c.is_zero.ensures.0 w.if-is_zero.true)
-      | else-is_zero w ↦ inr (w.is_zero-else-is_zero.ensures.0 (sym w.value-is ∙ c.if-is_zero-2.true))
+    (elim c.if-is_zero-3.branch [
+      | then-is_zero-3 w ↦ inl (w.if-is_zero-3.ensures.0 refl)
+      | else-is_zero-3 w ↦ inr (w.is_zero-else-is_zero-3.ensures.0 (sym w.value-is ∙ c.if-is_zero-4.true))
     ]) in
     c.cmp-in-Equal.ensures ∙ g.met.W.Word.order _ _
     ∙ sym (by_rests _ _ _ _ _ _ _ _
