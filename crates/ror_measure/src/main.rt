@@ -1,30 +1,90 @@
-//! A program for measuring: it makes two rows by a number, clears a column of one of them again and again, and prints what
-//! was done. The time is taken from outside, so that it prints the same each time.
+//! A program for measuring: it clears a column of a made row again and again, or solves a made system once, and prints
+//! what was done. The time is taken from outside, so that it prints the same each time.
 #![tactic(auto)]
 
+mod numbers;
 mod rows;
+mod systems;
+
+ghost use Rattle.std.specs.Prelude.{◌≡◌, ◌-◌, ◌^◌, IfSome};
+ghost use Rattle.ror_pivot.specs.Answers.{most_of};
+ghost use Rattle.ror_measure.specs.Found.{IsFoundOfPlan};
 
 use crate::rows::clear_often;
+use crate::systems::{Found, Kind, Plan, decide, made_system};
+use ror_pivot::Bits;
+use std::alloc::Global;
 use std::rt::Env;
 use std::{env, io};
 
-/// How wide the words are, how many entries a row has, and how often its column is cleared.
+/// What is measured, at words of so many bits.
 #[derive(Clone, Copy)]
-struct Sizes {
-    bits: u32,
-    entries: usize,
-    times: u32,
+enum Task {
+    /// How many entries a row has, and how often its column is cleared.
+    Clear {
+        bits: u32,
+        entries: usize,
+        times: usize,
+    },
+    /// The system that is solved.
+    Solve {
+        bits: u32,
+        plan: Plan,
+    },
 }
 
 fn main(rt: HostRuntime) -> io::Result<()> {
-    let Some(sizes) = given_sizes(&rt) else {
-        return println!(rt; "usage: ror_measure BITS ENTRIES TIMES");
+    match given_task(&rt) {
+        Some(
+            Task::Clear {
+                bits,
+                entries,
+                times,
+            },
+        ) => clear(&rt, bits, entries, times),
+        Some(Task::Solve { bits, plan }) => solve(&rt, bits, plan),
+        None => println!(rt;
+            "usage: ror_measure clear BITS ENTRIES TIMES | statements BITS ROWS CRITERIA NUMBER | dense BITS ROWS COLUMNS NUMBER"
+        ),
+    }
+}
+
+/// What the words of the command line ask for.
+fn given_task<R: Env + AllocGlobal>(rt: &R) -> Option<Task> {
+    let mut words = env::args(rt).ok()?.skip(1);
+    let name = words.next()?;
+    let bits = words.next()?.as_str().parse().ok()?;
+    let first: usize = words.next()?.as_str().parse().ok()?;
+    let second: usize = words.next()?.as_str().parse().ok()?;
+    let (kind, columns) = match name.as_str() {
+        "clear" => {
+            return Some(Task::Clear {
+                bits,
+                entries: first,
+                times: second,
+            });
+        }
+        "statements" => (Kind::Statements, second.saturating_mul(3)),
+        "dense" => (Kind::Dense, second),
+        _ => return None,
     };
-    let Sizes {
-        bits,
-        entries,
-        times,
-    } = sizes;
+    let number = words.next()?.as_str().parse().ok()?;
+    let plan = Plan {
+        kind,
+        rows: first,
+        columns,
+        number,
+    };
+    Some(Task::Solve { bits, plan })
+}
+
+/// Clears the column, and prints how many entries of the last row are not 0.
+fn clear<R: Print + AllocGlobal>(
+    rt: &R,
+    bits: u32,
+    entries: usize,
+    times: usize,
+) -> io::Result<()> {
     // The numbers of a row have less than half of the width, so that each product fits.
     let others = match bits {
         15 => clear_often::<i16>(rt.alloc(), 6, entries, times),
@@ -41,15 +101,37 @@ fn main(rt: HostRuntime) -> io::Result<()> {
     }
 }
 
-/// The sizes that the words of the command line give.
-fn given_sizes<R: Env + AllocGlobal>(rt: &R) -> Option<Sizes> {
-    let mut words = env::args(rt).ok()?.skip(1);
-    let bits = words.next()?.as_str().parse().ok()?;
-    let entries = words.next()?.as_str().parse().ok()?;
-    let times = words.next()?.as_str().parse().ok()?;
-    Some(Sizes {
-        bits,
-        entries,
-        times,
-    })
+/// Makes the system and solves it once, and prints what it comes to.
+fn solve<R: Print + AllocGlobal>(rt: &R, bits: u32, plan: Plan) -> io::Result<()> {
+    let Plan { rows, columns, .. } = plan;
+    print!(rt; "{bits} bits, {rows} rows, {columns} columns: ")?;
+    match solved(rt.alloc(), bits, plan) {
+        Some(Found::Solution(sum)) => println!(rt; "solution {sum}"),
+        Some(Found::Multipliers(Some(sum))) => println!(rt; "multipliers {sum}"),
+        Some(Found::Multipliers(None)) => println!(rt; "multipliers"),
+        Some(Found::TooWide(pivots)) => println!(rt; "too wide after {pivots} pivots"),
+        None => println!(rt; "no such system"),
+    }
+}
+
+/// What the system comes to at words of so many bits, where there is one at that width.
+fn solved(alloc: Global, bits: u32, plan: Plan) -> Option<Found>
+    ensures { IfSome result (IsFoundOfPlan bits plan) }
+{
+    let width = width_of(bits)?;
+    let system = made_system(alloc, plan)?;
+    decide(alloc, &system, width)
+}
+
+/// The width of so many bits: 15, 31, 63 or 127.
+fn width_of(bits: u32) -> Option<Bits>
+    ensures { IfSome result (λ width. most_of width ≡ 2 ^ bits - 1) }
+{
+    match bits {
+        15 => Some(Bits::B15),
+        31 => Some(Bits::B31),
+        63 => Some(Bits::B63),
+        127 => Some(Bits::B127),
+        _ => None,
+    }
 }
