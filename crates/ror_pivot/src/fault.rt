@@ -11,6 +11,7 @@ use std::alloc::{AllocError, AllocFailed};
 pub enum NumberFault {
     /// The number at this place, and none before it, is too wide.
     Wide(Place),
+    /// Memory ran out.
     Memory,
 }
 

@@ -21,7 +21,7 @@ pub enum Bits {
     B127,
 }
 
-/// What shows a side of a system.
+/// Whether a system has a solution, with the certificate that shows it.
 #[derive(Debug, Drop)]
 pub enum Outcome {
     /// The system has this solution.
@@ -31,7 +31,8 @@ pub enum Outcome {
 }
 
 /// Where a number of a path stands. The rows of `Start`, `Step` and `Denominator` are those of the tableau, that of `RowSum`
-/// is one of the system, weak rows first.
+/// is one of the system, weak rows first. Rows of the tableau are below weak + strict + 2, columns below
+/// steps + weak + strict + 4.
 #[derive(Clone, Copy, Debug, PartialEq, Eq)]
 pub enum Place {
     /// An entry of the starting tableau, by its row and its column.

@@ -7,7 +7,7 @@ ghost use Rattle.ror_pivot.specs.Calls.{IsSmall};
 
 use ror_system::System;
 
-/// How many steps, weak rows and strict rows a system has.
+/// How many steps, weak rows and strict rows a system has: at most 2,000 steps and 2,200 rows.
 #[derive(Clone, Copy, Debug, PartialEq, Eq)]
 pub struct Shape {
     pub steps: usize,
@@ -60,6 +60,22 @@ impl Shape {
         ensures { result ≡ right_side self }
     {
         self.objective_column() + 1
+    }
+
+    /// How many columns there are.
+    pub(crate) fn column_count(self) -> usize
+        requires { IsSmall self }
+        ensures { result ≡ column_count self }
+    {
+        self.right_side() + 1
+    }
+
+    /// How many rows there are.
+    pub(crate) fn row_count(self) -> usize
+        requires { IsSmall self }
+        ensures { result ≡ row_count self }
+    {
+        self.objective_row() + 1
     }
 
     /// The row of the objective, which is the last.

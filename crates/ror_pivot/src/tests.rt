@@ -176,7 +176,7 @@ const CASES: [(usize, Rows, Rows, Seen, Seen); 12] = [
         Seen::Wide(2, Place::ColumnSum(0)),
         Seen::Refuted,
     ),
-    // two equal rows tie
+    // equal rows tie in the ratio of right-hand sides, and the slacks decide
     (2, &[], &[&[3, -2], &[3, -2]], Seen::Solved, Seen::Solved),
     (
         2,
