@@ -1,8 +1,8 @@
 -- The systems that are made, and what is printed of what they come to.
-use Rattle.std.specs.Prelude.{◌≡◌, ℕ, ◌-◌, ◌^◌, ◌≤◌, List, [], length, ℤ, IfSome, unsigned_abs}
+use Rattle.std.specs.Prelude.{◌≡◌, ℕ, ◌-◌, ◌^◌, ◌≤◌, List, [], length, ℤ, pos, ◌<ℤ◌, MatchOption, unsigned_abs}
 use Rattle.std.specs.List.{AllByRecursion}
 use Rattle.ror_integers.specs.Vectors.{total}
-use Rattle.ror_system.specs.System.{LinearSystem}
+use Rattle.ror_system.specs.System.{LinearSystem, IsNarrow}
 use Rattle.ror_pivot.specs.declared.note.Place.{Place}
 use Rattle.ror_pivot.specs.Notes.{IsWideNote}
 use Rattle.ror_pivot.specs.Answers.{EndsFeasible, EndsInfeasible}
@@ -25,9 +25,9 @@ pub record IsMadeSystem (plan : Plan) (s : LinearSystem) : Type 0 where
 -- rows, or how many pivots come before the first number that passes most
 abbrev pub IsFound : ℕ → LinearSystem → Found → Type 0
 IsFound most s (Solution sum) = (steps : List ℤ) × EndsFeasible most s steps × (sum ≡ total steps)
-IsFound most s (Multipliers sum) = (strict : List ℤ) × EndsInfeasible most s [] strict × IfSome sum (λ n. n ≡ total strict)
+IsFound most s (Multipliers sum) = (strict : List ℤ) × EndsInfeasible most s [] strict × MatchOption sum (((pos 0 <ℤ total strict) × IsNarrow (total strict)) → ⊥) (λ n. n ≡ total strict)
 IsFound most s (TooWide pivots) = (path : List (ℕ × ℕ)) × (place : Place) × IsWideNote most s path place × (pivots ≡ length path)
 
--- it is found at the width of so many bits, of a system that is made as planned
+-- it is found at the width of so many bits, of some system of the planned size
 abbrev pub IsFoundOfPlan : ℕ → Plan → Found → Type 0
 IsFoundOfPlan bits plan x = (s : LinearSystem) × IsMadeSystem plan s × IsFound (2 ^ bits - 1) s x

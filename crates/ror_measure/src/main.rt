@@ -5,6 +5,8 @@
 mod numbers;
 mod rows;
 mod systems;
+#[cfg(test)]
+mod tests;
 
 ghost use Rattle.std.specs.Prelude.{◌≡◌, ◌-◌, ◌^◌, IfSome};
 ghost use Rattle.ror_pivot.specs.Answers.{most_of};
@@ -17,7 +19,7 @@ use std::alloc::Global;
 use std::rt::Env;
 use std::{env, io};
 
-/// What is measured, at words of so many bits.
+/// What is measured, at a width of 15, 31, 63 or 127 bits.
 #[derive(Clone, Copy)]
 enum Task {
     /// How many entries a row has, and how often its column is cleared.
@@ -85,7 +87,7 @@ fn clear<R: Print + AllocGlobal>(
     entries: usize,
     times: usize,
 ) -> io::Result<()> {
-    // The numbers of a row have less than half of the width, so that each product fits.
+    // The factors of the rows are 4 and 3: products of entries of less than half of the width fit.
     let others = match bits {
         15 => clear_often::<i16>(rt.alloc(), 6, entries, times),
         31 => clear_often::<i32>(rt.alloc(), 14, entries, times),
@@ -114,7 +116,7 @@ fn solve<R: Print + AllocGlobal>(rt: &R, bits: u32, plan: Plan) -> io::Result<()
     }
 }
 
-/// What the system comes to at words of so many bits, where there is one at that width.
+/// What the system comes to at a width of 15, 31, 63 or 127 bits.
 fn solved(alloc: Global, bits: u32, plan: Plan) -> Option<Found>
     ensures { IfSome result (IsFoundOfPlan bits plan) }
 {

@@ -33,6 +33,7 @@ pub struct Plan {
 }
 
 /// What a system comes to at a width.
+#[derive(Clone, Copy, Debug, PartialEq, Eq)]
 pub enum Found {
     /// A solution, by the sum of its steps.
     Solution(i128),
