@@ -1,35 +1,38 @@
 -- What the work's outcome says of a run that ends after it.
-use Rattle.std.proofs.Common.{◌≡◌, ℕ, ◌<◌, ◌≤◌, List, Option, Some, Result, Ok, Err, sym, subst, inl, inr, arith}
-use Rattle.ror_io.specs.Files.{Files}
+use Rattle.std.proofs.Common.{◌≡◌, ◌≢◌, ℕ, ◌<◌, ◌≤◌, List, Option, Some, None, Result, Ok, Err, IfErr, IsErr, refl, sym, subst, inl, inr, arith}
+use Rattle.ror_io.specs.Files.{Files, Lacks}
+use Rattle.ror_io.specs.Counts.{Rose}
 use Rattle.ror.specs.declared.status.Status.{Status}
+use Rattle.ror.specs.declared.status.Status.TheVariants as statuses
 use Rattle.ror.specs.declared.work.Stop.{Stop}
 use Rattle.ror.specs.declared.work.Stop.TheVariants as stops
 use Rattle.ror.specs.Words.{CheckNames, check_of}
-use Rattle.ror.specs.Stops.{status_at, ShowsStop, OfToldFiles, ShowsWork, Concludes}
-use Rattle.ror.specs.Work.{ProvesReport}
-use Rattle.ror.specs.Running.{Shows, ShowsFiles, DecidesStatus, CountsAnswers, Writes}
+use Rattle.ror.specs.States.{ShelfState, SinkState}
+use Rattle.ror.specs.Stops.{status_at, ShowsStop, OfToldFiles, ShowsWork, Concludes, IsPure, WorksAfter, IsWorkOn}
+use Rattle.ror.specs.Work.{ProvesReport, LacksOne}
+use Rattle.ror.specs.Running.{ShowsStatus, ShowsFiles, DecidesStatus, CountsAnswers, Writes, HidesNoMemory, EndsAfter, IsRun}
 use Rattle.ror.proofs.Deciding.{Decides-from_Shows}
 
-stop_shown : (files : Files) (names : CheckNames) (stop : Stop) → ShowsStop files names stop → Shows files names (status_at stop)
+stop_shown : (files : Files) (names : CheckNames) (stop : Stop) → ShowsStop files names stop → ShowsStatus files names (status_at stop)
 stop_shown files names (stops.BadTable fault) shows = shows
 stop_shown files names (stops.BadSession fault) shows = shows
 stop_shown files names (stops.Rejected rejection) shows = shows
 stop_shown files names stops.ReadFault shows = shows
 stop_shown files names stops.Memory shows = tt
 
-shown : (files : Files) (names : CheckNames) (b a : ℕ) (old new : Option (List ℕ)) (outcome : Result ℕ Stop) (status : Status) → Concludes b a old new outcome status → ShowsWork names outcome files → Shows files names status
+shown : (files : Files) (names : CheckNames) (b a : ℕ) (old new : Option (List ℕ)) (outcome : Result ℕ Stop) (status : Status) → Concludes b a old new outcome status → ShowsWork names outcome files → ShowsStatus files names status
 shown files names b a old new (Ok n) status (inl done) shows =
-    subst (λ (s : Status). Shows files names s) (sym done.0) ((n, shows.0), shows.1)
+    subst (λ (s : Status). ShowsStatus files names s) (sym done.0) ((n, shows.0), shows.1)
 shown files names b a old new (Ok n) status (inr failed) shows =
-    subst (λ (s : Status). Shows files names s) (sym failed.0) (n, shows.0)
+    subst (λ (s : Status). ShowsStatus files names s) (sym failed.0) (n, shows.0)
 shown files names b a old new (Err stop) status ends shows =
-    subst (λ (s : Status). Shows files names s) (sym ends.0) (stop_shown files names stop shows)
+    subst (λ (s : Status). ShowsStatus files names s) (sym ends.0) (stop_shown files names stop shows)
 
 -- what a run's status shows of its files
 pub status_shows : (told : Option Files) (before now : ℕ) (words : List (List ℕ)) (mine : CheckNames) (b a : ℕ) (old new : Option (List ℕ)) (outcome : Result ℕ Stop) (status : Status) → check_of words ≡ Some mine → OfToldFiles told before now (ShowsWork mine outcome) → Concludes b a old new outcome status → ShowsFiles told before now words status
 status_shows told before now words mine b a old new outcome status is shows ends files names is_told named stayed =
     let same : mine ≡ names = cc in
-    subst (λ (n : CheckNames). Shows files n status) same (shown files mine b a old new outcome status ends (shows files is_told stayed))
+    subst (λ (n : CheckNames). ShowsStatus files n status) same (shown files mine b a old new outcome status ends (shows files is_told stayed))
 
 pub status_decided : (told : Option Files) (before now : ℕ) (words : List (List ℕ)) (status : Status) → ShowsFiles told before now words status → DecidesStatus told before now words status
 status_decided told before now words status shows files names is_told named stayed other =
@@ -62,6 +65,112 @@ out_rises b a old new (Ok n) status (inl done) = omega (arith, done.1)
 out_rises b a old new (Ok n) status (inr failed) = failed.1
 out_rises b a old new (Err stop) status ends = omega (arith, ends.1)
 
--- what is not above is at most
-pub not_above : (a b : ℕ) → (a < b → ⊥) → b ≤ a
-not_above a b never = grind arith
+-- no status is that for usage where the work was begun
+no_usage : (b a : ℕ) (old new : Option (List ℕ)) (outcome : Result ℕ Stop) (status : Status) → Concludes b a old new outcome status → status ≡ statuses.Usage → ⊥
+no_usage b a old new (Ok n) status (inl done) is = let p = done.0 in cc
+no_usage b a old new (Ok n) status (inr failed) is = let p = failed.0 in cc
+no_usage b a old new (Err (stops.BadTable fault)) status ends is = let p = ends.0 in cc
+no_usage b a old new (Err (stops.BadSession fault)) status ends is = let p = ends.0 in cc
+no_usage b a old new (Err (stops.Rejected rejection)) status ends is = let p = ends.0 in cc
+no_usage b a old new (Err stops.ReadFault) status ends is = let p = ends.0 in cc
+no_usage b a old new (Err stops.Memory) status ends is = let p = ends.0 in cc
+
+-- a status of a file that could not be read is that of the work
+read_stops : (b a : ℕ) (old new : Option (List ℕ)) (outcome : Result ℕ Stop) (status : Status) → Concludes b a old new outcome status → status ≡ statuses.ReadFault → outcome ≡ Err stops.ReadFault
+read_stops b a old new (Ok n) status (inl done) is = absurd (let p = done.0 in cc)
+read_stops b a old new (Ok n) status (inr failed) is = absurd (let p = failed.0 in cc)
+read_stops b a old new (Err (stops.BadTable fault)) status ends is = absurd (let p = ends.0 in cc)
+read_stops b a old new (Err (stops.BadSession fault)) status ends is = absurd (let p = ends.0 in cc)
+read_stops b a old new (Err (stops.Rejected rejection)) status ends is = absurd (let p = ends.0 in cc)
+read_stops b a old new (Err stops.ReadFault) status ends is = refl
+read_stops b a old new (Err stops.Memory) status ends is = absurd (let p = ends.0 in cc)
+
+stop_read : (b a : ℕ) (old new : Option (List ℕ)) (outcome : Result ℕ Stop) (status : Status) → Concludes b a old new outcome status → outcome ≡ Err stops.ReadFault → status ≡ statuses.ReadFault
+stop_read b a old new (Ok n) status ends is = absurd cc
+stop_read b a old new (Err stop) status ends is = let p = ends.0 in cc
+
+writing : (b a : ℕ) (old new : Option (List ℕ)) (outcome : Result ℕ Stop) (status : Status) → Concludes b a old new outcome status → status ≡ statuses.WriteFault → Rose b a
+writing b a old new (Ok n) status (inl done) is = absurd (let p = done.0 in cc)
+writing b a old new (Ok n) status (inr failed) is = failed.2
+writing b a old new (Err (stops.BadTable fault)) status ends is = absurd (let p = ends.0 in cc)
+writing b a old new (Err (stops.BadSession fault)) status ends is = absurd (let p = ends.0 in cc)
+writing b a old new (Err (stops.Rejected rejection)) status ends is = absurd (let p = ends.0 in cc)
+writing b a old new (Err stops.ReadFault) status ends is = absurd (let p = ends.0 in cc)
+writing b a old new (Err stops.Memory) status ends is = absurd (let p = ends.0 in cc)
+
+rose_writing : (b a : ℕ) (old new : Option (List ℕ)) (outcome : Result ℕ Stop) (status : Status) → Concludes b a old new outcome status → b < a → status ≡ statuses.WriteFault
+rose_writing b a old new (Ok n) status (inl done) rose = absurd (omega (arith, done.1, rose))
+rose_writing b a old new (Ok n) status (inr failed) rose = failed.0
+rose_writing b a old new (Err stop) status ends rose = absurd (omega (arith, ends.1, rose))
+
+done_ok : (b a : ℕ) (old new : Option (List ℕ)) (outcome : Result ℕ Stop) (status : Status) → Concludes b a old new outcome status → IsErr outcome → status ≢ statuses.Done
+done_ok b a old new (Ok n) status ends failed is = absurd (let f = failed in cc)
+done_ok b a old new (Err (stops.BadTable fault)) status ends failed is = let p = ends.0 in cc
+done_ok b a old new (Err (stops.BadSession fault)) status ends failed is = let p = ends.0 in cc
+done_ok b a old new (Err (stops.Rejected rejection)) status ends failed is = let p = ends.0 in cc
+done_ok b a old new (Err stops.ReadFault) status ends failed is = let p = ends.0 in cc
+done_ok b a old new (Err stops.Memory) status ends failed is = let p = ends.0 in cc
+
+hides : (b a : ℕ) (old new : Option (List ℕ)) (outcome : Result ℕ Stop) (status : Status) → Concludes b a old new outcome status → IfErr outcome IsPure → HidesNoMemory status
+hides b a old new (Ok n) status (inl done) pure = subst HidesNoMemory (sym done.0) tt
+hides b a old new (Ok n) status (inr failed) pure = subst HidesNoMemory (sym failed.0) tt
+hides b a old new (Err (stops.BadTable fault)) status ends pure = subst HidesNoMemory (sym ends.0) tt
+hides b a old new (Err (stops.BadSession fault)) status ends pure = subst HidesNoMemory (sym ends.0) pure
+hides b a old new (Err (stops.Rejected rejection)) status ends pure = subst HidesNoMemory (sym ends.0) pure
+hides b a old new (Err stops.ReadFault) status ends pure = subst HidesNoMemory (sym ends.0) tt
+hides b a old new (Err stops.Memory) status ends pure = subst HidesNoMemory (sym ends.0) tt
+
+ends_after : (b a n : ℕ) (old new : Option (List ℕ)) (outcome : Result ℕ Stop) (status : Status) → Concludes b a old new outcome status → WorksAfter outcome n → EndsAfter status n
+ends_after b a n old new (Ok m) status (inl done) after = subst (λ (s : Status). EndsAfter s n) (sym done.0) after
+ends_after b a n old new (Ok m) status (inr failed) after = subst (λ (s : Status). EndsAfter s n) (sym failed.0) after
+ends_after b a n old new (Err (stops.BadTable fault)) status ends after = subst (λ (s : Status). EndsAfter s n) (sym ends.0) after
+ends_after b a n old new (Err (stops.BadSession fault)) status ends after = subst (λ (s : Status). EndsAfter s n) (sym ends.0) after
+ends_after b a n old new (Err (stops.Rejected rejection)) status ends after = subst (λ (s : Status). EndsAfter s n) (sym ends.0) after
+ends_after b a n old new (Err stops.ReadFault) status ends after = subst (λ (s : Status). EndsAfter s n) (sym ends.0) after
+ends_after b a n old new (Err stops.Memory) status ends after = subst (λ (s : Status). EndsAfter s n) (sym ends.0) after
+
+-- the words name files: the run is the work on them and its conclusion
+pub concluded_run : (words : List (List ℕ)) (names : CheckNames) (before now : ShelfState) (old new : SinkState) (outcome : Result ℕ Stop) (status : Status) → check_of words ≡ Some names → IsWorkOn names before now outcome → Concludes old.faults new.faults old.written new.written outcome status → IsRun words before now old new status
+concluded_run words names before now old new outcome status is work ends =
+    let shows = status_shows before.told before.faults now.faults words names old.faults new.faults old.written new.written outcome status is work.shows ends in
+    record {
+      usage = (λ usage. absurd (no_usage _ _ _ _ outcome status ends usage), λ none. absurd cc);
+      read_fault = λ fault. elim (work.read_fault (read_stops _ _ _ _ outcome status ends fault)) [
+        | inl rose ↦ inl rose
+        | inr lacks ↦ inr (names, is, lacks)
+      ];
+      write_fault = λ fault. writing _ _ _ _ outcome status ends fault;
+      shelf_rose = λ rose. stop_read _ _ _ _ outcome status ends (work.rose rose);
+      out_rose = λ rose. rose_writing _ _ _ _ outcome status ends rose;
+      shelf_never_falls = work.never_falls;
+      out_never_falls = out_rises _ _ _ _ outcome status ends;
+      told_stays = work.told_stays;
+      fetched = (work.counted.0, ends_after _ _ _ _ _ outcome status ends work.counted.1, work.counted.2);
+      lacking = λ lacks. done_ok _ _ _ _ outcome status ends (work.lacking (let same : lacks.0 ≡ names = let p = lacks.1 in cc in subst (λ (x : CheckNames). LacksOne before.told x) same lacks.2));
+      no_table = λ lacks. stop_read _ _ _ _ outcome status ends (work.no_table (let same : lacks.0 ≡ names = let p = lacks.1 in cc in subst (λ (x : CheckNames). Lacks before.told x.table) same lacks.2));
+      pure = hides _ _ _ _ outcome status ends work.pure;
+      shows = shows;
+      decided = status_decided _ _ _ _ _ shows;
+      output = status_writes before.told before.faults now.faults words names old.faults new.faults old.written new.written outcome status is work.shows ends;
+    }
+
+-- the words name none: nothing is fetched or written
+pub usage_run : (words : List (List ℕ)) (shelf : ShelfState) (out : SinkState) → check_of words ≡ None → IsRun words shelf shelf out out statuses.Usage
+usage_run words shelf out none =
+    record {
+      usage = (λ usage. none, λ other. refl);
+      read_fault = λ fault. absurd cc;
+      write_fault = λ fault. absurd cc;
+      shelf_rose = λ rose. absurd (omega arith);
+      out_rose = λ rose. absurd (omega arith);
+      shelf_never_falls = omega arith;
+      out_never_falls = omega arith;
+      told_stays = refl;
+      fetched = (0, refl, refl);
+      lacking = λ lacks is. cc;
+      no_table = λ lacks. absurd (let p = lacks.1 in cc);
+      pure = tt;
+      shows = λ files names told named stayed. absurd cc;
+      decided = λ files names told named stayed. absurd cc;
+      output = refl;
+    }

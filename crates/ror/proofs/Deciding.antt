@@ -11,7 +11,7 @@ use Rattle.ror.specs.declared.status.Status.{Status}
 use Rattle.ror.specs.declared.status.Status.TheVariants as statuses
 use Rattle.ror.specs.Words.{CheckNames}
 use Rattle.ror.specs.Work.{session_over, bench_for, ReadsTable, RefusesTable, ReadsSession, RefusesSession, ProvesReport, IsNotProved, IsLongReport, Misses, no_table, no_session, no_report}
-use Rattle.ror.specs.Running.{Shows, Decides}
+use Rattle.ror.specs.Running.{ShowsStatus, Decides}
 
 -- one table is read, or none
 one_table : (files : Files) (names : CheckNames) (t u : DecisionTable) → ReadsTable files names t → ReadsTable files names u → t ≡ u
@@ -92,7 +92,7 @@ missed_or_read files names t s bytes (no_session u other gone) read found = let 
 missed_or_read files names t s bytes (no_report u v other gone) read found = cc
 
 -- where a status other than want of memory shows what the files are like, they decide it
-pub Decides-from_Shows : (files : Files) (names : CheckNames) (status : Status) → Shows files names status → status ≢ statuses.Memory → Decides files names status
+pub Decides-from_Shows : (files : Files) (names : CheckNames) (status : Status) → ShowsStatus files names status → status ≢ statuses.Memory → Decides files names status
 Decides-from_Shows files names statuses.Done shows other =
     let n = shows.0.0 in
     let proved = shows.0.1 in

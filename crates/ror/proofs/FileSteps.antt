@@ -1,6 +1,6 @@
 -- What a fetch and the reading of its bytes say of the files of a shelf.
 use Rattle.std.proofs.Common.{◌≡◌, ◌≢◌, ℕ, ◌<◌, ◌≤◌, ◌⊎◌, List, length, Option, Some, None, Result, Ok, Err, refl, sym, arith, inl, inr, subst, ap}
-use Rattle.ror_io.specs.Files.{Files, file, Holds, Lacks}
+use Rattle.ror_io.specs.Files.{Files, file, HasFile, Lacks}
 use Rattle.ror_io.specs.Counts.{Rose, DidNotRise}
 use Rattle.ror_io.specs.Fetching.{OnFailed}
 use Rattle.ror_io.specs.declared.shelf.ShelfFault.{ShelfFault}
@@ -26,10 +26,10 @@ found_or None there = absurd (there refl)
 found_or (Some bytes) there = (bytes, refl)
 
 -- the bytes of a file that was fetched
-pub there : (told : Option Files) (files : Files) (name : List ℕ) → told ≡ Some files → (Lacks told name → ⊥) → (bytes : List ℕ) × (file files name ≡ Some bytes) × Holds told name bytes
+pub there : (told : Option Files) (files : Files) (name : List ℕ) → told ≡ Some files → (Lacks told name → ⊥) → (bytes : List ℕ) × (file files name ≡ Some bytes) × HasFile told name bytes
 there told files name is kept =
     let found = found_or (file files name) (λ none. kept (subst (λ (t : Option Files). Lacks t name) (sym is) none)) in
-    (found.0, found.1, subst (λ (t : Option Files). Holds t name found.0) (sym is) found.1)
+    (found.0, found.1, subst (λ (t : Option Files). HasFile t name found.0) (sym is) found.1)
 
 -- a fetch that brought nothing, of a shelf that tells its files and whose count did not rise
 pub missed : (told : Option Files) (files : Files) (names : CheckNames) (name : List ℕ) (before now : ℕ) (fault : ShelfFault) → told ≡ Some files → DidNotRise before now → OnFailed (Err fault) (Rose before now ⊎ Lacks told name) → (file files name ≡ None → Misses files names) → ShowsStop files names (stop_at_shelf fault)

@@ -2,6 +2,7 @@ pub mod WordLemmas
 pub mod PrintLemmas
 pub mod LongTexts
 pub mod FileSteps
+pub mod Fetches
 pub mod Deciding
 pub mod Conclusions
 pub mod RefusedLines

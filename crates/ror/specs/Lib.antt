@@ -1,5 +1,6 @@
 pub mod Words
 pub mod Named
+pub mod States
 pub mod Printing
 pub mod Statuses
 pub mod Work

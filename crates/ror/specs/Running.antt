@@ -1,7 +1,7 @@
 -- When each status comes, and what a run writes.
-use Rattle.std.specs.Prelude.{◌≡◌, ◌≢◌, ℕ, ◌⊎◌, List, Option, Some}
+use Rattle.std.specs.Prelude.{◌≡◌, ◌≢◌, ℕ, ◌<◌, ◌≤◌, ◌⊎◌, ◌↔◌, List, Option, Some, None}
 use Rattle.ror_io.specs.Files.{Files, Lacks}
-use Rattle.ror_io.specs.Counts.{Rose, DidNotRise}
+use Rattle.ror_io.specs.Counts.{Rose, DidNotRise, count_after}
 use Rattle.ror_io.specs.Writing.{Grew, GrewShort}
 use Rattle.ror.specs.declared.status.Status.{Status}
 use Rattle.ror.specs.declared.status.Status.TheVariants as statuses
@@ -10,6 +10,7 @@ use Rattle.ror_session.specs.declared.session.SessionFault.{SessionFault}
 use Rattle.ror_session.specs.declared.session.SessionFault.TheVariants as session_faults
 use Rattle.ror_bench.specs.declared.report.Reason.TheVariants.{TooLong}
 use Rattle.ror_bench.specs.Reports.{IsFreeOfMemory}
+use Rattle.ror.specs.States.{ShelfState, SinkState}
 use Rattle.ror.specs.Words.{CheckNames, check_of}
 use Rattle.ror.specs.Statuses.{status_text, accepted_text}
 use Rattle.ror.specs.Work.{RefusesTable, RefusesSession, ProvesReport, RefutesReport, IsNotProved, IsLongReport, IsTrue, Misses, LacksOne}
@@ -23,35 +24,35 @@ LacksTable told words = (names : CheckNames) × (check_of words ≡ Some names) 
 
 abbrev pub IsRejected : Status → Type 0
 IsRejected (statuses.Rejected r) = Unit {0}
-IsRejected statuses.Done = ⊥
-IsRejected statuses.Usage = ⊥
-IsRejected (statuses.BadTable f) = ⊥
-IsRejected (statuses.BadSession f) = ⊥
-IsRejected statuses.ReadFault = ⊥
-IsRejected statuses.WriteFault = ⊥
-IsRejected statuses.Memory = ⊥
+IsRejected _ = ⊥
 
 -- want of memory is a status of its own, and no other one holds it
-abbrev pub HoldsNoMemory : Status → Type 0
-HoldsNoMemory statuses.Done = Unit {0}
-HoldsNoMemory statuses.Usage = Unit {0}
-HoldsNoMemory (statuses.BadTable fault) = Unit {0}
-HoldsNoMemory (statuses.BadSession fault) = fault ≢ session_faults.Memory
-HoldsNoMemory (statuses.Rejected rejection) = IsFreeOfMemory rejection.reason
-HoldsNoMemory statuses.ReadFault = Unit {0}
-HoldsNoMemory statuses.WriteFault = Unit {0}
-HoldsNoMemory statuses.Memory = Unit {0}
+abbrev pub HidesNoMemory : Status → Type 0
+HidesNoMemory (statuses.BadSession fault) = fault ≢ session_faults.Memory
+HidesNoMemory (statuses.Rejected rejection) = IsFreeOfMemory rejection.reason
+HidesNoMemory _ = Unit {0}
+
+-- The run ends after so many fetches, at most one for each file and in their order: none where the words name no files,
+-- one where the table is refused, two where the session is, and three where the report is read. A file that could not be
+-- read, and want of memory, may come at each.
+abbrev pub EndsAfter : Status → ℕ → Type 0
+EndsAfter statuses.Usage n = n ≡ 0
+EndsAfter (statuses.BadTable fault) n = n ≡ 1
+EndsAfter (statuses.BadSession fault) n = n ≡ 2
+EndsAfter statuses.ReadFault n = (1 ≤ n) × (n ≤ 3)
+EndsAfter statuses.Memory n = n ≤ 3
+EndsAfter _ n = n ≡ 3
 
 -- what the files are like where a run ends with the status; want of memory says nothing
-abbrev pub Shows : Files → CheckNames → Status → Type 0
-Shows files names statuses.Done = ((n : ℕ) × ProvesReport files names n) × IsTrue files names
-Shows files names statuses.Usage = ⊥
-Shows files names (statuses.BadTable fault) = RefusesTable files names fault
-Shows files names (statuses.BadSession fault) = RefusesSession files names fault
-Shows files names (statuses.Rejected r) = RefutesReport files names r
-Shows files names statuses.ReadFault = Misses files names
-Shows files names statuses.WriteFault = (n : ℕ) × ProvesReport files names n
-Shows files names statuses.Memory = Unit {0}
+abbrev pub ShowsStatus : Files → CheckNames → Status → Type 0
+ShowsStatus files names statuses.Done = ((n : ℕ) × ProvesReport files names n) × IsTrue files names
+ShowsStatus files names statuses.Usage = ⊥
+ShowsStatus files names (statuses.BadTable fault) = RefusesTable files names fault
+ShowsStatus files names (statuses.BadSession fault) = RefusesSession files names fault
+ShowsStatus files names (statuses.Rejected r) = RefutesReport files names r
+ShowsStatus files names statuses.ReadFault = Misses files names
+ShowsStatus files names statuses.WriteFault = (n : ℕ) × ProvesReport files names n
+ShowsStatus files names statuses.Memory = Unit {0}
 
 -- which status files of this kind lead to, unless memory runs out
 pub record Decides (files : Files) (names : CheckNames) (status : Status) : Type 0 where
@@ -64,7 +65,7 @@ pub record Decides (files : Files) (names : CheckNames) (status : Status) : Type
 
 -- a shelf that tells its files, and whose count did not rise, is of files that the status shows
 abbrev pub ShowsFiles : Option Files → ℕ → ℕ → List (List ℕ) → Status → Type 0
-ShowsFiles told before now words status = (files : Files) (names : CheckNames) → told ≡ Some files → check_of words ≡ Some names → DidNotRise before now → Shows files names status
+ShowsFiles told before now words status = (files : Files) (names : CheckNames) → told ≡ Some files → check_of words ≡ Some names → DidNotRise before now → ShowsStatus files names status
 
 -- and those files decide the status
 abbrev pub DecidesStatus : Option Files → ℕ → ℕ → List (List ℕ) → Status → Type 0
@@ -79,14 +80,32 @@ CountsAnswers told before now words n = (files : Files) (names : CheckNames) →
 abbrev pub Writes : Option Files → ℕ → ℕ → List (List ℕ) → Option (List ℕ) → Option (List ℕ) → Status → Type 0
 Writes told before now words old new statuses.Done = (n : ℕ) × CountsAnswers told before now words n × Grew old new (accepted_text n)
 Writes told before now words old new statuses.WriteFault = (n : ℕ) × CountsAnswers told before now words n × GrewShort old new (accepted_text n)
-Writes told before now words old new statuses.Usage = new ≡ old
-Writes told before now words old new (statuses.BadTable f) = new ≡ old
-Writes told before now words old new (statuses.BadSession f) = new ≡ old
-Writes told before now words old new (statuses.Rejected r) = new ≡ old
-Writes told before now words old new statuses.ReadFault = new ≡ old
-Writes told before now words old new statuses.Memory = new ≡ old
+Writes told before now words old new _ = new ≡ old
 
 -- What is written on standard error, where it is told: the text of the status, or a proper beginning of it where its
 -- own count rose, which changes no status.
 abbrev pub Says : ℕ → ℕ → Option (List ℕ) → Option (List ℕ) → Status → Type 0
 Says before now old new status = ((now ≡ before) × Grew old new (status_text status)) ⊎ (Rose before now × GrewShort old new (status_text status))
+
+-- How a run over the words ends with the status: what the shelf and standard output told before it, and what they tell then.
+pub record IsRun (words : List (List ℕ)) (before now : ShelfState) (old new : SinkState) (status : Status) : Type 0 where
+  -- the words decide usage, and nothing else does
+  pub usage : (status ≡ statuses.Usage) ↔ (check_of words ≡ None)
+  -- faults of the outside come only with a cause, and a count that rose decides the status
+  pub read_fault : status ≡ statuses.ReadFault → Rose before.faults now.faults ⊎ LacksNamed before.told words
+  pub write_fault : status ≡ statuses.WriteFault → Rose old.faults new.faults
+  pub shelf_rose : before.faults < now.faults → status ≡ statuses.ReadFault
+  pub out_rose : old.faults < new.faults → status ≡ statuses.WriteFault
+  pub shelf_never_falls : before.faults ≤ now.faults
+  pub out_never_falls : old.faults ≤ new.faults
+  pub told_stays : now.told ≡ before.told
+  pub fetched : (n : ℕ) × EndsAfter status n × (now.fetches ≡ count_after n before.fetches)
+  -- Whatever the counts are: the work is not done without one of the files, nor begun without the table. Want of memory
+  -- is a status of its own, and no other one holds it.
+  pub lacking : LacksNamed before.told words → status ≢ statuses.Done
+  pub no_table : LacksTable before.told words → status ≡ statuses.ReadFault
+  pub pure : HidesNoMemory status
+  -- what the files are like under each status, and which status the files lead to
+  pub shows : ShowsFiles before.told before.faults now.faults words status
+  pub decided : DecidesStatus before.told before.faults now.faults words status
+  pub output : Writes before.told before.faults now.faults words old.written new.written status

@@ -1,7 +1,7 @@
 -- Where the work on the three files stops, and what the files are like there.
-use Rattle.std.specs.Prelude.{◌≡◌, ◌≢◌, ℕ, ◌<◌, ◌≤◌, ◌⊎◌, List, length, Option, Some, Result, Ok, Err}
-use Rattle.ror_io.specs.Files.{Files}
-use Rattle.ror_io.specs.Counts.{Rose, DidNotRise}
+use Rattle.std.specs.Prelude.{◌≡◌, ◌≢◌, ℕ, ◌<◌, ◌≤◌, ◌⊎◌, List, length, Option, Some, Result, Ok, Err, IfErr, IsErr, IsErrOf}
+use Rattle.ror_io.specs.Files.{Files, Lacks}
+use Rattle.ror_io.specs.Counts.{Rose, DidNotRise, next_count, count_after}
 use Rattle.ror_io.specs.Writing.{Grew, GrewShort}
 use Rattle.ror_io.specs.declared.shelf.ShelfFault.{ShelfFault}
 use Rattle.ror_io.specs.declared.shelf.ShelfFault.TheVariants as shelf_faults
@@ -20,9 +20,10 @@ use Rattle.ror.specs.declared.status.Status.{Status}
 use Rattle.ror.specs.declared.status.Status.TheVariants as statuses
 use Rattle.ror.specs.declared.work.Stop.{Stop}
 use Rattle.ror.specs.declared.work.Stop.TheVariants as stops
+use Rattle.ror.specs.States.{ShelfState}
 use Rattle.ror.specs.Words.{CheckNames}
 use Rattle.ror.specs.Statuses.{accepted_text}
-use Rattle.ror.specs.Work.{bench_for, ReadsTable, ReadsSession, RefusesTable, RefusesSession, ProvesReport, RefutesReport, IsTrue, Misses}
+use Rattle.ror.specs.Work.{bench_for, ReadsTable, ReadsSession, RefusesTable, RefusesSession, ProvesReport, RefutesReport, IsTrue, Misses, LacksOne}
 
 -- the stop that a fault of the shelf leads to, and those of the readers
 abbrev pub stop_at_shelf : ShelfFault → Stop
@@ -62,19 +63,29 @@ ShowsStop files names stops.Memory = Unit {0}
 
 -- no stop holds a want of memory inside
 abbrev pub IsPure : Stop → Type 0
-IsPure (stops.BadTable fault) = Unit {0}
 IsPure (stops.BadSession fault) = fault ≢ session_faults.Memory
 IsPure (stops.Rejected rejection) = IsFreeOfMemory rejection.reason
-IsPure stops.ReadFault = Unit {0}
-IsPure stops.Memory = Unit {0}
+IsPure _ = Unit {0}
 
--- nor does one at the bytes of a file, which is none of the shelf
-abbrev pub IsOfBytes : Stop → Type 0
-IsOfBytes (stops.BadTable fault) = Unit {0}
-IsOfBytes (stops.BadSession fault) = fault ≢ session_faults.Memory
-IsOfBytes (stops.Rejected rejection) = IsFreeOfMemory rejection.reason
-IsOfBytes stops.ReadFault = ⊥
-IsOfBytes stops.Memory = Unit {0}
+-- The stop comes after so many fetches: one at the table, two at the session and three at the report. A file that could
+-- not be read, and want of memory, may come at each.
+abbrev pub StopsAfter : Stop → ℕ → Type 0
+StopsAfter (stops.BadTable fault) n = n ≡ 1
+StopsAfter (stops.BadSession fault) n = n ≡ 2
+StopsAfter (stops.Rejected rejection) n = n ≡ 3
+StopsAfter stops.ReadFault n = (1 ≤ n) × (n ≤ 3)
+StopsAfter stops.Memory n = n ≤ 3
+
+-- the work is done after three fetches
+abbrev pub WorksAfter : Result ℕ Stop → ℕ → Type 0
+WorksAfter (Ok answers) n = n ≡ 3
+WorksAfter (Err stop) n = StopsAfter stop n
+
+-- a stop at the bytes of a file, after so many fetches: it is none of the shelf
+pub record IsOfBytes (n : ℕ) (stop : Stop) : Type 0 where
+  pub pure : IsPure stop
+  pub after : StopsAfter stop n
+  pub read : stop ≢ stops.ReadFault
 
 -- what a step answered is what the definition reads of the bytes; want of memory says nothing
 abbrev pub ReadsTableAs : Result DecisionTable TableFault → Result DecisionTable Stop → Type 0
@@ -118,6 +129,30 @@ ShowsSession names t (Err stop) files = ShowsStop files names stop
 abbrev pub ShowsWork : CheckNames → Result ℕ Stop → Files → Type 0
 ShowsWork names (Ok n) files = ProvesReport files names n × IsTrue files names
 ShowsWork names (Err stop) files = ShowsStop files names stop
+
+-- Fetching the file with this name, the next after so many that were read, and reading it: what the shelf was and is, and
+-- what came of it.
+pub record IsFetchOf {A : Type 0} (name : List ℕ) (place : ℕ) (before now : ShelfState) (result : Result A Stop) : Type 0 where
+  pub never_falls : before.faults ≤ now.faults
+  pub told_stays : now.told ≡ before.told
+  pub counted : now.fetches ≡ next_count before.fetches
+  pub read_fault : IsErrOf result stops.ReadFault → Rose before.faults now.faults ⊎ Lacks before.told name
+  pub missing : Lacks before.told name → IsErrOf result stops.ReadFault
+  pub rose : before.faults < now.faults → IsErrOf result stops.ReadFault
+  pub pure : IfErr result IsPure
+  pub stop : IfErr result (λ stop. StopsAfter stop place)
+
+-- the whole work on the files of these names
+pub record IsWorkOn (names : CheckNames) (before now : ShelfState) (result : Result ℕ Stop) : Type 0 where
+  pub never_falls : before.faults ≤ now.faults
+  pub told_stays : now.told ≡ before.told
+  pub counted : (n : ℕ) × WorksAfter result n × (now.fetches ≡ count_after n before.fetches)
+  pub read_fault : IsErrOf result stops.ReadFault → Rose before.faults now.faults ⊎ LacksOne before.told names
+  pub rose : before.faults < now.faults → IsErrOf result stops.ReadFault
+  pub lacking : LacksOne before.told names → IsErr result
+  pub no_table : Lacks before.told names.table → IsErrOf result stops.ReadFault
+  pub pure : IfErr result IsPure
+  pub shows : OfToldFiles before.told before.faults now.faults (ShowsWork names result)
 
 -- How a run ends after the work, and what it writes: the line of the accepted report or a proper front of it where the
 -- work was done, and nothing where it stopped.

@@ -13,14 +13,20 @@ use std::rt::Files;
 pub struct FileShelf<R> {
     files: R,
     faults: u64,
+    fetches: u64,
 }
 
 impl<R: Files> FileShelf<R> {
-    /// The files that the runtime reaches; no fetch failed yet.
+    /// The files that the runtime reaches, before any fetch.
     pub fn new(files: R) -> FileShelf<R>
-        ensures { result.faults ≡ 0 }
+        ensures faults { result.faults ≡ 0 }
+        ensures fetches { result.fetches ≡ 0 }
     {
-        FileShelf { files, faults: 0 }
+        FileShelf {
+            files,
+            faults: 0,
+            fetches: 0,
+        }
     }
 
     /// The bytes of the file, or those up to the first one past `most`.
@@ -38,7 +44,10 @@ impl<R: Files> Shelf for FileShelf<R> {
 
     ghost faults = { λ shelf. shelf.faults };
 
+    ghost fetch_count = { λ shelf. shelf.fetches };
+
     fn fetch(&mut self, alloc: Global, name: &str, most: usize) -> Result<Fetched, ShelfFault> {
+        self.fetches = self.fetches.saturating_add(1);
         match self.read(alloc, name, most) {
             Ok(bytes) if bytes.len() > most => Ok(Fetched::Longer),
             Ok(bytes) => Ok(Fetched::Whole(bytes)),
@@ -59,7 +68,7 @@ pub struct StreamSink<W> {
 }
 
 impl<W: Write> StreamSink<W> {
-    /// The stream; no write failed yet.
+    /// The stream, before any write.
     pub fn new(stream: W) -> StreamSink<W>
         ensures { result.faults ≡ 0 }
     {

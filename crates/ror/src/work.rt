@@ -1,15 +1,14 @@
 //! The work of a check on its three files. After a fault of the shelf nothing more is fetched.
 
-ghost use Rattle.std.specs.Prelude.{◌≡◌, ◌≤◌, ◌<◌, ℕ, List, ◌⊎◌, IfErr, IsErr, IsErrOf, IfOk, length, OnOk};
+ghost use Rattle.std.specs.Prelude.{◌≡◌, ◌≤◌, ℕ, List, IfErr, IfOk, length};
 ghost use Rattle.std.specs.List.{AllByRecursion};
-ghost use Rattle.ror_io.specs.Counts.{Rose};
-ghost use Rattle.ror_io.specs.Files.{Lacks};
-ghost use Rattle.ror_io.specs.Fetching.{Fetches, IsWithin};
+ghost use Rattle.ror_io.specs.Fetching.{Fetches, IsNoLonger};
 ghost use Rattle.ror_table.specs.Plain.{plain_table};
 ghost use Rattle.ror_bench.specs.Reports.{NamesADesk};
 ghost use Rattle.ror.specs.Named.{names_of};
-ghost use Rattle.ror.specs.Work.{LacksOne, session_over, ReadsTable, ReadsSession};
-ghost use Rattle.ror.specs.Stops.{IsPure, IsOfBytes, ReadsTableAs, ReadsSessionAs, Judges, OfToldFiles, ShowsTable, ShowsSession, ShowsWork};
+ghost use Rattle.ror.specs.States.{ShelfState};
+ghost use Rattle.ror.specs.Work.{session_over, ReadsTable, ReadsSession};
+ghost use Rattle.ror.specs.Stops.{IsOfBytes, IsFetchOf, IsWorkOn, ReadsTableAs, ReadsSessionAs, Judges, OfToldFiles, ShowsTable, ShowsSession, ShowsWork};
 
 use crate::names::first_refused;
 use crate::status::Status;
@@ -128,18 +127,9 @@ pub fn check_files<F: Shelf>(
     names: &FileNames<'_>,
     shelf: &mut F,
 ) -> Result<u64, Stop>
-    ensures never_falls { F.faults shelf.old ≤ F.faults shelf.new }
-    ensures told_stays { F.told shelf.new ≡ F.told shelf.old }
-    ensures read_fault { IsErrOf result Stop.ReadFault
-        → Rose (F.faults shelf.old) (F.faults shelf.new)
-        ⊎ LacksOne (F.told shelf.old) (names_of names.now) }
-    ensures rose { F.faults shelf.old < F.faults shelf.new → IsErrOf result Stop.ReadFault }
-    ensures lacking { LacksOne (F.told shelf.old) (names_of names.now) → IsErr result }
-    ensures no_table { Lacks (F.told shelf.old) names.now.table.now
-        → IsErrOf result Stop.ReadFault }
-    ensures pure { IfErr result IsPure }
-    ensures shows { OfToldFiles (F.told shelf.old) (F.faults shelf.old) (F.faults shelf.new)
-        (ShowsWork (names_of names.now) result) }
+    ensures work { IsWorkOn (names_of names.now)
+        (record { told = F.told shelf.old; faults = F.faults shelf.old; fetches = F.fetch_count shelf.old })
+        (record { told = F.told shelf.new; faults = F.faults shelf.new; fetches = F.fetch_count shelf.new }) result }
 {
     let table = fetch_table(alloc, names, shelf)?;
     let session = fetch_session(alloc, names, shelf, &table)?;
@@ -150,7 +140,7 @@ pub fn check_files<F: Shelf>(
 fn table_in(alloc: Global, fetched: Fetched) -> Result<Table, Stop>
     ensures reads { (bytes : List ℕ) → Fetches bytes 16777216 fetched
         → ReadsTableAs (plain_table bytes) result }
-    ensures stop { IfErr result IsOfBytes }
+    ensures stop { IfErr result (IsOfBytes 1) }
 {
     let Fetched::Whole(bytes) = fetched else {
         return Err(Stop::BadTable(TableFault {
@@ -166,7 +156,7 @@ fn table_in(alloc: Global, fetched: Fetched) -> Result<Table, Stop>
 fn session_in(alloc: Global, table: &Table, fetched: Fetched) -> Result<Session, Stop>
     ensures reads { (bytes : List ℕ) → Fetches bytes 16777216 fetched
         → ReadsSessionAs (session_over table.now bytes) result }
-    ensures stop { IfErr result IsOfBytes }
+    ensures stop { IfErr result (IsOfBytes 2) }
     ensures desks { IfOk result (λ s. AllByRecursion (NamesADesk (length s.desks)) s.lines) }
     ensures few_desks { IfOk result (λ s. length s.desks ≤ 64) }
 {
@@ -184,10 +174,10 @@ fn session_in(alloc: Global, table: &Table, fetched: Fetched) -> Result<Session,
 fn answers_in(alloc: Global, table: Table, session: &Session, fetched: Fetched) -> Result<u64, Stop>
     requires desks { AllByRecursion (NamesADesk (length session.now.desks)) session.now.lines }
     requires few_desks { length session.now.desks ≤ 64 }
-    requires within { IsWithin 268435456 fetched }
+    requires within { IsNoLonger 268435456 fetched }
     ensures judges { (bytes : List ℕ) → Fetches bytes 268435456 fetched
         → Judges table session.now bytes result }
-    ensures stop { IfErr result IsOfBytes }
+    ensures stop { IfErr result (IsOfBytes 3) }
 {
     let Fetched::Whole(bytes) = fetched else {
         return Err(Stop::Rejected(Rejection {
@@ -204,13 +194,9 @@ fn answers_in(alloc: Global, table: Table, session: &Session, fetched: Fetched) 
 
 /// Fetches and reads the table.
 fn fetch_table<F: Shelf>(alloc: Global, names: &FileNames<'_>, shelf: &mut F) -> Result<Table, Stop>
-    ensures never_falls { F.faults shelf.old ≤ F.faults shelf.new }
-    ensures told_stays { F.told shelf.new ≡ F.told shelf.old }
-    ensures read_fault { IsErrOf result Stop.ReadFault
-        → Rose (F.faults shelf.old) (F.faults shelf.new) ⊎ Lacks (F.told shelf.old) names.now.table.now }
-    ensures missing { Lacks (F.told shelf.old) names.now.table.now → IsErrOf result Stop.ReadFault }
-    ensures rose { F.faults shelf.old < F.faults shelf.new → IsErrOf result Stop.ReadFault }
-    ensures pure { IfErr result IsPure }
+    ensures fetch { IsFetchOf names.now.table.now 1
+        (record { told = F.told shelf.old; faults = F.faults shelf.old; fetches = F.fetch_count shelf.old })
+        (record { told = F.told shelf.new; faults = F.faults shelf.new; fetches = F.fetch_count shelf.new }) result }
     ensures shows { OfToldFiles (F.told shelf.old) (F.faults shelf.old) (F.faults shelf.new)
         (ShowsTable (names_of names.now) result) }
 {
@@ -224,13 +210,9 @@ fn fetch_session<F: Shelf>(
     shelf: &mut F,
     table: &Table,
 ) -> Result<Session, Stop>
-    ensures never_falls { F.faults shelf.old ≤ F.faults shelf.new }
-    ensures told_stays { F.told shelf.new ≡ F.told shelf.old }
-    ensures read_fault { IsErrOf result Stop.ReadFault
-        → Rose (F.faults shelf.old) (F.faults shelf.new) ⊎ Lacks (F.told shelf.old) names.now.session.now }
-    ensures missing { Lacks (F.told shelf.old) names.now.session.now → IsErrOf result Stop.ReadFault }
-    ensures rose { F.faults shelf.old < F.faults shelf.new → IsErrOf result Stop.ReadFault }
-    ensures pure { IfErr result IsPure }
+    ensures fetch { IsFetchOf names.now.session.now 2
+        (record { told = F.told shelf.old; faults = F.faults shelf.old; fetches = F.fetch_count shelf.old })
+        (record { told = F.told shelf.new; faults = F.faults shelf.new; fetches = F.fetch_count shelf.new }) result }
     ensures shows { OfToldFiles (F.told shelf.old) (F.faults shelf.old) (F.faults shelf.new)
         (λ files. ReadsTable files (names_of names.now) table.now
         → ShowsSession (names_of names.now) table.now result files) }
@@ -250,13 +232,9 @@ fn check_fetched<F: Shelf>(
 ) -> Result<u64, Stop>
     requires desks { AllByRecursion (NamesADesk (length session.now.desks)) session.now.lines }
     requires few_desks { length session.now.desks ≤ 64 }
-    ensures never_falls { F.faults shelf.old ≤ F.faults shelf.new }
-    ensures told_stays { F.told shelf.new ≡ F.told shelf.old }
-    ensures read_fault { IsErrOf result Stop.ReadFault
-        → Rose (F.faults shelf.old) (F.faults shelf.new) ⊎ Lacks (F.told shelf.old) names.now.report.now }
-    ensures missing { Lacks (F.told shelf.old) names.now.report.now → IsErrOf result Stop.ReadFault }
-    ensures rose { F.faults shelf.old < F.faults shelf.new → IsErrOf result Stop.ReadFault }
-    ensures pure { IfErr result IsPure }
+    ensures fetch { IsFetchOf names.now.report.now 3
+        (record { told = F.told shelf.old; faults = F.faults shelf.old; fetches = F.fetch_count shelf.old })
+        (record { told = F.told shelf.new; faults = F.faults shelf.new; fetches = F.fetch_count shelf.new }) result }
     ensures shows { OfToldFiles (F.told shelf.old) (F.faults shelf.old) (F.faults shelf.new)
         (λ files. ReadsSession files (names_of names.now) table session.now
         → ShowsWork (names_of names.now) result files) }

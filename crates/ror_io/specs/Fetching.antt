@@ -18,9 +18,9 @@ UnlessFailed (Err Failed) P = Unit {0}
 UnlessFailed (Err Memory) P = P
 
 -- what was fetched whole has no more bytes than were allowed
-abbrev pub IsWithin : ℕ → Fetched → Type 0
-IsWithin most (Whole got) = length got.items ≤ most
-IsWithin most Longer = Unit {0}
+abbrev pub IsNoLonger : ℕ → Fetched → Type 0
+IsNoLonger most (Whole got) = length got.items ≤ most
+IsNoLonger most Longer = Unit {0}
 
 -- these bytes were fetched whole, or are more than were allowed
 abbrev pub Fetches : List ℕ → ℕ → Fetched → Type 0

@@ -21,9 +21,9 @@ abbrev pub with_file : Files → List ℕ → List ℕ → Files
 with_file files name bytes = insert files name bytes
 
 -- the map is told, and has the file of this name with these bytes
-abbrev pub Holds : Option Files → List ℕ → List ℕ → Type 0
-Holds None name bytes = ⊥
-Holds (Some files) name bytes = file files name ≡ Some bytes
+abbrev pub HasFile : Option Files → List ℕ → List ℕ → Type 0
+HasFile None name bytes = ⊥
+HasFile (Some files) name bytes = file files name ≡ Some bytes
 
 -- the map is told, and has no file of this name
 abbrev pub Lacks : Option Files → List ℕ → Type 0

@@ -3,7 +3,7 @@
 ghost use Rattle.std.specs.Prelude.{◌≡◌, ◌≢◌, ◌≤◌, ℕ, ◌⊎◌, Option, Some, Err, List, IfOk, MatchResult, OnOk, OnErr, IsErrOf, Contains};
 ghost use Rattle.std.specs.Option.{option_copied};
 ghost use Rattle.ror_io.specs.Counts.{Rose, DidNotRise, next_count};
-ghost use Rattle.ror_io.specs.Files.{Files, no_files, file, with_file, Lacks, Holds};
+ghost use Rattle.ror_io.specs.Files.{Files, no_files, file, with_file, Lacks, HasFile};
 
 use crate::calls::CallCounter;
 use crate::shelf::{Fetched, Shelf, ShelfFault};
@@ -81,16 +81,19 @@ impl MemoryShelf {
 
 impl Shelf for MemoryShelf {
     ghost use Rattle.ror_io.specs.Calls.{after_call, FailsNext};
-    ghost use Rattle.ror_io.specs.Fetching.{OnFailed, UnlessFailed, IsWithin, Fetches};
+    ghost use Rattle.ror_io.specs.Fetching.{OnFailed, UnlessFailed, IsNoLonger, Fetches};
     ghost use Rattle.ror_io.specs.declared.shelf.ShelfFault.TheVariants.{Memory};
 
     ghost told = { λ shelf. Some shelf.files };
 
     ghost faults = { λ shelf. shelf.faults };
 
+    ghost fetch_count = { λ shelf. shelf.calls.made };
+
     fn fetch(&mut self, alloc: Global, name: &str, most: usize) -> Result<Fetched, ShelfFault>
         ensures never_falls { self.old.faults ≤ self.new.faults }
         ensures told_stays { Some self.new.files ≡ Some self.old.files }
+        ensures counted { self.new.calls.made ≡ next_count self.old.calls.made }
 
         ensures failed { OnFailed result
             (Rose self.old.faults self.new.faults ⊎ Lacks (Some self.old.files) name.now) }
@@ -98,8 +101,8 @@ impl Shelf for MemoryShelf {
             → IsErrOf result ShelfFault.Failed × (self.new.faults ≡ self.old.faults) }
         ensures other { UnlessFailed result (self.new.faults ≡ self.old.faults) }
 
-        ensures within { IfOk result (IsWithin most) }
-        ensures found { (bytes : List ℕ) → Holds (Some self.old.files) name.now bytes
+        ensures within { IfOk result (IsNoLonger most) }
+        ensures found { (bytes : List ℕ) → HasFile (Some self.old.files) name.now bytes
             → DidNotRise self.old.faults self.new.faults
             → IfOk result (Fetches bytes most) }
 
@@ -112,7 +115,7 @@ impl Shelf for MemoryShelf {
             → ¬ FailsNext self.old.calls
             → MatchResult result (Fetches bytes most) (λ fault. fault ≡ Memory) }
 
-        ensures counted { self.new.calls ≡ after_call self.old.calls }
+        ensures called { self.new.calls ≡ after_call self.old.calls }
     {
         let fails = self.calls.count_call();
         let Some(bytes) = self.bytes(name) else {

@@ -1,8 +1,8 @@
 //! Files by name.
 
 ghost use Rattle.std.specs.Prelude.{◌≡◌, ◌≤◌, ℕ, ◌⊎◌, Option, List, IfOk, IsErrOf};
-ghost use Rattle.ror_io.specs.Counts.{Rose, DidNotRise};
-ghost use Rattle.ror_io.specs.Files.{Files, Holds, Lacks};
+ghost use Rattle.ror_io.specs.Counts.{Rose, DidNotRise, next_count};
+ghost use Rattle.ror_io.specs.Files.{Files, HasFile, Lacks};
 
 use std::alloc::{AllocError, Global};
 use thiserror::Error;
@@ -39,10 +39,11 @@ impl From<AllocError> for ShelfFault {
 
 /// Files by name, of which some may fail.
 ///
-/// A shelf counts its faults. Where it tells its files, it says what each fetch brings as long as
-/// that count did not rise. A count that stands at 2^64 - 1 may stay there at a fault.
+/// A shelf counts its fetches and its faults. Where it tells its files, it says what each fetch
+/// brings as long as the count of faults did not rise. A count of faults that stands at 2^64 - 1 may
+/// stay there at a fault, and that of fetches stands still there.
 pub trait Shelf {
-    ghost use Rattle.ror_io.specs.Fetching.{OnFailed, UnlessFailed, IsWithin, Fetches};
+    ghost use Rattle.ror_io.specs.Fetching.{OnFailed, UnlessFailed, IsNoLonger, Fetches};
 
     /// The files, where the shelf tells them.
     ghost told: { Self → Option Files };
@@ -50,10 +51,14 @@ pub trait Shelf {
     /// How many fetches failed by a fault of the shelf.
     ghost faults: { Self → ℕ };
 
+    /// How many fetches were made, whatever came of them.
+    ghost fetch_count: { Self → ℕ };
+
     /// Fetches the file with this name, if it has at most `most` bytes.
     fn fetch(&mut self, alloc: Global, name: &str, most: usize) -> Result<Fetched, ShelfFault>
         ensures never_falls { faults self.old ≤ faults self.new }
         ensures told_stays { told self.new ≡ told self.old }
+        ensures counted { fetch_count self.new ≡ next_count (fetch_count self.old) }
 
         // `Failed` has a cause, and a name that is told to be missing is such a cause by itself.
         ensures failed { OnFailed result
@@ -62,8 +67,8 @@ pub trait Shelf {
             → IsErrOf result ShelfFault.Failed × (faults self.new ≡ faults self.old) }
         ensures other { UnlessFailed result (faults self.new ≡ faults self.old) }
 
-        ensures within { IfOk result (IsWithin most) }
-        ensures found { (bytes : List ℕ) → Holds (told self.old) name.now bytes
+        ensures within { IfOk result (IsNoLonger most) }
+        ensures found { (bytes : List ℕ) → HasFile (told self.old) name.now bytes
             → DidNotRise (faults self.old) (faults self.new)
             → IfOk result (Fetches bytes most) };
 }

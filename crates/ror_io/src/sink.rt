@@ -40,7 +40,7 @@ pub trait Sink {
         ensures none_taken { OnErr result (written self.new ≡ written self.old) };
 }
 
-/// Writes the whole piece, by as many writes as it takes. After the first failure it stops.
+/// Writes the whole piece, or a proper front of it where the sink failed.
 pub fn write_all<S: Sink>(sink: &mut S, bytes: &[u8]) -> Result<(), SinkFault>
     ensures never_falls { S.faults sink.old ≤ S.faults sink.new }
     ensures ok { OnOk result (S.faults sink.new ≡ S.faults sink.old) }
@@ -56,7 +56,7 @@ pub fn write_all<S: Sink>(sink: &mut S, bytes: &[u8]) -> Result<(), SinkFault>
     Ok(())
 }
 
-/// Writes the pieces one after another, each whole. After the first failure it stops.
+/// Writes the pieces in order, each whole, or a proper front of them all where the sink failed.
 pub fn write_pieces<S: Sink>(sink: &mut S, pieces: &[&[u8]]) -> Result<(), SinkFault>
     ensures never_falls { S.faults sink.old ≤ S.faults sink.new }
     ensures ok { OnOk result (S.faults sink.new ≡ S.faults sink.old) }

@@ -1,20 +1,31 @@
 use Rattle.std.proofs.Common.{◌∙◌, arith}
 use Rattle.std.proofs.lemmas.Result.{err_from_is_err_and}
 use Rattle.ror_io.proofs.CountLemmas.{DidNotRise-first, DidNotRise-second}
-use Rattle.ror.proofs.Conclusions.{not_above}
+use Rattle.ror.specs.Named.{names_of}
+use Rattle.ror.proofs.Fetches.{stopped_second, ended_third}
 use Rattle.ror.proofs.work.check_files.Goals as goal
 
-pub returns-in_err-session-clause-rose : goal.returns-in_err-session-clause-rose
-returns-in_err-session-clause-rose g c rose =
+pub returns-in_err-session : goal.returns-in_err-session
+returns-in_err-session g c =
     let p = err_from_is_err_and c.from_residual-in_err-session.result c.from_residual-in_err-session.ensures.1 in
-    let still = not_above (g.F.Shelf.faults c.args.shelf.now) (g.F.Shelf.faults c.fetch_table.new.shelf) (λ above. let e = c.in_ok-table.ensures.rose above in cc) in
-    let e = c.in_err-session.ensures.rose (omega (arith, still, rose)) in
-    let q = p.1 in let r = p.2 in cc
+    let first = c.in_ok-table.ensures.fetch in
+    let second = c.in_err-session.ensures.fetch in
+    rw (p.1, p.2) (record {
+      work = stopped_second (names_of c.args.names.now) _ _ _ _ _ first second (λ files is stayed.
+          c.in_err-session.ensures.shows files (first.told_stays ∙ is) (DidNotRise-second _ _ _ first.never_falls second.never_falls stayed) (c.in_ok-table.ensures.shows files is (DidNotRise-first _ _ _ first.never_falls second.never_falls stayed)));
+    })
 
-pub returns-in_err-session-clause-shows : goal.returns-in_err-session-clause-shows
-returns-in_err-session-clause-shows g c files is stayed =
-    let p = err_from_is_err_and c.from_residual-in_err-session.result c.from_residual-in_err-session.ensures.1 in
-    let up = c.in_ok-table.ensures.never_falls in
-    let more = c.in_err-session.ensures.never_falls in
-    let table = c.in_ok-table.ensures.shows files is (DidNotRise-first _ _ _ up more stayed) in
-    rw (p.1, p.2) (c.in_err-session.ensures.shows files (c.in_ok-table.ensures.told_stays ∙ is) (DidNotRise-second _ _ _ up more stayed) table)
+pub returns : goal.returns
+returns g c =
+    let first = c.in_ok-table.ensures.fetch in
+    let second = c.in_ok-session.ensures.fetch in
+    let third = c.check_fetched.ensures.fetch in
+    let up = first.never_falls in
+    let more = second.never_falls in
+    record {
+      work = ended_third (names_of c.args.names.now) _ _ _ _ _ _ _ first second third (λ files is stayed.
+          let still = DidNotRise-first _ _ _ (omega (arith, up, more)) third.never_falls stayed in
+          let table = c.in_ok-table.ensures.shows files is (DidNotRise-first _ _ _ up more still) in
+          let told = first.told_stays ∙ is in
+          c.check_fetched.ensures.shows files (second.told_stays ∙ told) (DidNotRise-second _ _ _ (omega (arith, up, more)) third.never_falls stayed) (c.in_ok-session.ensures.shows files told (DidNotRise-second _ _ _ up more still) table));
+    }

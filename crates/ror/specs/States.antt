@@ -1,0 +1,14 @@
+-- What a shelf and a sink tell of themselves.
+use Rattle.std.specs.Prelude.{ℕ, List, Option}
+use Rattle.ror_io.specs.Files.{Files}
+
+-- a shelf's files, how many fetches failed by a fault of it, and how many were made
+pub record ShelfState : Type 0 where
+  pub told : Option Files
+  pub faults : ℕ
+  pub fetches : ℕ
+
+-- the bytes written to a sink, and how many writes failed
+pub record SinkState : Type 0 where
+  pub written : Option (List ℕ)
+  pub faults : ℕ
