@@ -9,16 +9,11 @@ use Rattle.std.proofs.lemmas.List.Elements.{All-get_or, Contains-get_or}
 use Rattle.std.proofs.lemmas.List.Sums.{position_or_len_is, passes_at_first}
 use Rattle.std.proofs.lemmas.Option.{slice_get_within, get_or_from_slice_get}
 use Rattle.std.proofs.lemmas.Slice.Eq.{bytes_eq-Decides}
+use Rattle.ror_text.proofs.ListLemmas.{bytes_apart, bytes_same}
 use Rattle.ror_text.specs.Ids.{is_id, IsId}
 use Rattle.ror_table.specs.Table.{DecisionTable, IsTable, alternative_ids, HasPlace}
 use Rattle.ror_proof.specs.Reading.{alternative_named}
 use Rattle.ror_proof.specs.Text.{id_of}
-
-pub bytes_apart : (xs ys : List ℕ) → xs ≢ ys → bytes_eq xs ys ≡ false
-bytes_apart xs ys apart = false_from_ne_true (bytes_eq xs ys) (λ t. apart ((bytes_eq-Decides xs ys).0 t))
-
-pub bytes_same : (xs : List ℕ) → bytes_eq xs xs ≡ true
-bytes_same xs = (bytes_eq-Decides xs xs).1 refl
 
 not_named : (t : DecisionTable) (id : List ℕ) → ((k : ℕ) → k < length (alternative_ids t) → get_or (alternative_ids t) k [] ≢ id) → alternative_named t id ≡ None
 not_named t id apart =

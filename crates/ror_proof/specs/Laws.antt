@@ -3,7 +3,7 @@ use Rattle.std.specs.Prelude.{◌≡◌, ◌↔◌, ℕ, ◌+◌, false, List, �
 use Rattle.std.specs.Str.{IsUtf8}
 use Rattle.ror_table.specs.Table.{DecisionTable, IsTable}
 use Rattle.ror_proof.specs.declared.answer.Answer.{Answer}
-use Rattle.ror_proof.specs.Cursor.{Cursor}
+use Rattle.ror_text.specs.Cursor.{Cursor}
 use Rattle.ror_proof.specs.Text.{answer_text, IsPrintable}
 use Rattle.ror_proof.specs.Reading.{begins_part, answer_at}
 

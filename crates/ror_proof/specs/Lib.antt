@@ -1,4 +1,3 @@
-pub mod Cursor
 pub mod Text
 pub mod Words
 pub mod Reading

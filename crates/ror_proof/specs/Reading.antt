@@ -18,8 +18,9 @@ use Rattle.ror_proof.specs.declared.read.ProofFault.{ProofFault}
 use Rattle.ror_proof.specs.declared.read.ProofFault.TheVariants as faults
 use Rattle.ror_proof.specs.declared.read.ProvedVerdict.{ProvedVerdict}
 use Rattle.ror_proof.specs.declared.read.ProvedVerdict.TheVariants as proved
-use Rattle.ror_proof.specs.Cursor.{Cursor}
-use Rattle.ror_proof.specs.Words.{line_words, next_line, word_at, after_word, no_more, number_in, numbers_at, numbers_before_bar}
+use Rattle.ror_text.specs.Cursor.{Cursor}
+use Rattle.ror_text.specs.Cursor.{line_words, line_after}
+use Rattle.ror_proof.specs.Words.{first_word, after_word, no_more, number_in, numbers_at, numbers_before_bar}
 
 -- the fault that an error names: none for want of memory
 abbrev pub proof_fault : ProofFault → Option ProofFault
@@ -28,10 +29,10 @@ proof_fault (faults.BadNumber at) = Some (faults.BadNumber at)
 proof_fault faults.Memory = None
 
 -- the line of which an error speaks begins at a place or before it
-abbrev pub IsPlaced : ℕ → ProofFault → Type 0
-IsPlaced n (faults.BadLine at) = at ≤ n
-IsPlaced n (faults.BadNumber at) = at ≤ n
-IsPlaced n faults.Memory = Unit {0}
+abbrev pub IsProofFaultWithin : ℕ → ProofFault → Type 0
+IsProofFaultWithin n (faults.BadLine at) = at ≤ n
+IsProofFaultWithin n (faults.BadNumber at) = at ≤ n
+IsProofFaultWithin n faults.Memory = Unit {0}
 
 -- ---- the words of a line; the number is the place of the line's first byte
 
@@ -51,7 +52,7 @@ multipliers_at place words = do
 -- a certificate, up to the end of its line
 unfoldable pub certificate_at : ℕ → List (List ℕ) → Result Certificate ProofFault
 certificate_at place words = do
-  form ← word_at place words
+  form ← first_word place words
   if bytes_eq form.0 (codes "solution") then solution_at place form.1
       else (if bytes_eq form.0 (codes "multipliers") then multipliers_at place form.1
       else Err (faults.BadLine place))
@@ -63,7 +64,7 @@ alternative_named t id = position (λ other. bytes_eq other id) (alternative_ids
 -- the alternative whose id comes first
 unfoldable pub alternative_at : DecisionTable → ℕ → List (List ℕ) → Result (ℕ × List (List ℕ)) ProofFault
 alternative_at t place words = do
-  id ← word_at place words
+  id ← first_word place words
   alternative ← need (faults.BadLine place) (alternative_named t id.0)
   Ok (alternative, id.1)
 
@@ -76,13 +77,13 @@ necessary_at t place words = do
 
 unfoldable pub question_at : DecisionTable → ℕ → List (List ℕ) → Result (Question × List (List ℕ)) ProofFault
 question_at t place words = do
-  form ← word_at place words
+  form ← first_word place words
   if bytes_eq form.0 (codes "necessary") then necessary_at t place form.1 else Err (faults.BadLine place)
 
 -- which verdict the first word announces
 unfoldable pub verdict_at : ℕ → List (List ℕ) → Result (ProvedVerdict × List (List ℕ)) ProofFault
 verdict_at place words = do
-  name ← word_at place words
+  name ← first_word place words
   if bytes_eq name.0 (codes "yes") then Ok (proved.Yes, name.1)
       else (if bytes_eq name.0 (codes "no") then Ok (proved.No, name.1)
       else (if bytes_eq name.0 (codes "contradiction") then Ok (proved.Contradiction, name.1)
@@ -97,7 +98,7 @@ verdict_of proved.Contradiction proof = verdicts.Contradiction proof
 -- the number of a system, which comes first
 unfoldable pub system_at : ℕ → List (List ℕ) → Result (ℕ × List (List ℕ)) ProofFault
 system_at place words = do
-  word ← word_at place words
+  word ← first_word place words
   number ← number_in small_number_of place word.0
   Ok (number, word.1)
 
@@ -109,14 +110,14 @@ answer_line t c = do
   question ← question_at t c.place words
   verdict ← verdict_at c.place question.1
   _ ← no_more c.place verdict.1
-  next ← need (faults.BadLine c.place) (next_line c)
+  next ← need (faults.BadLine c.place) (line_after c)
   Ok ((question.0, verdict.0), next)
 
 unfoldable pub base_line : Cursor → Result (Certificate × Cursor) ProofFault
 base_line c = do
   words ← after_word c.place (codes "base") (line_words c)
   certificate ← certificate_at c.place words
-  next ← need (faults.BadLine c.place) (next_line c)
+  next ← need (faults.BadLine c.place) (line_after c)
   Ok (certificate, next)
 
 unfoldable pub part_line : Cursor → Result (Part × Cursor) ProofFault
@@ -124,7 +125,7 @@ part_line c = do
   words ← after_word c.place (codes "part") (line_words c)
   at ← system_at c.place words
   certificate ← certificate_at c.place at.1
-  next ← need (faults.BadLine c.place) (next_line c)
+  next ← need (faults.BadLine c.place) (line_after c)
   Ok (record { at = at.0; body = certificate }, next)
 
 abbrev pub begins_part : List ℕ → Bool

@@ -2,7 +2,7 @@
 use Rattle.std.specs.Prelude.{ℕ, ◌<◌, ◌^◌, List, [], ◌∷◌, ◌++◌, length, map, ℤ, codes, decimal, slice_index_or}
 use Rattle.std.specs.Fmt.{signed_decimal}
 use Rattle.std.specs.List.{flat_map, AllByRecursion}
-use Rattle.ror_text.specs.SpacedLines.{join_words}
+use Rattle.ror_text.specs.SpacedLines.{line_text}
 use Rattle.ror_statement.specs.declared.statement.Question.{Question}
 use Rattle.ror_statement.specs.declared.statement.Question.TheVariants.{Necessary}
 use Rattle.ror_statement.specs.Statement.{IsValidQuestion}
@@ -15,10 +15,6 @@ use Rattle.ror_proof.specs.declared.answer.Proof.{Proof}
 use Rattle.ror_proof.specs.declared.answer.Verdict.{Verdict}
 use Rattle.ror_proof.specs.declared.answer.Verdict.TheVariants.{Yes, No, Contradiction}
 use Rattle.ror_proof.specs.declared.answer.Answer.{Answer}
-
--- a line: its words with single spaces between them, and a line feed
-unfoldable pub line_text : List (List ℕ) → List ℕ
-line_text ws = join_words ws ++ 10 ∷ []
 
 abbrev pub solution_words : List ℤ → List (List ℕ)
 solution_words steps = codes "solution" ∷ map signed_decimal steps

@@ -1,3 +1,5 @@
+//! Answers with their proofs.
+
 use ror_statement::Question;
 use ror_system::{Multipliers, Solution};
 use ror_text::Items;

@@ -3,7 +3,7 @@ use Rattle.std.specs.Prelude.{◌≡◌, ◌↔◌, ℕ, ◌+◌, ◌<◌, ◌^�
 use Rattle.std.specs.List.{AllByRecursion}
 use Rattle.std.specs.Str.{IsUtf8}
 use Rattle.ror_table.specs.Table.{DecisionTable, IsTable}
-use Rattle.ror_proof.specs.Cursor.{Cursor}
+use Rattle.ror_text.specs.Cursor.{Cursor}
 use Rattle.ror_report.specs.declared.block.Block.{Block}
 use Rattle.ror_report.specs.Text.{block_text, header_text, end_text, report_text, IsPrintableBlock}
 use Rattle.ror_report.specs.Reading.{ends_body, header_at, block_at, end_at}

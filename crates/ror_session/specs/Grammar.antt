@@ -1,7 +1,9 @@
 -- Well formed sessions: what their lines may be, and what each line says.
 use Rattle.std.specs.Prelude.{◌≡◌, ◌≢◌, ℕ, ◌≤◌, List, [], ◌∷◌, ◌++◌, length, codes}
 use Rattle.std.specs.List.{AllByRecursion}
+use Rattle.ror_text.specs.declared.lines.TheConstants.{MOST_TEXT_BYTES}
 use Rattle.ror_text.specs.Lines.{line_count}
+use Rattle.ror_session.specs.declared.reading.TheConstants.{MOST_LINES}
 use Rattle.ror_session.specs.Session.{desks_of}
 use Rattle.ror_session.specs.declared.session.Session.{Session}
 use Rattle.ror_session.specs.declared.session.Line.{Line}
@@ -12,8 +14,8 @@ use Rattle.ror_session.specs.declared.session.Asked.TheVariants.{Necessary}
 
 -- how long a session's text may be: lines that are passed over count too
 pub record IsWithinLimits (bytes : List ℕ) : Type 0 where
-  pub few_bytes : length bytes ≤ 16_777_216
-  pub few_lines : line_count bytes ≤ 100_000
+  pub few_bytes : length bytes ≤ MOST_TEXT_BYTES
+  pub few_lines : line_count bytes ≤ MOST_LINES
 
 -- the words spell the command
 abbrev pub Spells : List (List ℕ) → Command → Type 0

@@ -1,8 +1,10 @@
 -- Sessions, and what their bytes are read as, or the first fault.
 use Rattle.std.specs.Prelude.{ℕ, not, ◌&&◌, List, [], ◌∷◌, ◌++◌, length, Option, Some, None, Result, Ok, nat_lt, codes, if◌then◌else◌}
 use Rattle.std.specs.Str.{is_utf8, bytes_eq}
+use Rattle.ror_text.specs.declared.lines.TheConstants.{MOST_TEXT_BYTES}
 use Rattle.ror_text.specs.Lines.{numbered_lines, line_count, has_control}
 use Rattle.ror_text.specs.Reading.{◌>>=◌, refuse, need, read_all}
+use Rattle.ror_session.specs.declared.reading.TheConstants.{MOST_LINES}
 use Rattle.ror_session.specs.declared.session.Session.{Session}
 use Rattle.ror_session.specs.declared.session.Line.{Line}
 use Rattle.ror_session.specs.declared.session.Command.{Command}
@@ -44,8 +46,8 @@ desks_of (line ∷ lines) = [] ∷ []
 
 unfoldable pub session_of : List ℕ → Result Session SessionFault
 session_of bytes = do
-  _ ← refuse faults.TooLong (nat_lt 16_777_216 (length bytes))
+  _ ← refuse faults.TooLong (nat_lt MOST_TEXT_BYTES (length bytes))
   _ ← refuse faults.NotUtf8 (not (is_utf8 bytes))
-  _ ← refuse faults.TooManyLines (nat_lt 100_000 (line_count bytes))
+  _ ← refuse faults.TooManyLines (nat_lt MOST_LINES (line_count bytes))
   lines ← read_all add_line [] (numbered_lines bytes)
   Ok (record { desks = desks_of lines; lines = lines })

@@ -5,6 +5,7 @@ use Rattle.std.specs.Str.{bytes_eq, IsUtf8, is_utf8}
 use Rattle.std.proofs.lemmas.Bool.{ltb-true, ltb-false, lt-ltb, le-ltb, eqb-true, false≢true}
 use Rattle.std.proofs.lemmas.List.{nil_from_length}
 use Rattle.std.proofs.lemmas.Str.{IsUtf8-from_is_utf8}
+use Rattle.ror_text.specs.declared.lines.TheConstants.{MOST_TEXT_BYTES}
 use Rattle.ror_text.specs.Ids.{is_id}
 use Rattle.ror_text.specs.Lines.{has_control, numbered_lines, bad_utf8_line}
 use Rattle.ror_text.specs.Numbers.{count_of}
@@ -16,7 +17,7 @@ use Rattle.ror_table.specs.declared.fault.TableKind.TheVariants.{Form, NotUtf8, 
 use Rattle.ror_table.specs.declared.fault.What.TheVariants.{Alternatives, Criteria, Steps, Classes}
 use Rattle.ror_table.specs.Table.{DecisionTable, criterion_ids, alternative_ids, columns}
 use Rattle.ror_table.specs.Draft.{empty_table, has_id, add_criterion, add_alternative}
-use Rattle.ror_table.specs.Plain.{at_line, word_at, is_head, direction_of, performances_of, is_past_criteria, criterion_line, classes_line, alternative_line, known_line, table_line, after_head, whole_table, plain_table}
+use Rattle.ror_table.specs.Plain.{at_line, word_at, is_head, direction_of, performances_of, is_past_criteria, criterion_line, classes_line, alternative_line, known_line, body_line, after_head, whole_table, plain_table}
 use Rattle.ror_table.specs.Grammar.{Words}
 use Rattle.ror_table.specs.Faults.{HasRead, IsFaultOfLine, IsReadable, BeginsTable, IsEmpty, IsFirstFaultOf}
 use Rattle.ror_table.specs.Faults.IsFirstFaultOf.{too_long, not_utf8, no_line, other_line, in_line, nothing_there, too_many_steps}
@@ -77,8 +78,8 @@ refused_at : (n : ℕ) (f : TableFault) (b : Bool) (r : Result DecisionTable Tab
 refused_at n f true r e p rest is = is_at n f e p cc
 refused_at n f false r e p rest is = rest is
 
-table_line_at : (t : DecisionTable) (line : ℕ × Words) (e : TableFault) → table_line t line ≡ Err e → e.line ≡ line.0
-unfolding table_line known_line
+table_line_at : (t : DecisionTable) (line : ℕ × Words) (e : TableFault) → body_line t line ≡ Err e → e.line ≡ line.0
+unfolding body_line known_line
 table_line_at t line e is =
     refused_at line.0 (at_line line.0 BadLine) (has_control line.1) (known_line line.0 t line.1) e refl
     (λ known. known_at line.0 t line.1 e (bytes_eq (word_at line.1 0) (codes "criterion")) (bytes_eq (word_at line.1 0) (codes "classes")) (bytes_eq (word_at line.1 0) (codes "alternative")) known) is
@@ -92,9 +93,9 @@ no_fault t e h = absurd cc
 
 -- ---- lines
 
-pub line_fault : (lines : Numbered) (e : TableFault) → read_all table_line empty_table lines ≡ Err e → IsFaultOfLine lines e
+pub line_fault : (lines : Numbered) (e : TableFault) → read_all body_line empty_table lines ≡ Err e → IsFaultOfLine lines e
 line_fault lines e is =
-    let first = first_fault table_line empty_table lines e is in
+    let first = first_fault body_line empty_table lines e is in
     record {
       before = first.before;
       line = first.line;
@@ -106,8 +107,8 @@ line_fault lines e is =
       number = table_line_at first.reached first.line e first.fails;
     }
 
-pub fault_of_line : (lines : Numbered) (e : TableFault) → IsFaultOfLine lines e → read_all table_line empty_table lines ≡ Err e
-fault_of_line lines e at = read_all_fails table_line empty_table lines e (record {
+pub fault_of_line : (lines : Numbered) (e : TableFault) → IsFaultOfLine lines e → read_all body_line empty_table lines ≡ Err e
+fault_of_line lines e at = read_all_fails body_line empty_table lines e (record {
   before = at.before;
   line = at.line;
   after = at.after;
@@ -150,38 +151,38 @@ whole_fault bytes rest t e begins reads is =
     ]
 
 after_head_fault : (bytes : List ℕ) (line : ℕ × Words) (rest : Numbered) (e : TableFault) (b : Bool) → IsReadable bytes → numbered_lines bytes ≡ line ∷ rest → is_head line.1 ≡ b
-    → (cond b (Ok rest) (Err (at_line line.0 Form)) >>= λ lines. read_all table_line empty_table lines >>= λ s. whole_table s) ≡ Err e → IsFirstFaultOf bytes e
+    → (cond b (Ok rest) (Err (at_line line.0 Form)) >>= λ lines. read_all body_line empty_table lines >>= λ s. whole_table s) ≡ Err e → IsFirstFaultOf bytes e
 after_head_fault bytes line rest e true readable lines head is =
     let begins : BeginsTable bytes rest = record { readable = readable; number = line.0; is = lines ∙ ap (λ (w : Words). (line.0, w) ∷ rest) (head_is line.1 head) } in
-    elim (bind_err (read_all table_line empty_table rest) (λ s. whole_table s) e is) [
+    elim (bind_err (read_all body_line empty_table rest) (λ s. whole_table s) e is) [
       | inl here ↦ in_line rest begins (line_fault rest e here)
       | inr later ↦ whole_fault bytes rest later.0 e begins (read_lines_write rest later.0 later.1) later.2
     ]
 after_head_fault bytes line rest e false readable lines head is =
     other_line readable line rest lines (λ (same : line.1 ≡ head_words). false≢true (sym head ∙ ap is_head same)) cc
 
-readable_fault : (bytes : List ℕ) (lines : Numbered) (e : TableFault) → IsReadable bytes → numbered_lines bytes ≡ lines → (after_head lines >>= λ ls. read_all table_line empty_table ls >>= λ s. whole_table s) ≡ Err e → IsFirstFaultOf bytes e
+readable_fault : (bytes : List ℕ) (lines : Numbered) (e : TableFault) → IsReadable bytes → numbered_lines bytes ≡ lines → (after_head lines >>= λ ls. read_all body_line empty_table ls >>= λ s. whole_table s) ≡ Err e → IsFirstFaultOf bytes e
 readable_fault bytes [] e readable none is = no_line readable none cc
 readable_fault bytes (line ∷ rest) e readable lines is = after_head_fault bytes line rest e (is_head line.1) readable lines refl is
 
 pub plain_fault : (bytes : List ℕ) (e : TableFault) → plain_table bytes ≡ Err e → IsFirstFaultOf bytes e
 unfolding plain_table
 plain_fault bytes e is =
-    elim (refused (at_line 0 TooLong) (ltb 16777216 (length bytes)) (refuse (at_line (bad_utf8_line bytes) NotUtf8) (not (is_utf8 bytes)) >>= λ _. after_head (numbered_lines bytes) >>= λ lines. read_all table_line empty_table lines >>= λ s. whole_table s) e is) [
-      | inl long ↦ too_long (ltb-true 16777216 (length bytes) long.0) long.1
+    elim (refused (at_line 0 TooLong) (ltb MOST_TEXT_BYTES (length bytes)) (refuse (at_line (bad_utf8_line bytes) NotUtf8) (not (is_utf8 bytes)) >>= λ _. after_head (numbered_lines bytes) >>= λ lines. read_all body_line empty_table lines >>= λ s. whole_table s) e is) [
+      | inl long ↦ too_long (ltb-true MOST_TEXT_BYTES (length bytes) long.0) long.1
       | inr rest ↦
-          let short : length bytes ≤ 16777216 = ltb-false 16777216 (length bytes) rest.0 in
-          elim (refused (at_line (bad_utf8_line bytes) NotUtf8) (not (is_utf8 bytes)) (after_head (numbered_lines bytes) >>= λ lines. read_all table_line empty_table lines >>= λ s. whole_table s) e rest.1) [
+          let short : length bytes ≤ MOST_TEXT_BYTES = ltb-false MOST_TEXT_BYTES (length bytes) rest.0 in
+          elim (refused (at_line (bad_utf8_line bytes) NotUtf8) (not (is_utf8 bytes)) (after_head (numbered_lines bytes) >>= λ lines. read_all body_line empty_table lines >>= λ s. whole_table s) e rest.1) [
             | inl bad ↦ not_utf8 short (λ (text : IsUtf8 bytes). false≢true (ap not (sym (is_utf8-true bytes text)) ∙ bad.0)) bad.1
             | inr good ↦ readable_fault bytes (numbered_lines bytes) e (record { short = short; utf8 = IsUtf8-from_is_utf8 bytes (not_false (is_utf8 bytes) good.0) }) refl good.1
           ]
     ]
 
-plain-readable : (bytes : List ℕ) → IsReadable bytes → plain_table bytes ≡ (after_head (numbered_lines bytes) >>= λ lines. read_all table_line empty_table lines >>= λ s. whole_table s)
+plain-readable : (bytes : List ℕ) → IsReadable bytes → plain_table bytes ≡ (after_head (numbered_lines bytes) >>= λ lines. read_all body_line empty_table lines >>= λ s. whole_table s)
 unfolding plain_table
-plain-readable bytes readable = rw (le-ltb 16777216 (length bytes) readable.short, is_utf8-true bytes readable.utf8) refl
+plain-readable bytes readable = rw (le-ltb MOST_TEXT_BYTES (length bytes) readable.short, is_utf8-true bytes readable.utf8) refl
 
-plain-begins : (bytes : List ℕ) (rest : Numbered) → BeginsTable bytes rest → plain_table bytes ≡ (read_all table_line empty_table rest >>= λ s. whole_table s)
+plain-begins : (bytes : List ℕ) (rest : Numbered) → BeginsTable bytes rest → plain_table bytes ≡ (read_all body_line empty_table rest >>= λ s. whole_table s)
 plain-begins bytes rest begins = plain-readable bytes begins.readable ∙ rw begins.is refl
 
 plain-reads : (bytes : List ℕ) (rest : Numbered) (t : DecisionTable) → BeginsTable bytes rest → HasRead (texts rest) t → plain_table bytes ≡ whole_table t
@@ -199,8 +200,8 @@ whole-wide t some wide =
 
 pub fault_read : (bytes : List ℕ) (e : TableFault) → IsFirstFaultOf bytes e → plain_table bytes ≡ Err e
 unfolding plain_table
-fault_read bytes e (too_long long is) = rw (lt-ltb 16777216 (length bytes) long) (ap Err (sym is))
-fault_read bytes e (not_utf8 short bad is) = rw (le-ltb 16777216 (length bytes) short, is_utf8-false bytes bad) (ap Err (sym is))
+fault_read bytes e (too_long long is) = rw (lt-ltb MOST_TEXT_BYTES (length bytes) long) (ap Err (sym is))
+fault_read bytes e (not_utf8 short bad is) = rw (le-ltb MOST_TEXT_BYTES (length bytes) short, is_utf8-false bytes bad) (ap Err (sym is))
 fault_read bytes e (no_line readable none is) = plain-readable bytes readable ∙ rw none (ap Err (sym is))
 fault_read bytes e (other_line readable line rest lines other is) =
     let head : is_head line.1 ≡ false = bool_false (is_head line.1) (λ h. other (head_is line.1 h)) in

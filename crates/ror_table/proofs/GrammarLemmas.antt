@@ -7,6 +7,7 @@ use Rattle.std.proofs.lemmas.Bool.{ltb-false, le-ltb, eqb-true, ne_eqb, and_part
 use Rattle.std.proofs.lemmas.List.{append-nil, map_push, map-append, length-append, nil_from_length, get_or_append_left, get_or_at}
 use Rattle.std.proofs.lemmas.List.Folds.{list_any_none}
 use Rattle.std.proofs.lemmas.Str.{IsUtf8-from_is_utf8}
+use Rattle.ror_text.specs.declared.lines.TheConstants.{MOST_TEXT_BYTES}
 use Rattle.ror_text.specs.Ids.{IsId}
 use Rattle.ror_text.specs.Lines.{numbered_lines, bad_utf8_line}
 use Rattle.ror_text.specs.Reading.{◌>>=◌, refuse, read_all}
@@ -15,14 +16,14 @@ use Rattle.ror_table.specs.declared.fault.TableKind.TheVariants.{Form, NotUtf8, 
 use Rattle.ror_table.specs.declared.fault.What.TheVariants.{Steps}
 use Rattle.ror_table.specs.Table.{Criterion, Alternative, DecisionTable, IsTable, IsEvaluated, AreDistinct, columns}
 use Rattle.ror_table.specs.Draft.{IsDraft, empty_table, has_id}
-use Rattle.ror_table.specs.Plain.{at_line, word_at, is_head, is_past_criteria, table_line, after_head, whole_table, plain_table}
+use Rattle.ror_table.specs.Plain.{at_line, word_at, is_head, is_past_criteria, body_line, after_head, whole_table, plain_table}
 use Rattle.ror_table.specs.Grammar.{Words, criterion_words, WritesClasses, WritesAlternative, WritesTable, IsPlainText}
 use Rattle.ror_table.specs.Faults.{HasRead}
 use Rattle.ror_table.proofs.DraftLemmas.{table, IsDraft-add_criterion, IsDraft-add_alternative}
 use Rattle.ror_table.proofs.IndexLemmas.{IsTable-from_tests}
 use Rattle.ror_table.proofs.RankLemmas.{or_neither}
 use Rattle.ror_table.proofs.PlainLemmas.{is_utf8-true}
-use Rattle.ror_table.proofs.LineSteps.{AddsCriterion, SetsClasses, AddsAlternative, Adds, table_line_adds, adds_table_line, two_words, two_tests, is_word, not_false, after_refuse, written_bounded}
+use Rattle.ror_table.proofs.LineSteps.{AddsCriterion, SetsClasses, AddsAlternative, Adds, body_line_adds, adds_body_line, two_words, two_tests, is_word, not_false, after_refuse, written_bounded}
 use Rattle.ror_table.proofs.LineSteps.Adds.{a_criterion, the_classes, an_alternative}
 
 abbrev pub Numbered : Type 0
@@ -128,11 +129,11 @@ after_line lines t line t' h (the_classes sets) = after_classes lines t line t' 
 after_line lines t line t' h (an_alternative adds) = after_alternative lines t line t' h adds
 
 -- what is read of more lines
-pub read_more : (before : List Words) (s : DecisionTable) (lines : Numbered) (t : DecisionTable) → HasRead before s → read_all table_line s lines ≡ Ok t → HasRead (before ++ texts lines) t
+pub read_more : (before : List Words) (s : DecisionTable) (lines : Numbered) (t : DecisionTable) → HasRead before s → read_all body_line s lines ≡ Ok t → HasRead (before ++ texts lines) t
 read_more before s [] t h e = let same : s ≡ t = cc in rw (append-nil before) (subst (HasRead before) same h)
 read_more before s (line ∷ lines) t h e =
-    let step = bind_ok (table_line s line) (λ next. read_all table_line next lines) t e in
-    let now = after_line before s line.1 step.0 h (table_line_adds line.0 s line.1 step.0 step.1) in
+    let step = bind_ok (body_line s line) (λ next. read_all body_line next lines) t e in
+    let now = after_line before s line.1 step.0 h (body_line_adds line.0 s line.1 step.0 step.1) in
     subst (λ (ls : List Words). HasRead ls t) (append_assoc before (line.1 ∷ []) (texts lines)) (read_more (before ++ line.1 ∷ []) step.0 lines t now step.2)
 
 nothing_read : HasRead [] empty_table
@@ -150,7 +151,7 @@ nothing_read = record {
   };
 }
 
-pub read_lines_write : (lines : Numbered) (t : DecisionTable) → read_all table_line empty_table lines ≡ Ok t → HasRead (texts lines) t
+pub read_lines_write : (lines : Numbered) (t : DecisionTable) → read_all body_line empty_table lines ≡ Ok t → HasRead (texts lines) t
 read_lines_write lines t e = read_more [] empty_table lines t nothing_read e
 
 -- ---- from the grammar to what is read
@@ -174,7 +175,7 @@ fresh_id before id after apart = list_any_none (bytes_eq id) before (λ k d with
 
 -- the criteria, one line each
 criteria_read : (lines : Numbered) (before after : List Criterion) → texts lines ≡ map criterion_words after → All IsId (map (λ c. c.id) (before ++ after)) → AreDistinct (map (λ c. c.id) (before ++ after)) → length (before ++ after) ≤ 64
-    → read_all table_line (table before [] 0) lines ≡ Ok (table (before ++ after) [] 0)
+    → read_all body_line (table before [] 0) lines ≡ Ok (table (before ++ after) [] 0)
 criteria_read [] before [] e valid apart limit = ap (λ (cs : List Criterion). Ok (table cs [] 0)) (sym (append-nil before))
 criteria_read [] before (c ∷ after) e valid apart limit = absurd cc
 criteria_read (line ∷ lines) before [] e valid apart limit = absurd cc
@@ -191,20 +192,20 @@ criteria_read (line ∷ lines) before (c ∷ after) e valid apart limit =
       early = refl;
       becomes = refl;
     } in
-    let here = adds_table_line line.0 (table before [] 0) line.1 (table (before ++ c ∷ []) [] 0) (a_criterion adds) in
+    let here = adds_body_line line.0 (table before [] 0) line.1 (table (before ++ c ∷ []) [] 0) (a_criterion adds) in
     rw here (rw moved at (criteria_read lines (before ++ c ∷ []) after parts.1 (rw moved valid) (rw moved apart) (rw moved limit)))
 
 -- the line of classes
-classes_read : (lines : Numbered) (criteria : List Criterion) (n : ℕ) → WritesClasses (texts lines) n → n ≤ 100 → read_all table_line (table criteria [] 0) lines ≡ Ok (table criteria [] n)
+classes_read : (lines : Numbered) (criteria : List Criterion) (n : ℕ) → WritesClasses (texts lines) n → n ≤ 100 → read_all body_line (table criteria [] 0) lines ≡ Ok (table criteria [] n)
 classes_read [] criteria n writes few = ap (λ (k : ℕ). Ok (table criteria [] k)) (sym writes)
 classes_read (line ∷ []) criteria n writes few =
     let sets : SetsClasses (table criteria [] 0) line.1 (table criteria [] n) = record { word = writes.0; count = n; is = writes.1; written = writes.2; some = writes.3; few = few; early = refl; becomes = refl } in
-    rw (adds_table_line line.0 (table criteria [] 0) line.1 (table criteria [] n) (the_classes sets)) refl
+    rw (adds_body_line line.0 (table criteria [] 0) line.1 (table criteria [] n) (the_classes sets)) refl
 classes_read (line ∷ other ∷ lines) criteria n writes few = absurd writes
 
 -- the alternatives, one line each
 alternatives_read : (lines : Numbered) (criteria : List Criterion) (n : ℕ) (before after : List Alternative) → AllZip WritesAlternative (texts lines) after → All IsId (map (λ a. a.id) (before ++ after)) → AreDistinct (map (λ a. a.id) (before ++ after))
-    → All (IsEvaluated (length criteria)) (before ++ after) → length (before ++ after) ≤ 200 → read_all table_line (table criteria before n) lines ≡ Ok (table criteria (before ++ after) n)
+    → All (IsEvaluated (length criteria)) (before ++ after) → length (before ++ after) ≤ 200 → read_all body_line (table criteria before n) lines ≡ Ok (table criteria (before ++ after) n)
 alternatives_read [] criteria n before [] w valid apart evaluated limit = ap (λ (others : List Alternative). Ok (table criteria others n)) (sym (append-nil before))
 alternatives_read [] criteria n before (a ∷ after) w valid apart evaluated limit = absurd w
 alternatives_read (line ∷ lines) criteria n before [] w valid apart evaluated limit = absurd w
@@ -220,7 +221,7 @@ alternatives_read (line ∷ lines) criteria n before (a ∷ after) w valid apart
       room = omega (arith, length-append before (a ∷ after));
       becomes = refl;
     } in
-    let here = adds_table_line line.0 (table criteria before n) line.1 (table criteria (before ++ a ∷ []) n) (an_alternative adds) in
+    let here = adds_body_line line.0 (table criteria before n) line.1 (table criteria (before ++ a ∷ []) n) (an_alternative adds) in
     rw here (rw moved at (alternatives_read lines criteria n (before ++ a ∷ []) after w.1 (rw moved valid) (rw moved apart) (rw moved evaluated) (rw moved limit)))
 
 -- numbered lines are cut where their texts are
@@ -240,16 +241,16 @@ cut (line ∷ lines) (word ∷ front) back e =
     record { first = line ∷ rest.first; second = rest.second; is = ap (λ (ls : Numbered). line ∷ ls) rest.is; first_is = rw (parts.0, rest.first_is) refl; second_is = rest.second_is }
 
 -- lines that write a table are read others it
-pub written_lines_read : (lines : Numbered) (t : DecisionTable) → WritesTable (texts lines) t → IsDraft t → read_all table_line empty_table lines ≡ Ok t
+pub written_lines_read : (lines : Numbered) (t : DecisionTable) → WritesTable (texts lines) t → IsDraft t → read_all body_line empty_table lines ≡ Ok t
 written_lines_read lines t w whole =
     let a = cut lines (map criterion_words t.criteria) (w.classes_lines ++ w.alternative_lines) w.is in
     let b = cut a.second w.classes_lines w.alternative_lines a.second_is in
     let first = criteria_read a.first [] t.criteria a.first_is whole.criterion_ids_valid whole.criterion_ids_distinct whole.criteria_limit in
     let second = classes_read b.first t.criteria t.classes (subst (λ (ls : List Words). WritesClasses ls t.classes) (sym b.first_is) w.classes) whole.classes_limit in
     let third = alternatives_read b.second t.criteria t.classes [] t.alternatives (subst (λ (ls : List Words). AllZip WritesAlternative ls t.alternatives) (sym b.second_is) w.alternatives) whole.alternative_ids_valid whole.alternative_ids_distinct whole.evaluated whole.alternatives_limit in
-    ap (read_all table_line empty_table) (a.is ∙ ap (λ (ls : Numbered). a.first ++ ls) b.is)
-    ∙ read_all-append table_line empty_table (table t.criteria [] 0) a.first (b.first ++ b.second) first
-    ∙ read_all-append table_line (table t.criteria [] 0) (table t.criteria [] t.classes) b.first b.second second
+    ap (read_all body_line empty_table) (a.is ∙ ap (λ (ls : Numbered). a.first ++ ls) b.is)
+    ∙ read_all-append body_line empty_table (table t.criteria [] 0) a.first (b.first ++ b.second) first
+    ∙ read_all-append body_line (table t.criteria [] 0) (table t.criteria [] t.classes) b.first b.second second
     ∙ third
 
 -- ---- the first line
@@ -314,19 +315,19 @@ unfolding plain_table
 plain_text_read bytes t text =
     let head = after_head_of (numbered_lines bytes) text.lines.rest text.lines.is in
     let body = written_lines_read head.0 t (subst (λ (ls : List Words). WritesTable ls t) (sym head.2) text.lines.writes) (IsDraft-table t text.table) in
-    rw (le-ltb 16777216 (length bytes) text.short, is_utf8-true bytes text.utf8, head.1, body) (whole_table_of t text.table)
+    rw (le-ltb MOST_TEXT_BYTES (length bytes) text.short, is_utf8-true bytes text.utf8, head.1, body) (whole_table_of t text.table)
 
 pub read_plain_text : (bytes : List ℕ) (t : DecisionTable) → plain_table bytes ≡ Ok t → IsPlainText bytes t
 unfolding plain_table
 read_plain_text bytes t e =
-    let a = after_refuse (at_line 0 TooLong) (ltb 16777216 (length bytes)) (refuse (at_line (bad_utf8_line bytes) NotUtf8) (not (is_utf8 bytes)) >>= λ _. after_head (numbered_lines bytes) >>= λ lines. read_all table_line empty_table lines >>= λ s. whole_table s) t e in
-    let b = after_refuse (at_line (bad_utf8_line bytes) NotUtf8) (not (is_utf8 bytes)) (after_head (numbered_lines bytes) >>= λ lines. read_all table_line empty_table lines >>= λ s. whole_table s) t a.1 in
-    let c = bind_ok (after_head (numbered_lines bytes)) (λ lines. read_all table_line empty_table lines >>= λ s. whole_table s) t b.1 in
-    let d = bind_ok (read_all table_line empty_table c.0) whole_table t c.2 in
+    let a = after_refuse (at_line 0 TooLong) (ltb MOST_TEXT_BYTES (length bytes)) (refuse (at_line (bad_utf8_line bytes) NotUtf8) (not (is_utf8 bytes)) >>= λ _. after_head (numbered_lines bytes) >>= λ lines. read_all body_line empty_table lines >>= λ s. whole_table s) t e in
+    let b = after_refuse (at_line (bad_utf8_line bytes) NotUtf8) (not (is_utf8 bytes)) (after_head (numbered_lines bytes) >>= λ lines. read_all body_line empty_table lines >>= λ s. whole_table s) t a.1 in
+    let c = bind_ok (after_head (numbered_lines bytes)) (λ lines. read_all body_line empty_table lines >>= λ s. whole_table s) t b.1 in
+    let d = bind_ok (read_all body_line empty_table c.0) whole_table t c.2 in
     let read = read_lines_write c.0 d.0 d.1 in
     let whole = whole_table_is d.0 t read.draft d.2 in
     subst (IsPlainText bytes) whole.0 (record {
-      short = ltb-false 16777216 (length bytes) a.0;
+      short = ltb-false MOST_TEXT_BYTES (length bytes) a.0;
       utf8 = IsUtf8-from_is_utf8 bytes (not_false (is_utf8 bytes) b.0);
       lines = record { rest = texts c.0; is = after_head_is (numbered_lines bytes) c.0 c.1; writes = read.writes };
       table = whole.1;

@@ -10,7 +10,7 @@ use Rattle.std.proofs.lemmas.Bool.{ltb-false, leb-true, le-ltb, leb-false, lt-le
 use Rattle.std.proofs.lemmas.Slice.Eq.{bytes_eq-Decides}
 use Rattle.ror_text.specs.Ids.{is_id, IsId}
 use Rattle.ror_text.specs.Lines.{has_control, is_control}
-use Rattle.ror_text.specs.Numbers.{performance_of, count_of, digits_up_to, is_digits, digits_number, negative}
+use Rattle.ror_text.specs.Numbers.{read_performance, count_of, digits_up_to, is_digits, digits_number, negative}
 use Rattle.ror_text.proofs.Digits.{up_to_small}
 use Rattle.std.proofs.lemmas.List.Elements.{All-cons}
 use Rattle.ror_text.specs.Reading.{◌>>=◌, refuse, need}
@@ -22,7 +22,7 @@ use Rattle.ror_table.specs.declared.fault.TableKind.TheVariants.{BadLine, Repeat
 use Rattle.ror_table.specs.declared.fault.What.TheVariants.{Alternatives, Criteria, Classes}
 use Rattle.ror_table.specs.Table.{Criterion, Alternative, DecisionTable, criterion_ids, alternative_ids}
 use Rattle.ror_table.specs.Draft.{has_id, add_criterion, add_alternative}
-use Rattle.ror_table.specs.Plain.{at_line, word_at, direction_of, performances_of, is_past_criteria, criterion_line, classes_line, alternative_line, known_line, table_line}
+use Rattle.ror_table.specs.Plain.{at_line, word_at, direction_of, performances_of, is_past_criteria, criterion_line, classes_line, alternative_line, known_line, body_line}
 use Rattle.ror_table.specs.Grammar.{Words, direction_word, criterion_words, WritesAlternative}
 
 -- ---- what a line adds
@@ -108,12 +108,12 @@ then_some p None ps h = absurd cc
 then_some p (Some more) ps h = (more, refl, cc)
 
 abbrev pub AreWritten : Words → List ℤ → Type 0
-AreWritten words ps = AllZip (λ word p. performance_of word ≡ Some p) words ps
+AreWritten words ps = AllZip (λ word p. read_performance word ≡ Some p) words ps
 
 pub are_written : (words : Words) (ps : List ℤ) → performances_of words ≡ Some ps → AreWritten words ps
 are_written [] ps h = let none : ps ≡ [] = cc in subst (AreWritten []) (sym none) tt
 are_written (word ∷ words) ps h =
-    let a = first_some (performance_of word) (λ p. option_map (λ more. p ∷ more) (performances_of words)) ps h in
+    let a = first_some (read_performance word) (λ p. option_map (λ more. p ∷ more) (performances_of words)) ps h in
     let b = then_some a.0 (performances_of words) ps a.2 in
     subst (AreWritten (word ∷ words)) (sym b.2) (a.1, are_written words b.0 b.1)
 
@@ -170,8 +170,8 @@ sign_visible sign digits p false true a b h =
     or_both (is_control sign) (list_any is_control digits) (ap is_control (eqb-true sign 45 b)) (up_to_visible 18 digits n.0 n.1)
 sign_visible sign digits p false false a b h = let n = mapped pos (digits_up_to 18 (sign ∷ digits)) p h in up_to_visible 18 (sign ∷ digits) n.0 n.1
 
-performance_visible : (word : List ℕ) (p : ℤ) → performance_of word ≡ Some p → list_any is_control word ≡ false
-unfolding performance_of
+performance_visible : (word : List ℕ) (p : ℤ) → read_performance word ≡ Some p → list_any is_control word ≡ false
+unfolding read_performance
 performance_visible [] p h = refl
 performance_visible (sign ∷ digits) p h = sign_visible sign digits p (eqb sign 43) (eqb sign 45) refl refl h
 
@@ -216,8 +216,8 @@ sign_bounded sign digits p false false h =
     let n = mapped pos (digits_up_to 18 (sign ∷ digits)) p h in
     subst (λ z. unsigned_abs z < 10 ^ 18) n.2 (up_to_below 18 (sign ∷ digits) n.0 n.1)
 
-performance_bounded : (word : List ℕ) (p : ℤ) → performance_of word ≡ Some p → unsigned_abs p < 10 ^ 18
-unfolding performance_of
+performance_bounded : (word : List ℕ) (p : ℤ) → read_performance word ≡ Some p → unsigned_abs p < 10 ^ 18
+unfolding read_performance
 performance_bounded [] p h = absurd cc
 performance_bounded (sign ∷ digits) p h = sign_bounded sign digits p (eqb sign 43) (eqb sign 45) h
 
@@ -258,13 +258,13 @@ criterion_line_adds line t words t' first e =
       becomes = r.7;
     }
 
-adds_criterion_line : (line : ℕ) (t : DecisionTable) (words : Words) (t' : DecisionTable) → AddsCriterion t words t' → table_line t (line, words) ≡ Ok t'
-unfolding table_line known_line criterion_line
+adds_criterion_line : (line : ℕ) (t : DecisionTable) (words : Words) (t' : DecisionTable) → AddsCriterion t words t' → body_line t (line, words) ≡ Ok t'
+unfolding body_line known_line criterion_line
 adds_criterion_line line t words t' adds =
     let c = adds.criterion in
     let visible : list_any is_control c.id ≡ false = (IsId-form c.id adds.valid).visible in
     let full : leb 64 (length t.criteria) ≡ false = lt-leb _ _ adds.room in
-    ap (λ (w : Words). table_line t (line, w)) adds.is ∙ rw (visible, direction_visible c.direction, adds.valid, direction_of-direction_word c.direction, adds.early, adds.fresh, full) (ap Ok adds.becomes)
+    ap (λ (w : Words). body_line t (line, w)) adds.is ∙ rw (visible, direction_visible c.direction, adds.valid, direction_of-direction_word c.direction, adds.early, adds.fresh, full) (ap Ok adds.becomes)
 
 -- ---- a line of classes
 
@@ -298,12 +298,12 @@ classes_line_sets line t words t' first e =
       becomes = r.6;
     }
 
-sets_classes_line : (line : ℕ) (t : DecisionTable) (words : Words) (t' : DecisionTable) → SetsClasses t words t' → table_line t (line, words) ≡ Ok t'
-unfolding table_line known_line classes_line
+sets_classes_line : (line : ℕ) (t : DecisionTable) (words : Words) (t' : DecisionTable) → SetsClasses t words t' → body_line t (line, words) ≡ Ok t'
+unfolding body_line known_line classes_line
 sets_classes_line line t words t' sets =
     let positive : eqb sets.count 0 ≡ false = ne_eqb sets.count 0 (λ (e : sets.count ≡ 0). omega (arith, sets.some)) in
     let few : ltb 100 sets.count ≡ false = le-ltb 100 sets.count sets.few in
-    ap (λ (w : Words). table_line t (line, w)) sets.is ∙ rw (count_visible sets.word sets.count sets.written, sets.early, sets.written, positive, few) (ap Ok sets.becomes)
+    ap (λ (w : Words). body_line t (line, w)) sets.is ∙ rw (count_visible sets.word sets.count sets.written, sets.early, sets.written, positive, few) (ap Ok sets.becomes)
 
 -- ---- a line of an alternative
 
@@ -339,8 +339,8 @@ alternative_line_adds line t words t' first e =
       becomes = r.8;
     }
 
-adds_alternative_line : (line : ℕ) (t : DecisionTable) (words : Words) (t' : DecisionTable) → AddsAlternative t words t' → table_line t (line, words) ≡ Ok t'
-unfolding table_line known_line alternative_line
+adds_alternative_line : (line : ℕ) (t : DecisionTable) (words : Words) (t' : DecisionTable) → AddsAlternative t words t' → body_line t (line, words) ≡ Ok t'
+unfolding body_line known_line alternative_line
 adds_alternative_line line t words t' adds =
     let a = adds.alternative in
     let numbers = adds.writes.numbers in
@@ -350,7 +350,7 @@ adds_alternative_line line t words t' adds =
     let some : ltb (suc (suc (length numbers))) 2 ≡ false = le-ltb _ _ (omega arith) in
     let not_more : ltb (length t.criteria + 2) (suc (suc (length numbers))) ≡ false = le-ltb _ _ (omega arith) in
     let not_less : ltb (suc (suc (length numbers))) (length t.criteria + 2) ≡ false = le-ltb _ _ (omega arith) in
-    ap (λ (w : Words). table_line t (line, w)) adds.writes.is ∙ rw (visible, written_visible numbers a.performances adds.writes.written, some, not_more, adds.valid, adds.fresh, not_less, written_are numbers a.performances adds.writes.written, full) (ap Ok adds.becomes)
+    ap (λ (w : Words). body_line t (line, w)) adds.writes.is ∙ rw (visible, written_visible numbers a.performances adds.writes.written, some, not_more, adds.valid, adds.fresh, not_less, written_are numbers a.performances adds.writes.written, full) (ap Ok adds.becomes)
 
 -- ---- any line
 
@@ -371,13 +371,13 @@ after_refuse f true r t' e = absurd cc
 after_refuse f false r t' e = (refl, e)
 
 -- reading a line is adding it
-pub table_line_adds : (line : ℕ) (t : DecisionTable) (words : Words) (t' : DecisionTable) → table_line t (line, words) ≡ Ok t' → Adds t words t'
-unfolding table_line known_line
-table_line_adds line t words t' e =
+pub body_line_adds : (line : ℕ) (t : DecisionTable) (words : Words) (t' : DecisionTable) → body_line t (line, words) ≡ Ok t' → Adds t words t'
+unfolding body_line known_line
+body_line_adds line t words t' e =
     let known = after_refuse (at_line line BadLine) (has_control words) (known_line line t words) t' e in
     known_by line t words t' (bytes_eq (word_at words 0) (codes "criterion")) (bytes_eq (word_at words 0) (codes "classes")) (bytes_eq (word_at words 0) (codes "alternative")) refl refl refl known.1
 
-pub adds_table_line : (line : ℕ) (t : DecisionTable) (words : Words) (t' : DecisionTable) → Adds t words t' → table_line t (line, words) ≡ Ok t'
-adds_table_line line t words t' (a_criterion adds) = adds_criterion_line line t words t' adds
-adds_table_line line t words t' (the_classes sets) = sets_classes_line line t words t' sets
-adds_table_line line t words t' (an_alternative adds) = adds_alternative_line line t words t' adds
+pub adds_body_line : (line : ℕ) (t : DecisionTable) (words : Words) (t' : DecisionTable) → Adds t words t' → body_line t (line, words) ≡ Ok t'
+adds_body_line line t words t' (a_criterion adds) = adds_criterion_line line t words t' adds
+adds_body_line line t words t' (the_classes sets) = sets_classes_line line t words t' sets
+adds_body_line line t words t' (an_alternative adds) = adds_alternative_line line t words t' adds

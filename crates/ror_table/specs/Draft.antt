@@ -4,6 +4,7 @@ use Rattle.std.specs.Set.{is_member}
 use Rattle.std.specs.Str.{bytes_eq}
 use Rattle.ror_text.specs.Ids.{is_id, IsId}
 use Rattle.ror_text.specs.Reading.{◌>>=◌, refuse}
+use Rattle.ror_table.specs.declared.limits.TheConstants.{MOST_ALTERNATIVES, MOST_CLASSES, MOST_CRITERIA, MOST_STEPS}
 use Rattle.ror_table.specs.declared.direction.Direction.{Direction}
 use Rattle.ror_table.specs.declared.fault.What.TheVariants.{Alternatives, Criteria, Steps}
 use Rattle.ror_table.specs.declared.fault.DraftFault.{DraftFault}
@@ -39,7 +40,7 @@ unfoldable pub with_criterion : DecisionTable → List ℕ → Direction → Res
 with_criterion t id direction = do
   _ ← refuse BadId (not (is_id id))
   _ ← refuse RepeatedId (has_id (criterion_ids t) id)
-  _ ← refuse (TooMany Criteria) (nat_le 64 (length t.criteria))
+  _ ← refuse (TooMany Criteria) (nat_le MOST_CRITERIA (length t.criteria))
   Ok (add_criterion t id direction)
 
 -- one alternative more, or the first reason against it
@@ -47,21 +48,21 @@ unfoldable pub with_alternative : DecisionTable → List ℕ → List ℤ → Re
 with_alternative t id performances = do
   _ ← refuse BadId (not (is_id id))
   _ ← refuse RepeatedId (has_id (alternative_ids t) id)
-  _ ← refuse (TooMany Alternatives) (nat_le 200 (length t.alternatives))
+  _ ← refuse (TooMany Alternatives) (nat_le MOST_ALTERNATIVES (length t.alternatives))
   Ok (add_alternative t id performances)
 
 -- the table itself, or the first reason why it is none
 unfoldable pub finished : DecisionTable → Result DecisionTable DraftFault
 finished t = do
   _ ← refuse Empty (length t.criteria == 0 || length t.alternatives == 0)
-  _ ← refuse (TooMany Steps) (nat_lt 2000 (columns t))
+  _ ← refuse (TooMany Steps) (nat_lt MOST_STEPS (columns t))
   Ok t
 
 -- what a table that is being made keeps
 pub record IsDraft (t : DecisionTable) : Type 0 where
-  pub criteria_limit : length t.criteria ≤ 64
-  pub alternatives_limit : length t.alternatives ≤ 200
-  pub classes_limit : t.classes ≤ 100
+  pub criteria_limit : length t.criteria ≤ MOST_CRITERIA
+  pub alternatives_limit : length t.alternatives ≤ MOST_ALTERNATIVES
+  pub classes_limit : t.classes ≤ MOST_CLASSES
   pub criterion_ids_valid : All IsId (criterion_ids t)
   pub alternative_ids_valid : All IsId (alternative_ids t)
   pub criterion_ids_distinct : AreDistinct (criterion_ids t)

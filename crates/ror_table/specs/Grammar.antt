@@ -2,8 +2,9 @@
 use Rattle.std.specs.Prelude.{◌≡◌, ℕ, ◌<◌, ◌≤◌, List, [], ◌∷◌, ◌++◌, length, map, codes, Some}
 use Rattle.std.specs.List.{AllZip}
 use Rattle.std.specs.Str.{IsUtf8}
+use Rattle.ror_text.specs.declared.lines.TheConstants.{MOST_TEXT_BYTES}
 use Rattle.ror_text.specs.Lines.{numbered_lines}
-use Rattle.ror_text.specs.Numbers.{performance_of, count_of}
+use Rattle.ror_text.specs.Numbers.{read_performance, count_of}
 use Rattle.ror_table.specs.declared.direction.Direction.{Direction}
 use Rattle.ror_table.specs.declared.direction.Direction.TheVariants.{Max, Min}
 use Rattle.ror_table.specs.Table.{Criterion, Alternative, DecisionTable, IsTable}
@@ -30,7 +31,7 @@ WritesClasses (line ∷ other ∷ lines) n = ⊥
 pub record WritesAlternative (line : Words) (a : Alternative) : Type 0 where
   pub numbers : Words
   pub is : line ≡ codes "alternative" ∷ a.id ∷ numbers
-  pub written : AllZip (λ word p. performance_of word ≡ Some p) numbers a.performances
+  pub written : AllZip (λ word p. read_performance word ≡ Some p) numbers a.performances
 
 -- the criteria, then the classes, then the alternatives
 pub record WritesTable (lines : List Words) (t : DecisionTable) : Type 0 where
@@ -52,7 +53,7 @@ lines_of bytes = map (λ line. line.1) (numbered_lines bytes)
 
 -- the bytes are a text of the table
 pub record IsPlainText (bytes : List ℕ) (t : DecisionTable) : Type 0 where
-  pub short : length bytes ≤ 16777216
+  pub short : length bytes ≤ MOST_TEXT_BYTES
   pub utf8 : IsUtf8 bytes
   pub lines : IsPlainTable (lines_of bytes) t
   pub table : IsTable t

@@ -2,10 +2,12 @@
 use Rattle.std.specs.Prelude.{ℕ, ◌+◌, Bool, not, ◌&&◌, ◌||◌, ◌==◌, nat_lt, nat_le, if◌then◌else◌, List, [], ◌∷◌, length, drop, slice_index_or, codes, Option, Some, None, Result, Ok, Err, ℤ}
 use Rattle.std.specs.Option.{option_map, option_and_then}
 use Rattle.std.specs.Str.{bytes_eq, is_utf8}
+use Rattle.ror_text.specs.declared.lines.TheConstants.{MOST_TEXT_BYTES}
 use Rattle.ror_text.specs.Ids.{is_id}
 use Rattle.ror_text.specs.Lines.{has_control, numbered_lines, bad_utf8_line}
-use Rattle.ror_text.specs.Numbers.{performance_of, count_of}
+use Rattle.ror_text.specs.Numbers.{read_performance, count_of}
 use Rattle.ror_text.specs.Reading.{◌>>=◌, refuse, need, read_all}
+use Rattle.ror_table.specs.declared.limits.TheConstants.{MOST_ALTERNATIVES, MOST_CLASSES, MOST_CRITERIA, MOST_STEPS}
 use Rattle.ror_table.specs.declared.direction.Direction.{Direction}
 use Rattle.ror_table.specs.declared.direction.Direction.TheVariants.{Max, Min}
 use Rattle.ror_table.specs.declared.fault.What.TheVariants.{Alternatives, Criteria, Steps, Classes}
@@ -40,7 +42,7 @@ direction_of word = if bytes_eq word (codes "max") then Some Max else (if bytes_
 -- the performances that the words write, or None where one writes none
 abbrev pub performances_of : List (List ℕ) → Option (List ℤ)
 performances_of [] = Some []
-performances_of (word ∷ words) = option_and_then (λ p. option_map (λ ps. p ∷ ps) (performances_of words)) (performance_of word)
+performances_of (word ∷ words) = option_and_then (λ p. option_map (λ ps. p ∷ ps) (performances_of words)) (read_performance word)
 
 -- a line of classes or of an alternative stands before: no criterion and no line of classes may follow it
 abbrev pub is_past_criteria : DecisionTable → Bool
@@ -54,7 +56,7 @@ criterion_line line t words = do
   direction ← need (at_line line BadLine) (direction_of (word_at words 2))
   _ ← refuse (at_line line BadLine) (is_past_criteria t)
   _ ← refuse (at_line line RepeatedId) (has_id (criterion_ids t) (word_at words 1))
-  _ ← refuse (at_line line (TooMany Criteria)) (nat_le 64 (length t.criteria))
+  _ ← refuse (at_line line (TooMany Criteria)) (nat_le MOST_CRITERIA (length t.criteria))
   Ok (add_criterion t (word_at words 1) direction)
 
 -- `classes COUNT`
@@ -64,7 +66,7 @@ classes_line line t words = do
   _ ← refuse (at_line line BadLine) (is_past_criteria t)
   count ← need (at_line line BadNumber) (count_of (word_at words 1))
   _ ← refuse (at_line line BadNumber) (count == 0)
-  _ ← refuse (at_line line (TooMany Classes)) (nat_lt 100 count)
+  _ ← refuse (at_line line (TooMany Classes)) (nat_lt MOST_CLASSES count)
   Ok (record t { classes = count })
 
 -- `alternative ID PERFORMANCE ..`, one performance for each criterion
@@ -76,7 +78,7 @@ alternative_line line t words = do
   _ ← refuse (at_line line RepeatedId) (has_id (alternative_ids t) (word_at words 1))
   _ ← refuse (at_line line MissingPerformance) (nat_lt (length words) (length t.criteria + 2))
   performances ← need (at_line line BadNumber) (performances_of (drop 2 words))
-  _ ← refuse (at_line line (TooMany Alternatives)) (nat_le 200 (length t.alternatives))
+  _ ← refuse (at_line line (TooMany Alternatives)) (nat_le MOST_ALTERNATIVES (length t.alternatives))
   Ok (add_alternative t (word_at words 1) performances)
 
 -- the first word says what a line is
@@ -88,8 +90,8 @@ known_line line t words =
     else Err (at_line line BadLine)))
 
 -- a line after the first: what is read of it after the lines before, of which t was read
-unfoldable pub table_line : DecisionTable → ℕ × List (List ℕ) → Result DecisionTable TableFault
-table_line t line = do
+unfoldable pub body_line : DecisionTable → ℕ × List (List ℕ) → Result DecisionTable TableFault
+body_line t line = do
   _ ← refuse (at_line line.0 BadLine) (has_control line.1)
   known_line line.0 t line.1
 
@@ -102,13 +104,13 @@ after_head (line ∷ lines) = if is_head line.1 then Ok lines else Err (at_line 
 unfoldable pub whole_table : DecisionTable → Result DecisionTable TableFault
 whole_table t = do
   _ ← refuse (at_line 0 Empty) (length t.criteria == 0 || length t.alternatives == 0)
-  _ ← refuse (at_line 0 (TooMany Steps)) (nat_lt 2000 (columns t))
+  _ ← refuse (at_line 0 (TooMany Steps)) (nat_lt MOST_STEPS (columns t))
   Ok t
 
 unfoldable pub plain_table : List ℕ → Result DecisionTable TableFault
 plain_table bytes = do
-  _ ← refuse (at_line 0 TooLong) (nat_lt 16777216 (length bytes))
+  _ ← refuse (at_line 0 TooLong) (nat_lt MOST_TEXT_BYTES (length bytes))
   _ ← refuse (at_line (bad_utf8_line bytes) NotUtf8) (not (is_utf8 bytes))
   lines ← after_head (numbered_lines bytes)
-  t ← read_all table_line empty_table lines
+  t ← read_all body_line empty_table lines
   whole_table t

@@ -5,6 +5,7 @@ use Rattle.std.specs.Ordering.{int_eq}
 use Rattle.std.specs.List.{range_with_len}
 use Rattle.std.specs.Set.{distinct_count}
 use Rattle.ror_text.specs.Ids.{IsId}
+use Rattle.ror_table.specs.declared.limits.TheConstants.{MOST_ALTERNATIVES, MOST_CLASSES, MOST_CRITERIA, MOST_STEPS}
 use Rattle.ror_table.specs.declared.direction.Direction.{Direction}
 use Rattle.ror_table.specs.declared.direction.Direction.TheVariants.{Max, Min}
 
@@ -92,10 +93,10 @@ pub record IsEvaluated (n : ℕ) (a : Alternative) : Type 0 where
 pub record IsTable (t : DecisionTable) : Type 0 where
   pub some_criterion : 0 < length t.criteria
   pub some_alternative : 0 < length t.alternatives
-  pub criteria_limit : length t.criteria ≤ 64
-  pub alternatives_limit : length t.alternatives ≤ 200
-  pub classes_limit : t.classes ≤ 100
-  pub columns_limit : columns t ≤ 2000
+  pub criteria_limit : length t.criteria ≤ MOST_CRITERIA
+  pub alternatives_limit : length t.alternatives ≤ MOST_ALTERNATIVES
+  pub classes_limit : t.classes ≤ MOST_CLASSES
+  pub columns_limit : columns t ≤ MOST_STEPS
   pub criterion_ids_valid : All IsId (criterion_ids t)
   pub alternative_ids_valid : All IsId (alternative_ids t)
   pub criterion_ids_distinct : AreDistinct (criterion_ids t)

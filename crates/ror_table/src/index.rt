@@ -1,6 +1,7 @@
 //! What is worked out once of a table: the levels of each criterion, and where its columns begin.
 
 ghost use Rattle.std.specs.Prelude.{◌≡◌, ◌<◌, ◌≤◌, ◌-◌, ℕ, length, IfOk, sum_by, take, slice_index, All};
+ghost use Rattle.ror_table.specs.declared.limits.TheConstants.{MOST_ALTERNATIVES, MOST_CRITERIA};
 ghost use Rattle.ror_table.specs.Table.{columns};
 ghost use Rattle.ror_table.specs.Index.{AreLevels, AreOffsets};
 
@@ -31,8 +32,8 @@ fn all_levels(draft: &Draft) -> Result<Vec<Vec<i64>>, AllocError>
 
 /// Where the columns of each criterion begin, and how many columns there are.
 fn offsets_of(alloc: Global, levels: &[Vec<i64>]) -> Result<(Vec<usize>, usize), AllocError>
-    requires few { length levels.now ≤ 64 }
-    requires short { All (λ criterion. length criterion.items ≤ 200) levels.now }
+    requires few { length levels.now ≤ MOST_CRITERIA }
+    requires short { All (λ criterion. length criterion.items ≤ MOST_ALTERNATIVES) levels.now }
     ensures number { IfOk result (λ r. length r.0.items ≡ length levels.now) }
     ensures each { IfOk result (λ r. (i : ℕ) → i < length levels.now → slice_index r.0.items i ≡ sum_by (λ criterion. length criterion.items - 1) (take i levels.now)) }
     ensures total { IfOk result (λ r. r.1 ≡ sum_by (λ criterion. length criterion.items - 1) levels.now) }

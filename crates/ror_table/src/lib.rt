@@ -7,12 +7,14 @@ mod fault;
 mod index;
 pub mod laws;
 mod levels;
+mod limits;
 mod plain;
 mod table;
 
 pub use direction::Direction;
 pub use draft::Draft;
 pub use fault::{DraftFault, TableError, TableFault, TableKind, What};
+pub use limits::{MOST_ALTERNATIVES, MOST_CLASSES, MOST_CRITERIA, MOST_STEPS};
 pub use plain::read_plain;
 pub use table::Table;
 

@@ -10,10 +10,9 @@ use crate::draft::Draft;
 use crate::fault::{DraftFault, What};
 use crate::index::{Index, index_of};
 use crate::levels::worse_count;
+use crate::limits::MOST_STEPS;
 use ror_text::reading::refuse_if;
 use std::marker::Model;
-
-const MOST_STEPS: usize = 2000;
 
 /// A decision table: at least one alternative, evaluated on at least one criterion. Alternatives, criteria and
 /// columns are numbered from 0, steps and classes from 1.

@@ -1,12 +1,11 @@
 use crate::ids::{id_text, is_id};
 use crate::lines::{
-    bad_utf8_line, first_line, has_control, is_comment, line_count, line_number, split_words,
+    bad_utf8_line, first_line, has_control, is_passed_over, is_utf8, line_count, line_number,
+    next_line, split_words,
 };
-use crate::numbers::{
-    push_number, push_small_number, read_count, read_number, read_performance, read_small_number,
-};
+use crate::numbers::{read_count, read_number, read_performance, read_small_number};
 use crate::reading::{need, refuse_if};
-use crate::spaced::{split_line, split_spaced};
+use crate::spaced::{Words, line_at, split_line, split_spaced};
 use crate::{Items, Text};
 use std::test::Fail;
 
@@ -33,17 +32,17 @@ fn words_stand_between_blanks(rt: HostRuntime) -> Result<(), Fail> {
         [b"prefer".as_slice(), b"a", b"b"].as_slice()
     );
     assert!(rt; !has_control(words.as_slice()));
-    assert!(rt; !is_comment(words.as_slice()));
+    assert!(rt; !is_passed_over(words.as_slice()));
     let lone = split_words(rt.alloc(), b"\r")?;
     assert_eq!(rt; lone.len(), 1);
     assert!(rt; has_control(lone.as_slice()));
-    assert!(rt; !is_comment(lone.as_slice()));
+    assert!(rt; !is_passed_over(lone.as_slice()));
     let comment = split_words(rt.alloc(), b" #a \x01")?;
-    assert!(rt; is_comment(comment.as_slice()));
+    assert!(rt; is_passed_over(comment.as_slice()));
     let late = split_words(rt.alloc(), b"@x # y")?;
-    assert!(rt; !is_comment(late.as_slice()));
+    assert!(rt; !is_passed_over(late.as_slice()));
     let blank = split_words(rt.alloc(), b" \t ")?;
-    assert!(rt; is_comment(blank.as_slice()));
+    assert!(rt; is_passed_over(blank.as_slice()));
     Ok(())
 }
 
@@ -59,6 +58,22 @@ fn lines_are_counted_with_those_passed_over(rt: HostRuntime) {
     assert_eq!(rt; bad_utf8_line(b"a\n\xC3\xA9"), None);
     assert_eq!(rt; bad_utf8_line(b"a\n\n\xFF\n\xFE"), Some(3));
     assert_eq!(rt; bad_utf8_line(b"a\n\xC3"), Some(2));
+    assert!(rt; is_utf8(b"\xC3\xA9"));
+    assert!(rt; !is_utf8(b"\xC3"));
+}
+
+#[test]
+fn the_next_line_is_not_passed_over(rt: HostRuntime) -> Result<(), Fail> {
+    let text = b"# c\n\nprefer a\nx";
+    let line = next_line(rt.alloc(), 4, text)?.ok_or("a line")?;
+    assert_eq!(rt; line.number, 6);
+    assert_eq!(rt;
+        line.words.as_slice(),
+        [b"prefer".as_slice(), b"a"].as_slice()
+    );
+    assert_eq!(rt; line.rest, b"x".as_slice());
+    assert!(rt; next_line(rt.alloc(), 1, b" \n#")?.is_none());
+    Ok(())
 }
 
 #[test]
@@ -108,19 +123,6 @@ fn report_numbers_have_one_spelling(rt: HostRuntime) {
 }
 
 #[test]
-fn numbers_are_appended(rt: HostRuntime) -> Result<(), Fail> {
-    let mut out = Vec::from_slice(rt.alloc(), b"x ")?;
-    push_number(&mut out, -i128::MAX)?;
-    out.push(b' ')?;
-    push_small_number(&mut out, 4_294_967_295)?;
-    assert_eq!(rt;
-        out.as_slice(),
-        b"x -170141183460469231731687303715884105727 4294967295".as_slice()
-    );
-    Ok(())
-}
-
-#[test]
 fn ids(rt: HostRuntime) {
     assert!(rt; is_id(b"-"));
     assert!(rt; is_id(b"a@#"));
@@ -147,6 +149,15 @@ fn ids(rt: HostRuntime) {
 fn single_spaces_keep_empty_words(rt: HostRuntime) -> Result<(), Fail> {
     assert!(rt; split_line(b"end 1\nx") == Some((b"end 1".as_slice(), b"x".as_slice())));
     assert!(rt; split_line(b"end 1").is_none());
+    assert!(rt; line_at(b"line 1\nend 1", 0) == (b"line 1".as_slice(), Some(7)));
+    assert!(rt; line_at(b"line 1\nend 1", 7) == (b"end 1".as_slice(), None));
+    let (first, rest) = Words::of(b"a  b").next().ok_or("a word")?;
+    assert_eq!(rt; first, b"a".as_slice());
+    let (second, rest) = rest.next().ok_or("a word")?;
+    assert!(rt; second.is_empty());
+    let (third, rest) = rest.next().ok_or("a word")?;
+    assert_eq!(rt; third, b"b".as_slice());
+    assert!(rt; rest.next().is_none());
     let words = split_spaced(rt.alloc(), b"a  b ")?;
     assert_eq!(rt;
         words.as_slice(),

@@ -1,6 +1,6 @@
 use Rattle.std.proofs.Common.{sym, ◌∙◌, ◌+◌}
-use Rattle.ror_proof.proofs.Cuts.{cut_at, uncut, to_end}
-use Rattle.ror_proof.proofs.words.Words.next.Goals as goal
+use Rattle.ror_text.proofs.CursorLemmas.{cut_at, uncut, to_end}
+use Rattle.ror_text.proofs.spaced.Words.next.Goals as goal
 
 pub returns-in-Some : goal.returns-in-Some
 returns-in-Some c =

@@ -1,23 +1,15 @@
 -- The lines and the words of a text of UTF-8 are UTF-8.
-use Rattle.std.proofs.Common.{◌≡◌, ℕ, zero, suc, ◌+◌, ◌-◌, ◌<◌, ◌≤◌, Bool, true, ltb, filter, List, [], ◌∷◌, length, get_or, refl, sym, subst, arith, inl, inr, length-drop}
+use Rattle.std.proofs.Common.{◌≡◌, ℕ, zero, suc, ◌+◌, ◌-◌, ◌<◌, ◌≤◌, Bool, true, not, ltb, filter, map, List, [], ◌∷◌, length, get_or, refl, sym, subst, arith, inl, inr, length-drop}
 use Rattle.std.specs.Prelude.{◌==◌}
-use Rattle.std.specs.List.{AllByRecursion, slice_split, position_or_len, after_first}
+use Rattle.std.specs.List.{AllByRecursion, slice_split, enumerate_from, position_or_len, after_first}
 use Rattle.std.specs.Str.{IsUtf8}
 use Rattle.std.specs.Str.Lines.{lines, lines_of_parts, strip_carriage_return}
 use Rattle.std.proofs.lemmas.Bool.{cases_Bool, ltb-true, ltb-false, eqb-true}
-use Rattle.std.proofs.lemmas.List.Splits.{slice_split_first, slice_split-cons_no}
+use Rattle.std.proofs.lemmas.List.Splits.{slice_split_first}
 use Rattle.std.proofs.lemmas.List.Sums.{passes_at_first}
 use Rattle.std.proofs.lemmas.Str.{IsUtf8-take, IsUtf8-drop, IsCharBoundary-before_ascii, IsCharBoundary-after_ascii}
-use Rattle.ror_text.specs.Lines.{is_line_end, is_blank, words}
-
--- where no element passes, the list is the one part
-unsplit : (p : ℕ → Bool) (xs : List ℕ) → length xs ≤ position_or_len p xs → slice_split p xs ≡ xs ∷ []
-unsplit p [] h = refl
-unsplit p (x ∷ xs) h =
-    elim (cases_Bool (p x)) [
-      | inl hit ↦ absurd (let g = rw hit at h in omega arith)
-      | inr miss ↦ let g = rw miss at h in rw (slice_split-cons_no p x xs miss, unsplit p xs (omega arith)) refl
-    ]
+use Rattle.ror_text.specs.Lines.{is_line_end, is_blank, is_passed_over, words, numbered_lines_from}
+use Rattle.ror_text.proofs.LineLemmas.{unsplit}
 
 -- a text that is cut at ASCII bytes
 parts_step : (p : ℕ → Bool) → ((b : ℕ) → p b ≡ true → b < 128) → (xs : List ℕ) → IsUtf8 xs → ((rest : List ℕ) → length rest < length xs → IsUtf8 rest → AllByRecursion IsUtf8 (slice_split p rest)) → AllByRecursion IsUtf8 (slice_split p xs)
@@ -70,3 +62,12 @@ blank_is_ascii b h = elim (cases_Bool (b == 32)) [
 
 pub words-IsUtf8 : (line : List ℕ) → IsUtf8 line → AllByRecursion IsUtf8 (words line)
 words-IsUtf8 line u = all-filter IsUtf8 _ _ (parts-IsUtf8 is_blank blank_is_ascii (length line) line (omega arith) u)
+
+-- what holds of the words of each line holds of them when they are numbered
+numbered-IsUtf8 : (n : ℕ) (ls : List (List ℕ)) → AllByRecursion IsUtf8 ls → AllByRecursion (λ (l : ℕ × List (List ℕ)). AllByRecursion IsUtf8 l.1) (enumerate_from n (map words ls))
+numbered-IsUtf8 n [] u = tt
+numbered-IsUtf8 n (line ∷ ls) u = (words-IsUtf8 line u.0, numbered-IsUtf8 (n + 1) ls u.1)
+
+-- the words of a text of UTF-8 are UTF-8
+pub numbered_lines_from-IsUtf8 : (n : ℕ) (bytes : List ℕ) → IsUtf8 bytes → AllByRecursion (λ (l : ℕ × List (List ℕ)). AllByRecursion IsUtf8 l.1) (numbered_lines_from n bytes)
+numbered_lines_from-IsUtf8 n bytes u = all-filter (λ (l : ℕ × List (List ℕ)). AllByRecursion IsUtf8 l.1) (λ l. not (is_passed_over l.1)) _ (numbered-IsUtf8 n (lines bytes) (lines-IsUtf8 bytes u))
