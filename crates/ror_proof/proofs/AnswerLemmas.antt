@@ -30,13 +30,15 @@ use Rattle.ror_proof.specs.declared.read.ProvedVerdict.{ProvedVerdict}
 use Rattle.ror_proof.specs.declared.read.ProvedVerdict.TheVariants as proved
 use Rattle.ror_text.specs.Cursor.{Cursor}
 use Rattle.ror_text.specs.SpacedLines.{line_text}
-use Rattle.ror_proof.specs.Text.{multipliers_words, certificate_words, id_of, question_words, verdict_word, proof_of, base_text, part_text, answer_text, IsNarrowCertificate, IsPrintablePart, IsPrintable}
+use Rattle.ror_table.specs.Table.{id_of}
+use Rattle.ror_proof.specs.Text.{multipliers_words, certificate_words, question_words, verdict_word, proof_of, base_text, part_text, answer_text, IsNarrowCertificate, IsPrintablePart, IsPrintable}
 use Rattle.ror_text.specs.Cursor.{line_words, line_after}
 use Rattle.ror_proof.specs.Words.{after_word, no_more, number_in, numbers_at, numbers_before_bar}
 use Rattle.ror_proof.specs.Laws.{IsAnswerText}
-use Rattle.ror_proof.specs.Reading.{solution_at, multipliers_at, certificate_at, alternative_named, alternative_at, necessary_at, question_at, verdict_at, verdict_of, system_at, answer_line, base_line, part_line, begins_part, part_lines, answer_at}
+use Rattle.ror_table.specs.Table.{alternative_named}
+use Rattle.ror_proof.specs.Reading.{solution_at, multipliers_at, certificate_at, alternative_at, necessary_at, question_at, verdict_at, verdict_of, system_at, answer_line, base_line, part_line, begins_part, part_lines, answer_at}
 use Rattle.ror_proof.proofs.Loops.{part_step, no_parts}
-use Rattle.ror_proof.proofs.TableIds.{alternative_named-id_of, alternative_named-sound, id_of_is_id}
+use Rattle.ror_table.proofs.NameLemmas.{alternative_named-id_of, alternative_named-sound, id_of_is_id}
 use Rattle.ror_text.proofs.CursorLemmas.{Spans, spans_then, line_spans, length-line_text, line_again}
 use Rattle.ror_proof.proofs.WordLemmas.{done, ok_is, after_word_again, after_word_sound, no_more_sound, number_again, number_sound, numbers_again, numbers_sound, before_bar_again, before_bar_sound}
 

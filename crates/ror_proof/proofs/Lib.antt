@@ -1,5 +1,4 @@
 pub mod Loops
-pub mod TableIds
 pub mod WordLemmas
 pub mod AnswerLemmas
 pub mod Utf8Lemmas

@@ -1,26 +1,19 @@
 -- The words of a line, both ways: what was written is read again, and what is read was so written.
-use Rattle.std.proofs.Common.{◌≡◌, ℕ, ◌+◌, ◌<◌, Bool, true, false, eqb, cond, List, [], ◌∷◌, ◌++◌, length, map, Option, Some, None, Result, Ok, Err, refl, sym, ap, subst, ◌∙◌, append_assoc, arith, inl, inr, length-append, ℤ}
+use Rattle.std.proofs.Common.{◌≡◌, ℕ, ◌<◌, Bool, true, false, eqb, cond, List, [], ◌∷◌, ◌++◌, length, map, Option, Some, Result, Ok, Err, refl, sym, ap, subst, ◌∙◌, arith, inl, inr, ℤ}
 use Rattle.std.specs.Prelude.{codes}
 use Rattle.std.specs.Fmt.{signed_decimal}
 use Rattle.std.specs.List.{AllByRecursion}
-use Rattle.std.specs.Option.{option_map}
 use Rattle.std.specs.Str.{bytes_eq}
 use Rattle.std.proofs.lemmas.Bool.{cases_Bool, ne_eqb, cond-true, cond-false}
 use Rattle.std.proofs.lemmas.Slice.Eq.{bytes_eq-Decides}
 use Rattle.ror_text.specs.Numbers.{number_of}
 use Rattle.ror_text.specs.Reading.{◌>>=◌, refuse, need}
-use Rattle.ror_text.specs.SpacedLines.{split_line, join_words, are_words}
 use Rattle.ror_text.proofs.NumberLemmas.{number_of-signed_decimal, number_of-sound, signed_decimal_some, signed_decimal-ne_bar}
 use Rattle.ror_text.proofs.ReadingLemmas.{bind_ok, need_ok}
-use Rattle.ror_text.proofs.SpacedLemmas.{spaced_words-join_words, join_words-spaced_words, split_line-join_words, split_line-sound}
 use Rattle.ror_system.specs.System.{IsNarrow}
 use Rattle.ror_proof.specs.declared.read.ProofFault.{ProofFault}
 use Rattle.ror_proof.specs.declared.read.ProofFault.TheVariants.{BadLine, BadNumber}
-use Rattle.ror_text.specs.Cursor.{Cursor}
-use Rattle.ror_text.specs.SpacedLines.{line_text}
-use Rattle.ror_text.specs.Cursor.{line_words, line_after}
 use Rattle.ror_proof.specs.Words.{after_word, no_more, number_in, numbers_at, numbers_before_bar}
-use Rattle.ror_text.proofs.CursorLemmas.{cut_line}
 use Rattle.ror_text.proofs.ListLemmas.{bytes_apart, bytes_same}
 
 -- ---- results

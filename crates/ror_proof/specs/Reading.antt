@@ -1,12 +1,12 @@
 -- Reading an answer: the answer and where it ends, or the first fault.
-use Rattle.std.specs.Prelude.{ℕ, ◌≤◌, Bool, zero, suc, List, [], ◌∷◌, length, Option, Some, None, Result, Ok, Err, codes, nat_eq, position, if◌then◌else◌}
+use Rattle.std.specs.Prelude.{ℕ, ◌≤◌, Bool, zero, suc, List, [], ◌∷◌, length, Option, Some, None, Result, Ok, Err, codes, nat_eq, if◌then◌else◌}
 use Rattle.std.specs.List.{starts_with}
 use Rattle.std.specs.Str.{bytes_eq}
 use Rattle.ror_text.specs.Numbers.{small_number_of}
 use Rattle.ror_text.specs.Reading.{◌>>=◌, need}
 use Rattle.ror_statement.specs.declared.statement.Question.{Question}
 use Rattle.ror_statement.specs.declared.statement.Question.TheVariants.{Necessary}
-use Rattle.ror_table.specs.Table.{DecisionTable, alternative_ids}
+use Rattle.ror_table.specs.Table.{DecisionTable, alternative_named}
 use Rattle.ror_proof.specs.declared.answer.Answer.{Answer}
 use Rattle.ror_proof.specs.declared.answer.Certificate.{Certificate}
 use Rattle.ror_proof.specs.declared.answer.Certificate.TheVariants as certificates
@@ -56,10 +56,6 @@ certificate_at place words = do
   if bytes_eq form.0 (codes "solution") then solution_at place form.1
       else (if bytes_eq form.0 (codes "multipliers") then multipliers_at place form.1
       else Err (faults.BadLine place))
-
--- the place of the alternative that has this id, if there is one
-abbrev pub alternative_named : DecisionTable → List ℕ → Option ℕ
-alternative_named t id = position (λ other. bytes_eq other id) (alternative_ids t)
 
 -- the alternative whose id comes first
 unfoldable pub alternative_at : DecisionTable → ℕ → List (List ℕ) → Result (ℕ × List (List ℕ)) ProofFault

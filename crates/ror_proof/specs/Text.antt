@@ -1,5 +1,5 @@
 -- The one text of an answer: words joined by single spaces, line by line.
-use Rattle.std.specs.Prelude.{ℕ, ◌<◌, ◌^◌, List, [], ◌∷◌, ◌++◌, length, map, ℤ, codes, decimal, slice_index_or}
+use Rattle.std.specs.Prelude.{ℕ, ◌<◌, ◌^◌, List, [], ◌∷◌, ◌++◌, length, map, ℤ, codes, decimal}
 use Rattle.std.specs.Fmt.{signed_decimal}
 use Rattle.std.specs.List.{flat_map, AllByRecursion}
 use Rattle.ror_text.specs.SpacedLines.{line_text}
@@ -7,7 +7,7 @@ use Rattle.ror_statement.specs.declared.statement.Question.{Question}
 use Rattle.ror_statement.specs.declared.statement.Question.TheVariants.{Necessary}
 use Rattle.ror_statement.specs.Statement.{IsValidQuestion}
 use Rattle.ror_system.specs.System.{IsNarrow}
-use Rattle.ror_table.specs.Table.{DecisionTable, alternative_ids}
+use Rattle.ror_table.specs.Table.{DecisionTable, id_of}
 use Rattle.ror_proof.specs.declared.answer.Certificate.{Certificate}
 use Rattle.ror_proof.specs.declared.answer.Certificate.TheVariants as certificates
 use Rattle.ror_proof.specs.declared.answer.Part.{Part}
@@ -25,10 +25,6 @@ multipliers_words weak strict = codes "multipliers" ∷ (map signed_decimal weak
 abbrev pub certificate_words : Certificate → List (List ℕ)
 certificate_words (certificates.Solution x) = solution_words x.steps
 certificate_words (certificates.Multipliers m) = multipliers_words m.weak m.strict
-
--- an alternative's id
-abbrev pub id_of : DecisionTable → ℕ → List ℕ
-id_of t a = slice_index_or (alternative_ids t) a []
 
 abbrev pub question_words : DecisionTable → Question → List (List ℕ)
 question_words t (Necessary a b) = codes "necessary" ∷ id_of t a ∷ id_of t b ∷ []

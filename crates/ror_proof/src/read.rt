@@ -4,6 +4,7 @@ ghost use Rattle.std.specs.Prelude.{◌≤◌, ◌<◌, ◌≡◌, ◌-◌, leng
 ghost use Rattle.ror_text.specs.Numbers.{number_of, small_number_of};
 ghost use Rattle.ror_text.specs.Reading.{Gives};
 ghost use Rattle.ror_text.specs.Cursor.{cursor_at};
+ghost use Rattle.ror_table.specs.Table.{alternative_named};
 ghost use Rattle.ror_proof.specs.Words as spec;
 ghost use Rattle.ror_proof.specs.Reading as reading;
 ghost use Rattle.ror_proof.specs.Reading.{answer_at, proof_fault, IsProofFaultWithin};
@@ -246,7 +247,7 @@ fn alternative_at<'a>(
 
 /// The place of an id, if the table has it.
 fn find_alternative(table: &Table, id: &[u8]) -> Option<usize>
-    ensures { result ≡ reading.alternative_named table.now id.now }
+    ensures { result ≡ alternative_named table.now id.now }
 {
     // A table has alternatives, and the id of each is an id.
     prove!(table.alternatives() > 0);

@@ -1,9 +1,10 @@
 -- Decision tables, and what is read off them: ranks, steps and columns.
-use Rattle.std.specs.Prelude.{◌≡◌, ◌≢◌, ℕ, ◌+◌, ◌-◌, ◌<◌, ◌≤◌, ◌^◌, Bool, List, length, map, filter, Option, Some, None, unwrap_or, slice_get, slice_index_or, ℤ, pos, unsigned_abs, int_lt, All, AllPairs, Contains, sum_by}
+use Rattle.std.specs.Prelude.{◌≡◌, ◌≢◌, ℕ, ◌+◌, ◌-◌, ◌<◌, ◌≤◌, ◌^◌, Bool, List, [], length, map, filter, Option, Some, None, unwrap_or, slice_get, slice_index_or, ℤ, pos, unsigned_abs, int_lt, All, AllPairs, Contains, sum_by, position}
 use Rattle.std.specs.Option.{option_map}
 use Rattle.std.specs.Ordering.{int_eq}
 use Rattle.std.specs.List.{range_with_len}
 use Rattle.std.specs.Set.{distinct_count}
+use Rattle.std.specs.Str.{bytes_eq}
 use Rattle.ror_text.specs.Ids.{IsId}
 use Rattle.ror_table.specs.declared.limits.TheConstants.{MOST_ALTERNATIVES, MOST_CLASSES, MOST_CRITERIA, MOST_STEPS}
 use Rattle.ror_table.specs.declared.direction.Direction.{Direction}
@@ -34,6 +35,22 @@ alternative_ids t = map (λ a. a.id) t.alternatives
 abbrev pub HasPlace : List (List ℕ) → List ℕ → Option ℕ → Type 0
 HasPlace ids id None = Contains ids id → ⊥
 HasPlace ids id (Some k) = slice_get ids k ≡ Some id
+
+-- the place of the id among the ids, if one of them is it
+abbrev pub place_of : List (List ℕ) → List ℕ → Option ℕ
+place_of ids id = position (λ other. bytes_eq other id) ids
+
+-- the alternative that has this id, if there is one
+abbrev pub alternative_named : DecisionTable → List ℕ → Option ℕ
+alternative_named t id = place_of (alternative_ids t) id
+
+-- the criterion that has this id, if there is one
+abbrev pub criterion_named : DecisionTable → List ℕ → Option ℕ
+criterion_named t id = place_of (criterion_ids t) id
+
+-- an alternative's id
+abbrev pub id_of : DecisionTable → ℕ → List ℕ
+id_of t a = slice_index_or (alternative_ids t) a []
 
 -- no two ids are equal
 abbrev pub AreDistinct : List (List ℕ) → Type 0

@@ -3,6 +3,8 @@
 ghost use Rattle.std.specs.Prelude.{◌≡◌, [], ◌<◌, ◌≤◌, ◌^◌, ◌==◌, ◌||◌, false, length, slice_get, All, unsigned_abs, is_some, OnOk, OnErr, IfOk, Some};
 ghost use Rattle.ror_text.specs.Ids.{IsId};
 ghost use Rattle.ror_text.specs.Reading.{Gives};
+ghost use Rattle.ror_table.specs.declared.fault.DraftFault.TheVariants.{BadId, RepeatedId, TooMany};
+ghost use Rattle.ror_table.specs.declared.fault.What.TheVariants.{Alternatives, Criteria};
 ghost use Rattle.ror_table.specs.declared.limits.TheConstants.{MOST_ALTERNATIVES, MOST_CLASSES, MOST_CRITERIA};
 ghost use Rattle.ror_table.specs.Plain.{is_past_criteria};
 ghost use Rattle.ror_table.specs.Table.{HasPlace, criterion_ids, alternative_ids, direction_at, performance_at, performances_on};
@@ -56,7 +58,7 @@ impl Draft {
     #[tactic(auto, unfolding(crate::specs::Draft::with_criterion))]
     pub fn criterion(&mut self, id: &str, direction: Direction) -> Result<(), DraftFault>
         requires { self.old.alternatives ≡ [] }
-        ensures exact { Gives (λ _. self.new) draft_fault result (with_criterion self.old id.now direction) }
+        ensures exact { Gives (λ _. self.new) draft_fault result (with_criterion BadId RepeatedId (TooMany Criteria) self.old id.now direction) }
         ensures added { OnOk result (self.new ≡ add_criterion self.old id.now direction) }
         ensures unchanged { OnErr result (self.new ≡ self.old) }
     {
@@ -83,7 +85,7 @@ impl Draft {
     pub fn alternative(&mut self, id: &str, performances: &[i64]) -> Result<(), DraftFault>
         requires width { length performances.now ≡ length self.old.criteria }
         requires bounded { All (λ p. unsigned_abs p < 10 ^ 18) performances.now }
-        ensures exact { Gives (λ _. self.new) draft_fault result (with_alternative self.old id.now performances.now) }
+        ensures exact { Gives (λ _. self.new) draft_fault result (with_alternative BadId RepeatedId (TooMany Alternatives) self.old id.now performances.now) }
         ensures added { OnOk result (self.new ≡ add_alternative self.old id.now performances.now) }
         ensures unchanged { OnErr result (self.new ≡ self.old) }
     {

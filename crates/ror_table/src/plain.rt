@@ -5,8 +5,11 @@ ghost use Rattle.std.specs.Str.{is_utf8};
 ghost use Rattle.ror_text.specs.declared.lines.TheConstants.{MOST_TEXT_BYTES};
 ghost use Rattle.ror_text.specs.Lines.{numbered_lines_from, numbered_lines, bad_utf8_line};
 ghost use Rattle.ror_text.specs.Reading.{Gives, refuse, need, read_all};
-ghost use Rattle.ror_table.specs.declared.fault.TableKind.TheVariants.{NotUtf8, BadNumber};
+ghost use Rattle.ror_table.specs.declared.fault.TableKind.TheVariants.{NotUtf8, BadNumber, Empty, TooMany};
+ghost use Rattle.ror_table.specs.declared.fault.What.TheVariants.{Steps};
+ghost use Rattle.ror_table.specs.Draft.{finished};
 ghost use Rattle.ror_table.specs.Table.{IsTable};
+ghost use Rattle.ror_table.specs.Grammar.{word_at};
 ghost use Rattle.ror_table.specs.Plain as spec;
 ghost use Rattle.ror_table.specs.Plain.{table_fault, at_line, body_line, after_head, plain_table};
 
@@ -29,7 +32,7 @@ fn fault(kind: TableKind, line: u32) -> TableError
 
 /// A word of a line, empty past the last one.
 fn word_at<'a>(words: &[&'a [u8]], i: usize) -> &'a [u8]
-    ensures { result.now ≡ spec.word_at (map (λ word. word.now) words.now) i }
+    ensures { result.now ≡ word_at (map (λ word. word.now) words.now) i }
 {
     match words.get(i) {
         Some(word) => word,
@@ -76,17 +79,17 @@ fn performances_of(alloc: Global, line: u32, words: &[&[u8]]) -> Result<Vec<i64>
 }
 
 /// A line `criterion ID max` or `criterion ID min`.
-#[tactic(auto, unfolding(crate::specs::Plain::criterion_line))]
+#[tactic(auto, unfolding(crate::specs::Plain::criterion_line, crate::specs::Draft::with_criterion))]
 fn criterion_line(draft: &mut Draft, line: u32, words: &[&[u8]]) -> Result<(), TableError>
     ensures { Gives (λ _. draft.new) table_fault result (spec.criterion_line line draft.old (map (λ word. word.now) words.now)) }
 {
     refuse_if(words.len() != 3, fault(TableKind::BadLine, line))?;
-    let id = need(id_text(word_at(words, 1)), fault(TableKind::BadLine, line))?;
     let direction = need(
         direction_of(word_at(words, 2)),
         fault(TableKind::BadLine, line),
     )?;
     refuse_if(draft.is_past_criteria(), fault(TableKind::BadLine, line))?;
+    let id = need(id_text(word_at(words, 1)), fault(TableKind::BadLine, line))?;
     refuse_if(
         draft.find_criterion(id).is_some(),
         fault(TableKind::RepeatedId, line),
@@ -215,9 +218,9 @@ fn read_lines(alloc: Global, draft: &mut Draft, first: u32, bytes: &[u8]) -> Res
 }
 
 /// A table of all lines.
-#[tactic(auto, unfolding(crate::specs::Plain::whole_table, crate::specs::Draft::finished))]
+#[tactic(auto, unfolding(crate::specs::Draft::finished))]
 fn whole_table(draft: Draft) -> Result<Table, TableError>
-    ensures exact { Gives (λ t. t) table_fault result (spec.whole_table draft) }
+    ensures exact { Gives (λ t. t) table_fault result (finished (at_line 0 Empty) (at_line 0 (TooMany Steps)) draft) }
     ensures table { IfOk result IsTable }
 {
     match draft.finish() {
