@@ -1,10 +1,12 @@
 -- The laws of answers and their texts.
-use Rattle.std.specs.Prelude.{◌≡◌, ◌↔◌, ℕ, ◌+◌, false, List, ◌++◌, length, Ok, codes}
+use Rattle.std.specs.Prelude.{◌≡◌, ◌↔◌, ℕ, ◌+◌, false, List, ◌++◌, length, Ok, Err, codes}
 use Rattle.std.specs.Str.{IsUtf8}
 use Rattle.ror_table.specs.Table.{DecisionTable, IsTable}
 use Rattle.ror_proof.specs.declared.answer.Answer.{Answer}
 use Rattle.ror_text.specs.Cursor.{Cursor}
 use Rattle.ror_proof.specs.Text.{answer_text, IsPrintable}
+use Rattle.ror_proof.specs.declared.read.ProofFault.{ProofFault}
+use Rattle.ror_proof.specs.Expected.{IsFaultOfAnswer}
 use Rattle.ror_proof.specs.Reading.{begins_part, answer_at}
 
 -- from the cursor on stands the text of an answer that has one, and after it no further part
@@ -28,3 +30,7 @@ TextsBeginWithAnswer = (t : DecisionTable) (x : Answer) → (more : List ℕ) ×
 
 abbrev pub TextsAreUtf8 : Type 0
 TextsAreUtf8 = (t : DecisionTable) (x : Answer) → IsTable t → IsPrintable t x → IsUtf8 (answer_text t x)
+
+-- the fault that is given is that of the first faulty word of the first faulty line
+abbrev pub AnswersFailFirst : Type 0
+AnswersFailFirst = (t : DecisionTable) (c : Cursor) (fault : ProofFault) → (answer_at t c ≡ Err fault) ↔ IsFaultOfAnswer t c fault

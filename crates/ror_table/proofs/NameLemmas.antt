@@ -1,12 +1,12 @@
 -- The ids of a table: where each stands, and that each is an id.
-use Rattle.std.proofs.Common.{◌≡◌, ℕ, ◌<◌, true, false, ltb, List, [], length, get_or, Option, Some, None, refl, sym, ap, subst, ◌∙◌, arith, inl, inr}
+use Rattle.std.proofs.Common.{◌≡◌, ℕ, ◌<◌, ◌≤◌, true, false, ltb, List, [], length, get_or, Option, Some, None, refl, sym, ap, subst, ◌∙◌, arith, inl, inr}
 use Rattle.std.specs.Prelude.{◌≢◌, Contains}
 use Rattle.std.specs.List.{position_or_len}
 use Rattle.std.specs.Str.{bytes_eq}
-use Rattle.std.proofs.lemmas.Bool.{cases_Bool, ltb-true, lt-ltb, le-ltb, false≢true, cond-true, cond-false}
+use Rattle.std.proofs.lemmas.Bool.{cases_Bool, ltb-true, ltb-false, lt-ltb, le-ltb, false≢true, cond-true, cond-false}
 use Rattle.std.proofs.lemmas.List.{length-map}
 use Rattle.std.proofs.lemmas.List.Elements.{All-get_or, Contains-get_or}
-use Rattle.std.proofs.lemmas.List.Sums.{position_or_len_is, passes_at_first}
+use Rattle.std.proofs.lemmas.List.Sums.{position_or_len_is, passes_at_first, fails_before_first}
 use Rattle.std.proofs.lemmas.Option.{slice_get_within, get_or_from_slice_get}
 use Rattle.std.proofs.lemmas.Slice.Eq.{bytes_eq-Decides}
 use Rattle.ror_text.proofs.ListLemmas.{bytes_apart, bytes_same}
@@ -75,3 +75,20 @@ alternative_named-sound t id a e =
 
 pub id_of_is_id : (t : DecisionTable) (a : ℕ) → IsTable t → a < length t.alternatives → IsId (id_of t a)
 id_of_is_id t a table within = All-get_or IsId (alternative_ids t) a [] (omega (arith, length_ids t)) table.alternative_ids_valid
+
+-- what is named is there, and what is not named is not
+pub named-there : (t : DecisionTable) (id : List ℕ) (a : ℕ) → alternative_named t id ≡ Some a → Contains (alternative_ids t) id
+named-there t id a e =
+    let sound = place_of-sound (alternative_ids t) id a e in
+    subst (Contains (alternative_ids t)) (sym sound.1) (Contains-get_or (alternative_ids t) a [] sound.0)
+
+pub not_named-absent : (t : DecisionTable) (id : List ℕ) → alternative_named t id ≡ None → Contains (alternative_ids t) id → ⊥
+not_named-absent t id e there =
+    let ids = alternative_ids t in
+    let n : ℕ = position_or_len (λ other. bytes_eq other id) ids in
+    elim (cases_Bool (ltb n (length ids))) [
+      | inl hit ↦ absurd (let some = sym (cond-true _ _ _ hit) ∙ e in cc)
+      | inr miss ↦
+          let past : length ids ≤ n = ltb-false _ _ miss in
+          false≢true (sym (fails_before_first (λ other. bytes_eq other id) ids there.0 id (omega (arith, past, there.1))) ∙ (bytes_eq-Decides (get_or ids there.0 id) id).1 there.2)
+    ]
