@@ -203,7 +203,7 @@ system_ok t place (word ∷ words) x e =
 -- ---- lines
 
 -- a line has one fault, or it is as expected
-two_line_faults : (t : DecisionTable) (expected : List (List ℕ) → List Expected) (c : Cursor) (f g : ProofFault) → IsFaultOfLine t expected c f → IsFaultOfLine t expected c g → f ≡ g
+pub two_line_faults : (t : DecisionTable) (expected : List (List ℕ) → List Expected) (c : Cursor) (f g : ProofFault) → IsFaultOfLine t expected c f → IsFaultOfLine t expected c g → f ≡ g
 two_line_faults t expected c f g (in_word p) (in_word q) = two_faults t (expected (line_words c)) (line_words c) c.place f g p q
 two_line_faults t expected c f g (in_word p) (no_line_feed all none at) = absurd (two_stand t (expected (line_words c)) (line_words c) c.place f all p)
 two_line_faults t expected c f g (no_line_feed all none at) (in_word q) = absurd (two_stand t (expected (line_words c)) (line_words c) c.place g all q)
@@ -212,11 +212,11 @@ two_line_faults t expected c f g (no_line_feed all none at) (no_line_feed all' n
 not_both : (o : Option Cursor) (after : Cursor) → o ≡ Some after → o ≡ None → ⊥
 not_both o after p q = absurd (let no = sym p ∙ q in cc)
 
-line_not_faulty : (t : DecisionTable) (expected : List (List ℕ) → List Expected) (c after : Cursor) (f : ProofFault) → IsLine t expected c after → IsFaultOfLine t expected c f → ⊥
+pub line_not_faulty : (t : DecisionTable) (expected : List (List ℕ) → List Expected) (c after : Cursor) (f : ProofFault) → IsLine t expected c after → IsFaultOfLine t expected c f → ⊥
 line_not_faulty t expected c after f line (in_word q) = two_stand t (expected (line_words c)) (line_words c) c.place f line.words q
 line_not_faulty t expected c after f line (no_line_feed all none at) = not_both (line_after c) after line.ended none
 
-one_after : (t : DecisionTable) (expected : List (List ℕ) → List Expected) (c a b : Cursor) → IsLine t expected c a → IsLine t expected c b → a ≡ b
+pub one_after : (t : DecisionTable) (expected : List (List ℕ) → List Expected) (c a b : Cursor) → IsLine t expected c a → IsLine t expected c b → a ≡ b
 one_after t expected c a b p q = same a b (sym p.ended ∙ q.ended)
   where
     same : (a b : Cursor) → Some a ≡ Some b → a ≡ b
@@ -416,7 +416,7 @@ parts_err t (suc most) c f e =
           ]
     ]
 
-shorter : (t : DecisionTable) (expected : List (List ℕ) → List Expected) (c after : Cursor) → IsLine t expected c after → length after.rest < length c.rest
+pub shorter : (t : DecisionTable) (expected : List (List ℕ) → List Expected) (c after : Cursor) → IsLine t expected c after → length after.rest < length c.rest
 shorter t expected c after line =
     let sound = line_sound c after line.ended in
     let text = line_text (line_words c) in

@@ -51,7 +51,7 @@ body_again t (suc most) place (x ∷ xs) rest table printable ends room =
     let to : place + length front + length others ≡ place + length (front ++ others) = omega (arith, length-append front others) in
     answer_step t most start more ∙ (rw (first, later) (ap (λ n. Ok (x ∷ xs, record { place = n; rest = rest })) to))
 
-answer_has_bytes : (t : DecisionTable) (x : Answer) → 0 < length (answer_text t x)
+pub answer_has_bytes : (t : DecisionTable) (x : Answer) → 0 < length (answer_text t x)
 answer_has_bytes t x = let begins = answer_begins t x in omega (arith, ap length begins.1)
 
 body_has_bytes : (t : DecisionTable) (xs : List Answer) → length xs ≤ length (flat_map (answer_text t) xs)
@@ -86,7 +86,7 @@ block_reads_back t b place rest table printable ends =
 
 -- ---- what is read was so written
 
-in_report_ok : {A : Type 0} (r : Result A ProofFault) (x : A) → read_in_report r ≡ Ok x → r ≡ Ok x
+pub in_report_ok : {A : Type 0} (r : Result A ProofFault) (x : A) → read_in_report r ≡ Ok x → r ≡ Ok x
 in_report_ok (Ok y) x e = cc
 in_report_ok (Err f) x e = absurd cc
 

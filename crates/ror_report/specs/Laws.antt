@@ -1,11 +1,13 @@
 -- The laws of a report's pieces and their texts.
-use Rattle.std.specs.Prelude.{◌≡◌, ◌↔◌, ℕ, ◌+◌, ◌<◌, ◌^◌, true, List, ◌++◌, length, drop, Some, Ok, codes}
+use Rattle.std.specs.Prelude.{◌≡◌, ◌↔◌, ℕ, ◌+◌, ◌<◌, ◌^◌, true, List, ◌++◌, length, drop, Some, Ok, Err, codes}
 use Rattle.std.specs.List.{AllByRecursion}
 use Rattle.std.specs.Str.{IsUtf8}
 use Rattle.ror_table.specs.Table.{DecisionTable, IsTable}
 use Rattle.ror_text.specs.Cursor.{Cursor}
 use Rattle.ror_report.specs.declared.block.Block.{Block}
 use Rattle.ror_report.specs.Text.{block_text, header_text, end_text, report_text, IsPrintableBlock}
+use Rattle.ror_report.specs.declared.read.ReportFault.{ReportFault}
+use Rattle.ror_report.specs.Faults.{IsFaultOfBlock, IsFaultOfEnd}
 use Rattle.ror_report.specs.Reading.{ends_body, header_at, block_at, end_at}
 
 -- from the cursor on stands the text of a block that has one, and after it what ends a body
@@ -41,3 +43,10 @@ EndsBeginWithEnd = (n : ℕ) → (more : List ℕ) × (end_text n ≡ codes "end
 -- a report is UTF-8, where its number of blocks is a number of reports
 abbrev pub ReportsAreUtf8 : Type 0
 ReportsAreUtf8 = (t : DecisionTable) (blocks : List Block) → IsTable t → AllByRecursion (IsPrintableBlock t) blocks → length blocks < 2 ^ 32 → IsUtf8 (report_text t blocks)
+
+-- the fault that is given is that of the first faulty word of the first faulty line
+abbrev pub BlocksFailFirst : Type 0
+BlocksFailFirst = (t : DecisionTable) (c : Cursor) (fault : ReportFault) → IsTable t → (block_at t c ≡ Err fault) ↔ IsFaultOfBlock t c fault
+
+abbrev pub EndsFailFirst : Type 0
+EndsFailFirst = (t : DecisionTable) (c : Cursor) (fault : ReportFault) → (end_at c ≡ Err fault) ↔ IsFaultOfEnd t c fault
