@@ -24,9 +24,8 @@ use Rattle.ror_proof.specs.Words.{first_word, after_word, no_more, number_in, nu
 
 -- the fault that an error names: none for want of memory
 abbrev pub proof_fault : ProofFault → Option ProofFault
-proof_fault (faults.BadLine at) = Some (faults.BadLine at)
-proof_fault (faults.BadNumber at) = Some (faults.BadNumber at)
 proof_fault faults.Memory = None
+proof_fault fault = Some fault
 
 -- the line of which an error speaks begins at a place or before it
 abbrev pub IsProofFaultWithin : ℕ → ProofFault → Type 0
@@ -58,23 +57,27 @@ certificate_at place words = do
       else Err (faults.BadLine place))
 
 -- the alternative whose id comes first
-unfoldable pub alternative_at : DecisionTable → ℕ → List (List ℕ) → Result (ℕ × List (List ℕ)) ProofFault
+unfoldable pub alternative_at : DecisionTable → ℕ → List (List ℕ)
+    → Result (ℕ × List (List ℕ)) ProofFault
 alternative_at t place words = do
   id ← first_word place words
   alternative ← need (faults.BadLine place) (alternative_named t id.0)
   Ok (alternative, id.1)
 
 -- `necessary` is before these words
-unfoldable pub necessary_at : DecisionTable → ℕ → List (List ℕ) → Result (Question × List (List ℕ)) ProofFault
+unfoldable pub necessary_at : DecisionTable → ℕ → List (List ℕ)
+    → Result (Question × List (List ℕ)) ProofFault
 necessary_at t place words = do
   first ← alternative_at t place words
   second ← alternative_at t place first.1
   Ok (Necessary first.0 second.0, second.1)
 
-unfoldable pub question_at : DecisionTable → ℕ → List (List ℕ) → Result (Question × List (List ℕ)) ProofFault
+unfoldable pub question_at : DecisionTable → ℕ → List (List ℕ)
+    → Result (Question × List (List ℕ)) ProofFault
 question_at t place words = do
   form ← first_word place words
-  if bytes_eq form.0 (codes "necessary") then necessary_at t place form.1 else Err (faults.BadLine place)
+  if bytes_eq form.0 (codes "necessary") then necessary_at t place form.1
+      else Err (faults.BadLine place)
 
 -- which verdict the first word announces
 unfoldable pub verdict_at : ℕ → List (List ℕ) → Result (ProvedVerdict × List (List ℕ)) ProofFault
@@ -100,7 +103,8 @@ system_at place words = do
 
 -- ---- line by line
 
-unfoldable pub answer_line : DecisionTable → Cursor → Result ((Question × ProvedVerdict) × Cursor) ProofFault
+unfoldable pub answer_line : DecisionTable → Cursor
+    → Result ((Question × ProvedVerdict) × Cursor) ProofFault
 answer_line t c = do
   words ← after_word c.place (codes "answer") (line_words c)
   question ← question_at t c.place words
@@ -141,4 +145,11 @@ answer_at t c = do
   head ← answer_line t c
   base ← base_line head.1
   parts ← part_lines (length base.1.rest) base.1
-  Ok (record { question = head.0.0; verdict = verdict_of head.0.1 (record { base = base.0; parts = parts.0 }) }, parts.1)
+  Ok (
+    record {
+      question = head.0.0;
+      verdict =
+          verdict_of head.0.1 (record { base = base.0; parts = parts.0 });
+    },
+    parts.1,
+  )

@@ -20,7 +20,8 @@ abbrev pub solution_words : List ℤ → List (List ℕ)
 solution_words steps = codes "solution" ∷ map signed_decimal steps
 
 abbrev pub multipliers_words : List ℤ → List ℤ → List (List ℕ)
-multipliers_words weak strict = codes "multipliers" ∷ (map signed_decimal weak ++ codes "|" ∷ map signed_decimal strict)
+multipliers_words weak strict =
+    codes "multipliers" ∷ (map signed_decimal weak ++ codes "|" ∷ map signed_decimal strict)
 
 abbrev pub certificate_words : Certificate → List (List ℕ)
 certificate_words (certificates.Solution x) = solution_words x.steps
@@ -47,13 +48,15 @@ part_text p = line_text (codes "part" ∷ decimal p.at ∷ certificate_words p.b
 
 -- the line of the question and the verdict, the line of the base, and a line for each part
 unfoldable pub answer_text : DecisionTable → Answer → List ℕ
-answer_text t x = line_text (codes "answer" ∷ (question_words t x.question ++ verdict_word x.verdict ∷ []))
+answer_text t x =
+    line_text (codes "answer" ∷ (question_words t x.question ++ verdict_word x.verdict ∷ []))
     ++ (base_text (proof_of x.verdict).base ++ flat_map part_text (proof_of x.verdict).parts)
 
 -- the numbers of a certificate are of absolute value at most 2^127 - 1
 abbrev pub IsNarrowCertificate : Certificate → Type 0
 IsNarrowCertificate (certificates.Solution x) = AllByRecursion IsNarrow x.steps
-IsNarrowCertificate (certificates.Multipliers m) = AllByRecursion IsNarrow m.weak × AllByRecursion IsNarrow m.strict
+IsNarrowCertificate (certificates.Multipliers m) =
+    AllByRecursion IsNarrow m.weak × AllByRecursion IsNarrow m.strict
 
 pub record IsPrintablePart (p : Part) : Type 0 where
   pub number : p.at < 2 ^ 32

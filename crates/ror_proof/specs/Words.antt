@@ -1,4 +1,5 @@
--- The words of a report's line, read one by one from the left: the value of each, or the line's first fault.
+-- The words of a report's line, read one by one from the left: the value of each, or the line's
+-- first fault.
 use Rattle.std.specs.Prelude.{ℕ, List, [], ◌∷◌, length, Option, Result, Ok, Err, ℤ, codes, ◌==◌, if◌then◌else◌}
 use Rattle.std.specs.Str.{bytes_eq}
 use Rattle.ror_text.specs.Numbers.{number_of}
@@ -24,7 +25,8 @@ abbrev pub no_more : ℕ → List (List ℕ) → Result (Unit {0}) ProofFault
 no_more place [] = Ok tt
 no_more place (word ∷ more) = Err (BadLine place)
 
--- what a word in a number's place says: an empty word is a bad line, any other that says no number a bad number
+-- what a word in a number's place says: an empty word is a bad line, any other that says no number
+-- a bad number
 abbrev pub number_in : {A : Type 0} → (List ℕ → Option A) → ℕ → List ℕ → Result A ProofFault
 number_in number place word = do
   _ ← refuse (BadLine place) (length word == 0)

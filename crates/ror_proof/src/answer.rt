@@ -18,7 +18,8 @@ pub struct Part {
     pub body: Certificate,
 }
 
-/// The certificate of the base system, the one of the statements alone, and those of the question's systems.
+/// The certificate of the base system, the one of the statements alone, and those of the question's
+/// systems.
 #[derive(Debug, Drop)]
 pub struct Proof {
     pub base: Certificate,

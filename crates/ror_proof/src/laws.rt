@@ -2,8 +2,8 @@
 
 ghost use Rattle.ror_proof.specs.Laws.{AnswersAreTheirTexts, AnswersHaveOneText, TextsAreUtf8, TextsBeginWithAnswer, AnswersFailFirst};
 
-/// An answer is read exactly where its text stands and no further part follows: what was written is read again,
-/// and what is read was so written.
+/// An answer is read exactly where its text stands and no further part follows: what was written is
+/// read again, and what is read was so written.
 pub fn answers_read_back()
     ensures { AnswersAreTheirTexts }
 {}
@@ -19,7 +19,8 @@ pub fn texts()
     ensures utf8 { TextsAreUtf8 }
 {}
 
-/// A text is refused as an answer exactly with the fault of the first faulty word of its first faulty line.
+/// A text is refused as an answer exactly with the fault of the first faulty word of its first
+/// faulty line.
 pub fn the_first_fault_is_given()
     ensures { AnswersFailFirst }
 {}

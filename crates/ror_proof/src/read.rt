@@ -73,7 +73,8 @@ pub fn read_answer(
     from: usize,
 ) -> Result<(Answer, usize), ProofFault>
     requires { from ≤ length bytes.now }
-    ensures exact { Gives (λ x. (x.0, cursor_at bytes.now x.1)) proof_fault result (answer_at table.now (cursor_at bytes.now from)) }
+    ensures exact { Gives (λ x. (x.0, cursor_at bytes.now x.1)) proof_fault result
+        (answer_at table.now (cursor_at bytes.now from)) }
     ensures onward { IfOk result (λ x. from < x.1) }
     ensures within { IfOk result (λ x. x.1 ≤ length bytes.now) }
     ensures placed { IfErr result (IsProofFaultWithin (length bytes.now)) }
@@ -107,7 +108,8 @@ fn answer_line(
     from: usize,
 ) -> Result<(Question, ProvedVerdict, usize), ProofFault>
     requires { from ≤ length bytes.now }
-    ensures exact { Gives (λ x. ((x.0, x.1), cursor_at bytes.now x.2)) proof_fault result (reading.answer_line table.now (cursor_at bytes.now from)) }
+    ensures exact { Gives (λ x. ((x.0, x.1), cursor_at bytes.now x.2)) proof_fault result
+        (reading.answer_line table.now (cursor_at bytes.now from)) }
     ensures onward { IfOk result (λ x. from < x.2) }
     ensures within { IfOk result (λ x. x.2 ≤ length bytes.now) }
     ensures placed { IfErr result (IsProofFaultWithin (length bytes.now)) }
@@ -125,7 +127,8 @@ fn answer_line(
 #[tactic(auto, using(crate::proofs::Places::placed_on), unfolding(crate::specs::Reading::base_line))]
 fn base_line(alloc: Global, bytes: &[u8], from: usize) -> Result<(Certificate, usize), ProofFault>
     requires { from ≤ length bytes.now }
-    ensures exact { Gives (λ x. (x.0, cursor_at bytes.now x.1)) proof_fault result (reading.base_line (cursor_at bytes.now from)) }
+    ensures exact { Gives (λ x. (x.0, cursor_at bytes.now x.1)) proof_fault result
+        (reading.base_line (cursor_at bytes.now from)) }
     ensures onward { IfOk result (λ x. from < x.1) }
     ensures within { IfOk result (λ x. x.1 ≤ length bytes.now) }
     ensures placed { IfErr result (IsProofFaultWithin (length bytes.now)) }
@@ -140,7 +143,8 @@ fn base_line(alloc: Global, bytes: &[u8], from: usize) -> Result<(Certificate, u
 /// A line for each part, as long as one begins.
 fn part_lines(alloc: Global, bytes: &[u8], from: usize) -> Result<(Vec<Part>, usize), ProofFault>
     requires { from ≤ length bytes.now }
-    ensures exact { Gives (λ x. (x.0.items, cursor_at bytes.now x.1)) proof_fault result (reading.part_lines (length bytes.now - from) (cursor_at bytes.now from)) }
+    ensures exact { Gives (λ x. (x.0.items, cursor_at bytes.now x.1)) proof_fault result
+        (reading.part_lines (length bytes.now - from) (cursor_at bytes.now from)) }
     ensures onward { IfOk result (λ x. from ≤ x.1) }
     ensures within { IfOk result (λ x. x.1 ≤ length bytes.now) }
     ensures placed { IfErr result (IsProofFaultWithin (length bytes.now)) }
@@ -159,7 +163,8 @@ fn part_lines(alloc: Global, bytes: &[u8], from: usize) -> Result<(Vec<Part>, us
 #[tactic(auto, using(crate::proofs::Places::placed_on), unfolding(crate::specs::Reading::part_line))]
 fn part_line(alloc: Global, bytes: &[u8], from: usize) -> Result<(Part, usize), ProofFault>
     requires { from ≤ length bytes.now }
-    ensures exact { Gives (λ x. (x.0, cursor_at bytes.now x.1)) proof_fault result (reading.part_line (cursor_at bytes.now from)) }
+    ensures exact { Gives (λ x. (x.0, cursor_at bytes.now x.1)) proof_fault result
+        (reading.part_line (cursor_at bytes.now from)) }
     ensures onward { IfOk result (λ x. from < x.1) }
     ensures within { IfOk result (λ x. x.1 ≤ length bytes.now) }
     ensures placed { IfErr result (IsProofFaultWithin (length bytes.now)) }
@@ -175,7 +180,8 @@ fn part_line(alloc: Global, bytes: &[u8], from: usize) -> Result<(Part, usize), 
 /// The words after one that has to come first.
 #[tactic(auto, unfolding(crate::specs::Words::after_word))]
 fn after_word<'a>(place: usize, expected: &[u8], words: Words<'a>) -> Result<Words<'a>, ProofFault>
-    ensures exact { Gives (λ rest. rest) proof_fault result (spec.after_word place expected.now words.entry) }
+    ensures exact { Gives (λ rest. rest) proof_fault result
+        (spec.after_word place expected.now words.entry) }
     ensures placed { IfErr result (IsProofFaultWithin place) }
 {
     match words.next() {
@@ -202,7 +208,8 @@ fn question_at<'a>(
     place: usize,
     words: Words<'a>,
 ) -> Result<(Question, Words<'a>), ProofFault>
-    ensures exact { Gives (λ x. (x.0, x.1)) proof_fault result (reading.question_at table.now place words.entry) }
+    ensures exact { Gives (λ x. (x.0, x.1)) proof_fault result
+        (reading.question_at table.now place words.entry) }
     ensures placed { IfErr result (IsProofFaultWithin place) }
 {
     match words.next() {
@@ -218,7 +225,8 @@ fn necessary_at<'a>(
     place: usize,
     words: Words<'a>,
 ) -> Result<(Question, Words<'a>), ProofFault>
-    ensures exact { Gives (λ x. (x.0, x.1)) proof_fault result (reading.necessary_at table.now place words.entry) }
+    ensures exact { Gives (λ x. (x.0, x.1)) proof_fault result
+        (reading.necessary_at table.now place words.entry) }
     ensures placed { IfErr result (IsProofFaultWithin place) }
 {
     let (first, words) = alternative_at(table, place, words)?;
@@ -233,7 +241,8 @@ fn alternative_at<'a>(
     place: usize,
     words: Words<'a>,
 ) -> Result<(usize, Words<'a>), ProofFault>
-    ensures exact { Gives (λ x. (x.0, x.1)) proof_fault result (reading.alternative_at table.now place words.entry) }
+    ensures exact { Gives (λ x. (x.0, x.1)) proof_fault result
+        (reading.alternative_at table.now place words.entry) }
     ensures placed { IfErr result (IsProofFaultWithin place) }
 {
     match words.next() {
@@ -258,7 +267,8 @@ fn find_alternative(table: &Table, id: &[u8]) -> Option<usize>
 /// The verdict that comes first.
 #[tactic(auto, unfolding(crate::specs::Reading::verdict_at))]
 fn verdict_at<'a>(place: usize, words: Words<'a>) -> Result<(ProvedVerdict, Words<'a>), ProofFault>
-    ensures exact { Gives (λ x. (x.0, x.1)) proof_fault result (reading.verdict_at place words.entry) }
+    ensures exact { Gives (λ x. (x.0, x.1)) proof_fault result
+        (reading.verdict_at place words.entry) }
     ensures placed { IfErr result (IsProofFaultWithin place) }
 {
     match words.next() {
@@ -275,7 +285,8 @@ fn verdict_at<'a>(place: usize, words: Words<'a>) -> Result<(ProvedVerdict, Word
 /// The number of a system, which comes first.
 #[tactic(auto, unfolding(crate::specs::Reading::system_at))]
 fn system_at<'a>(place: usize, words: Words<'a>) -> Result<(u32, Words<'a>), ProofFault>
-    ensures exact { Gives (λ x. (x.0, x.1)) proof_fault result (reading.system_at place words.entry) }
+    ensures exact { Gives (λ x. (x.0, x.1)) proof_fault result
+        (reading.system_at place words.entry) }
     ensures placed { IfErr result (IsProofFaultWithin place) }
 {
     match words.next() {
@@ -323,7 +334,8 @@ fn multipliers_at(alloc: Global, place: usize, words: Words<'_>) -> Result<Certi
 
 /// The numbers up to the end of the line.
 fn numbers_at(alloc: Global, place: usize, words: Words<'_>) -> Result<Vec<i128>, ProofFault>
-    ensures exact { Gives (λ numbers. numbers.items) proof_fault result (spec.numbers_at place words.entry) }
+    ensures exact { Gives (λ numbers. numbers.items) proof_fault result
+        (spec.numbers_at place words.entry) }
     ensures placed { IfErr result (IsProofFaultWithin place) }
 {
     let mut numbers = Vec::new(alloc);
@@ -342,7 +354,8 @@ fn numbers_before_bar<'a>(
     place: usize,
     words: Words<'a>,
 ) -> Result<(Vec<i128>, Words<'a>), ProofFault>
-    ensures exact { Gives (λ x. (x.0.items, x.1)) proof_fault result (spec.numbers_before_bar place words.entry) }
+    ensures exact { Gives (λ x. (x.0.items, x.1)) proof_fault result
+        (spec.numbers_before_bar place words.entry) }
     ensures placed { IfErr result (IsProofFaultWithin place) }
 {
     let mut numbers = Vec::new(alloc);
@@ -360,7 +373,8 @@ fn numbers_before_bar<'a>(
 
 /// The number that a word says.
 fn number_in(place: usize, word: &[u8]) -> Result<i128, ProofFault>
-    ensures exact { Gives (λ number. number) proof_fault result (spec.number_in number_of place word.now) }
+    ensures exact { Gives (λ number. number) proof_fault result
+        (spec.number_in number_of place word.now) }
     ensures placed { IfErr result (IsProofFaultWithin place) }
 {
     refuse_if(word.is_empty(), ProofFault::BadLine(place))?;
@@ -369,7 +383,8 @@ fn number_in(place: usize, word: &[u8]) -> Result<i128, ProofFault>
 
 /// The small number that a word says.
 fn small_number_in(place: usize, word: &[u8]) -> Result<u32, ProofFault>
-    ensures exact { Gives (λ number. number) proof_fault result (spec.number_in small_number_of place word.now) }
+    ensures exact { Gives (λ number. number) proof_fault result
+        (spec.number_in small_number_of place word.now) }
     ensures placed { IfErr result (IsProofFaultWithin place) }
 {
     refuse_if(word.is_empty(), ProofFault::BadLine(place))?;

@@ -1,4 +1,5 @@
--- Reading a report piece by piece: its first line, a block and where it ends, its last line; or the first fault.
+-- Reading a report piece by piece: its first line, a block and where it ends, its last line; or the
+-- first fault.
 use Rattle.std.specs.Prelude.{ℕ, ◌≤◌, zero, suc, Bool, not, ◌||◌, List, [], ◌∷◌, length, Option, Some, None, Result, Ok, Err, codes, nat_eq, ◌==◌, slice_get, if◌then◌else◌}
 use Rattle.std.specs.List.{starts_with}
 use Rattle.std.specs.Str.{bytes_eq}
@@ -20,9 +21,8 @@ use Rattle.ror_report.specs.Text.{header_text}
 
 -- the fault that an error names: none for want of memory
 abbrev pub report_fault : ReportFault → Option ReportFault
-report_fault (faults.BadLine at) = Some (faults.BadLine at)
-report_fault (faults.BadNumber at) = Some (faults.BadNumber at)
 report_fault faults.Memory = None
+report_fault fault = Some fault
 
 -- the line of which an error speaks begins in a text of so many bytes, or at its end
 abbrev pub IsReportFaultWithin : ℕ → ReportFault → Type 0

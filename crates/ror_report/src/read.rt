@@ -93,7 +93,8 @@ pub fn read_block(
     from: usize,
 ) -> Result<(Block, usize), ReportFault>
     requires { from ≤ length bytes.now }
-    ensures exact { Gives (λ x. (x.0, cursor_at bytes.now x.1)) report_fault result (block_at table.now (cursor_at bytes.now from)) }
+    ensures exact { Gives (λ x. (x.0, cursor_at bytes.now x.1)) report_fault result
+        (block_at table.now (cursor_at bytes.now from)) }
     ensures onward { IfOk result (λ x. from < x.1) }
     ensures within { IfOk result (λ x. x.1 ≤ length bytes.now) }
     ensures placed { IfErr result (IsReportFaultWithin (length bytes.now)) }
@@ -112,7 +113,8 @@ fn body_at(
     from: usize,
 ) -> Result<(Body, usize), ReportFault>
     requires { from ≤ length bytes.now }
-    ensures exact { Gives (λ x. (x.0, cursor_at bytes.now x.1)) report_fault result (reading.body_at table.now (cursor_at bytes.now from)) }
+    ensures exact { Gives (λ x. (x.0, cursor_at bytes.now x.1)) report_fault result
+        (reading.body_at table.now (cursor_at bytes.now from)) }
     ensures onward { IfOk result (λ x. from ≤ x.1) }
     ensures within { IfOk result (λ x. x.1 ≤ length bytes.now) }
     ensures placed { IfErr result (IsReportFaultWithin (length bytes.now)) }
@@ -128,7 +130,8 @@ fn body_at(
 #[tactic(auto, unfolding(crate::specs::Reading::added_at))]
 fn added_at(alloc: Global, bytes: &[u8], from: usize) -> Result<(Body, usize), ReportFault>
     requires { from ≤ length bytes.now }
-    ensures exact { Gives (λ x. (x.0, cursor_at bytes.now x.1)) report_fault result (reading.added_at (cursor_at bytes.now from)) }
+    ensures exact { Gives (λ x. (x.0, cursor_at bytes.now x.1)) report_fault result
+        (reading.added_at (cursor_at bytes.now from)) }
     ensures onward { IfOk result (λ x. from ≤ x.1) }
     ensures within { IfOk result (λ x. x.1 ≤ length bytes.now) }
     ensures placed { IfErr result (IsReportFaultWithin (length bytes.now)) }
@@ -147,7 +150,8 @@ fn answers_at(
     from: usize,
 ) -> Result<(Body, usize), ReportFault>
     requires { from ≤ length bytes.now }
-    ensures exact { Gives (λ x. (x.0, cursor_at bytes.now x.1)) report_fault result (reading.answers_at table.now (cursor_at bytes.now from)) }
+    ensures exact { Gives (λ x. (x.0, cursor_at bytes.now x.1)) report_fault result
+        (reading.answers_at table.now (cursor_at bytes.now from)) }
     ensures onward { IfOk result (λ x. from ≤ x.1) }
     ensures within { IfOk result (λ x. x.1 ≤ length bytes.now) }
     ensures placed { IfErr result (IsReportFaultWithin (length bytes.now)) }
@@ -156,7 +160,8 @@ fn answers_at(
     Ok((Body::Answers(Items::from(answers)), next))
 }
 
-/// Reads the last line, from its first byte to the end of the bytes: the number of blocks that it gives.
+/// Reads the last line, from its first byte to the end of the bytes: the number of blocks that it
+/// gives.
 #[tactic(auto, unfolding(crate::specs::Reading::end_at))]
 pub fn read_end(alloc: Global, bytes: &[u8], from: usize) -> Result<u32, ReportFault>
     requires { from ≤ length bytes.now }
@@ -193,7 +198,8 @@ fn body_answers(
     from: usize,
 ) -> Result<(Vec<Answer>, usize), ReportFault>
     requires { from ≤ length bytes.now }
-    ensures exact { Gives (λ x. (x.0.items, cursor_at bytes.now x.1)) report_fault result (reading.body_answers table.now (length bytes.now - from) (cursor_at bytes.now from)) }
+    ensures exact { Gives (λ x. (x.0.items, cursor_at bytes.now x.1)) report_fault result
+        (reading.body_answers table.now (length bytes.now - from) (cursor_at bytes.now from)) }
     ensures onward { IfOk result (λ x. from ≤ x.1) }
     ensures within { IfOk result (λ x. x.1 ≤ length bytes.now) }
     ensures placed { IfErr result (IsReportFaultWithin (length bytes.now)) }
@@ -217,7 +223,8 @@ fn numbered_line(
     from: usize,
 ) -> Result<(u32, usize), ReportFault>
     requires { from ≤ length bytes.now }
-    ensures exact { Gives (λ x. (x.0, cursor_at bytes.now x.1)) report_fault result (reading.numbered_line name.now (cursor_at bytes.now from)) }
+    ensures exact { Gives (λ x. (x.0, cursor_at bytes.now x.1)) report_fault result
+        (reading.numbered_line name.now (cursor_at bytes.now from)) }
     ensures onward { IfOk result (λ x. from < x.1) }
     ensures within { IfOk result (λ x. x.1 ≤ length bytes.now) }
     ensures placed { IfErr result (IsReportFaultWithin (length bytes.now)) }
@@ -236,7 +243,8 @@ fn numbered_line(
 
 /// The word at a place among words, if there are so many.
 fn word_at<'a>(words: &[&'a [u8]], index: usize) -> Option<&'a [u8]>
-    ensures { option_map (λ word. word.now) result ≡ slice_get (map (λ word. word.now) words.now) index }
+    ensures { option_map (λ word. word.now) result
+        ≡ slice_get (map (λ word. word.now) words.now) index }
 {
     words.get(index).copied()
 }

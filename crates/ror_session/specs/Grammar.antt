@@ -20,7 +20,8 @@ pub record IsWithinLimits (bytes : List ℕ) : Type 0 where
 -- the words spell the command
 abbrev pub Spells : List (List ℕ) → Command → Type 0
 Spells ws (State (Prefer first second)) = ws ≡ codes "prefer" ∷ first ∷ second ∷ []
-Spells ws (Ask (Necessary first second)) = ws ≡ codes "ask" ∷ codes "necessary" ∷ first ∷ second ∷ []
+Spells ws (Ask (Necessary first second)) =
+    ws ≡ codes "ask" ∷ codes "necessary" ∷ first ∷ second ∷ []
 
 -- no byte of a word is below 0x21 or is 0x7F
 abbrev pub IsClean : List (List ℕ) → Type 0

@@ -16,16 +16,16 @@ use Rattle.ror_session.specs.declared.session.SessionFault.TheVariants as faults
 
 -- the fault that an error names: none for want of memory
 abbrev pub session_fault : SessionFault → Option SessionFault
-session_fault faults.NotUtf8 = Some faults.NotUtf8
-session_fault (faults.BadLine n) = Some (faults.BadLine n)
-session_fault faults.TooManyLines = Some faults.TooManyLines
-session_fault faults.TooLong = Some faults.TooLong
 session_fault faults.Memory = None
+session_fault fault = Some fault
 
 -- the command that the words of a line spell, if they spell one
 unfoldable pub command_of : List (List ℕ) → Option Command
-command_of (verb ∷ first ∷ second ∷ []) = if bytes_eq verb (codes "prefer") then Some (State (Prefer first second)) else None
-command_of (verb ∷ kind ∷ first ∷ second ∷ []) = if bytes_eq verb (codes "ask") && bytes_eq kind (codes "necessary") then Some (Ask (Necessary first second)) else None
+command_of (verb ∷ first ∷ second ∷ []) = if bytes_eq verb (codes "prefer")
+    then Some (State (Prefer first second)) else None
+command_of (verb ∷ kind ∷ first ∷ second ∷ []) =
+    if bytes_eq verb (codes "ask") && bytes_eq kind (codes "necessary")
+    then Some (Ask (Necessary first second)) else None
 command_of _ = None
 
 -- a line by its number and its words
@@ -35,7 +35,7 @@ line_of_words number ws = do
   command ← need (faults.BadLine number) (command_of ws)
   Ok (record { number = number; desk = 0; command = command })
 
--- the lines so far, and the next one
+-- the lines before, and the next one
 abbrev pub add_line : List Line → ℕ × List (List ℕ) → Result (List Line) SessionFault
 add_line lines (number, ws) = line_of_words number ws >>= λ line. Ok (lines ++ line ∷ [])
 

@@ -53,7 +53,8 @@ fn read_command(alloc: Global, words: &[&[u8]]) -> Result<Option<Command>, Alloc
 #[tactic(auto, unfolding(crate::specs::Session::line_of_words))]
 fn read_line(alloc: Global, number: u32, words: &[&[u8]]) -> Result<Line, SessionFault>
     requires utf8 { AllByRecursion IsUtf8 (map (λ word. word.now) words.now) }
-    ensures exact { Gives (λ line. line) session_fault result (line_of_words number (map (λ word. word.now) words.now)) }
+    ensures exact { Gives (λ line. line) session_fault result
+        (line_of_words number (map (λ word. word.now) words.now)) }
 {
     refuse_if(has_control(words), SessionFault::BadLine(number))?;
     let command = need(read_command(alloc, words)?, SessionFault::BadLine(number))?;
@@ -68,7 +69,8 @@ fn read_line(alloc: Global, number: u32, words: &[&[u8]]) -> Result<Line, Sessio
 fn read_lines(alloc: Global, bytes: &[u8]) -> Result<Vec<Line>, SessionFault>
     requires utf8 { is_utf8 bytes.now ≡ true }
     requires short { length bytes.now ≤ MOST_TEXT_BYTES }
-    ensures exact { Gives (λ lines. lines.items) session_fault result (read_all add_line [] (numbered_lines bytes.now)) }
+    ensures exact { Gives (λ lines. lines.items) session_fault result
+        (read_all add_line [] (numbered_lines bytes.now)) }
 {
     let mut lines = Vec::new(alloc);
     let mut rest = bytes;

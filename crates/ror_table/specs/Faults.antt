@@ -54,9 +54,16 @@ IsEmpty t = (t.criteria ≡ []) ⊎ (t.alternatives ≡ [])
 -- the fault is the first that the bytes have
 pub data IsFirstFaultOf (bytes : List ℕ) (fault : TableFault) : Type 0 where
   too_long : MOST_TEXT_BYTES < length bytes → fault ≡ at_line 0 TooLong → IsFirstFaultOf bytes fault
-  not_utf8 : length bytes ≤ MOST_TEXT_BYTES → (IsUtf8 bytes → ⊥) → fault ≡ at_line (bad_utf8_line bytes) NotUtf8 → IsFirstFaultOf bytes fault
-  no_line : IsReadable bytes → numbered_lines bytes ≡ [] → fault ≡ at_line 1 Form → IsFirstFaultOf bytes fault
-  other_line : IsReadable bytes → (line : ℕ × LineWords) → (rest : List (ℕ × LineWords)) → numbered_lines bytes ≡ line ∷ rest → line.1 ≢ codes "ror-table" ∷ codes "1" ∷ [] → fault ≡ at_line line.0 Form → IsFirstFaultOf bytes fault
-  in_line : (rest : List (ℕ × LineWords)) → BeginsTable bytes rest → IsFaultOfLine rest fault → IsFirstFaultOf bytes fault
-  nothing_there : IsFaultOfWhole bytes IsEmpty → fault ≡ at_line 0 Empty → IsFirstFaultOf bytes fault
-  too_many_steps : IsFaultOfWhole bytes (λ t. (IsEmpty t → ⊥) × (MOST_STEPS < columns t)) → fault ≡ at_line 0 (TooMany Steps) → IsFirstFaultOf bytes fault
+  not_utf8 : length bytes ≤ MOST_TEXT_BYTES → (IsUtf8 bytes → ⊥)
+      → fault ≡ at_line (bad_utf8_line bytes) NotUtf8 → IsFirstFaultOf bytes fault
+  no_line : IsReadable bytes → numbered_lines bytes ≡ [] → fault ≡ at_line 1 Form
+      → IsFirstFaultOf bytes fault
+  other_line : IsReadable bytes → (line : ℕ × LineWords) → (rest : List (ℕ × LineWords))
+      → numbered_lines bytes ≡ line ∷ rest → line.1 ≢ codes "ror-table" ∷ codes "1" ∷ []
+      → fault ≡ at_line line.0 Form → IsFirstFaultOf bytes fault
+  in_line : (rest : List (ℕ × LineWords)) → BeginsTable bytes rest → IsFaultOfLine rest fault
+      → IsFirstFaultOf bytes fault
+  nothing_there : IsFaultOfWhole bytes IsEmpty → fault ≡ at_line 0 Empty
+      → IsFirstFaultOf bytes fault
+  too_many_steps : IsFaultOfWhole bytes (λ t. (IsEmpty t → ⊥) × (MOST_STEPS < columns t))
+      → fault ≡ at_line 0 (TooMany Steps) → IsFirstFaultOf bytes fault

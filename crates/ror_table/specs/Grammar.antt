@@ -28,7 +28,8 @@ criterion_words c = codes "criterion" ∷ c.id ∷ direction_word c.direction �
 -- the line `classes COUNT` for some classes, and no line for none
 abbrev pub WritesClasses : List LineWords → ℕ → Type 0
 WritesClasses [] n = n ≡ 0
-WritesClasses (line ∷ []) n = (word : List ℕ) × (line ≡ codes "classes" ∷ word ∷ []) × (count_of word ≡ Some n) × (0 < n)
+WritesClasses (line ∷ []) n =
+    (word : List ℕ) × (line ≡ codes "classes" ∷ word ∷ []) × (count_of word ≡ Some n) × (0 < n)
 WritesClasses (line ∷ other ∷ lines) n = ⊥
 
 -- `alternative ID PERFORMANCE ..`

@@ -9,12 +9,15 @@ use Rattle.ror_table.specs.Faults.{IsFirstFaultOf}
 
 -- what is read is in the grammar, and what is in the grammar is read
 abbrev pub ReadsTheGrammar : Type 0
-ReadsTheGrammar = (bytes : List ℕ) (t : DecisionTable) → (plain_table bytes ≡ Ok t) ↔ IsPlainText bytes t
+ReadsTheGrammar = (bytes : List ℕ) (t : DecisionTable)
+    → (plain_table bytes ≡ Ok t) ↔ IsPlainText bytes t
 
 -- the fault that is given is the first, and the first is given
 abbrev pub GivesTheFirstFault : Type 0
-GivesTheFirstFault = (bytes : List ℕ) (fault : TableFault) → (plain_table bytes ≡ Err fault) ↔ IsFirstFaultOf bytes fault
+GivesTheFirstFault = (bytes : List ℕ) (fault : TableFault)
+    → (plain_table bytes ≡ Err fault) ↔ IsFirstFaultOf bytes fault
 
 -- the fault of a line is the first of its tests that it fails
 abbrev pub LinesFailFirst : Type 0
-LinesFailFirst = (t : DecisionTable) (line : ℕ × LineWords) (fault : TableFault) → (body_line t line ≡ Err fault) ↔ ((fault.line ≡ line.0) × IsFirstOfLine t line.1 fault.kind)
+LinesFailFirst = (t : DecisionTable) (line : ℕ × LineWords) (fault : TableFault)
+    → (body_line t line ≡ Err fault) ↔ ((fault.line ≡ line.0) × IsFirstOfLine t line.1 fault.kind)

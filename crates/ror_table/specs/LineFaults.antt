@@ -61,13 +61,18 @@ FailsLine t line BadLine = HasForm t line → ⊥
 FailsLine t line RepeatedId =
     (IsNamed (codes "criterion") line × Contains (criterion_ids t) (word_at line 1))
     ⊎ (IsNamed (codes "alternative") line × Contains (alternative_ids t) (word_at line 1))
-FailsLine t line MissingPerformance = IsNamed (codes "alternative") line × (length line < length t.criteria + 2)
+FailsLine t line MissingPerformance =
+    IsNamed (codes "alternative") line × (length line < length t.criteria + 2)
 FailsLine t line BadNumber =
     (IsNamed (codes "classes") line × (IsSomeCount (word_at line 1) → ⊥))
     ⊎ (IsNamed (codes "alternative") line × (ArePerformances (drop 2 line) → ⊥))
-FailsLine t line (TooMany Criteria) = IsNamed (codes "criterion") line × (MOST_CRITERIA ≤ length t.criteria)
-FailsLine t line (TooMany Alternatives) = IsNamed (codes "alternative") line × (MOST_ALTERNATIVES ≤ length t.alternatives)
-FailsLine t line (TooMany Classes) = IsNamed (codes "classes") line × ((n : ℕ) × (count_of (word_at line 1) ≡ Some n) × (MOST_CLASSES < n))
+FailsLine t line (TooMany Criteria) =
+    IsNamed (codes "criterion") line × (MOST_CRITERIA ≤ length t.criteria)
+FailsLine t line (TooMany Alternatives) =
+    IsNamed (codes "alternative") line × (MOST_ALTERNATIVES ≤ length t.alternatives)
+FailsLine t line (TooMany Classes) =
+    IsNamed (codes "classes") line
+    × ((n : ℕ) × (count_of (word_at line 1) ≡ Some n) × (MOST_CLASSES < n))
 FailsLine t line (TooMany Steps) = ⊥
 FailsLine t line Form = ⊥
 FailsLine t line NotUtf8 = ⊥
@@ -84,4 +89,5 @@ line_stage _ = 4
 
 -- the line has this fault, and none that is looked for before it
 abbrev pub IsFirstOfLine : DecisionTable → LineWords → TableKind → Type 0
-IsFirstOfLine t line kind = IsFirst (FailsLine t line) (λ other fault. line_stage other < line_stage fault) kind
+IsFirstOfLine t line kind =
+    IsFirst (FailsLine t line) (λ other fault. line_stage other < line_stage fault) kind

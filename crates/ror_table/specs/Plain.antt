@@ -30,17 +30,22 @@ at_line line kind = record { kind = kind; line = line }
 
 -- the two words `ror-table` and `1`
 abbrev pub is_head : List (List ℕ) → Bool
-is_head words = length words == 2 && bytes_eq (word_at words 0) (codes "ror-table") && bytes_eq (word_at words 1) (codes "1")
+is_head words =
+    length words == 2 && bytes_eq (word_at words 0) (codes "ror-table")
+    && bytes_eq (word_at words 1) (codes "1")
 
 abbrev pub direction_of : List ℕ → Option Direction
-direction_of word = if bytes_eq word (codes "max") then Some Max else (if bytes_eq word (codes "min") then Some Min else None)
+direction_of word = if bytes_eq word (codes "max") then Some Max
+    else (if bytes_eq word (codes "min") then Some Min else None)
 
 -- the performances that the words write, or None where one writes none
 abbrev pub performances_of : List (List ℕ) → Option (List ℤ)
 performances_of [] = Some []
-performances_of (word ∷ words) = option_and_then (λ p. option_map (λ ps. p ∷ ps) (performances_of words)) (read_performance word)
+performances_of (word ∷ words) =
+    option_and_then (λ p. option_map (λ ps. p ∷ ps) (performances_of words)) (read_performance word)
 
--- a line of classes or of an alternative stands before: no criterion and no line of classes may follow it
+-- a line of classes or of an alternative stands before: no criterion and no line of classes may
+-- follow it
 abbrev pub is_past_criteria : DecisionTable → Bool
 is_past_criteria t = not (t.classes == 0) || not (length t.alternatives == 0)
 
@@ -50,7 +55,8 @@ criterion_line line t words = do
   _ ← refuse (at_line line BadLine) (not (length words == 3))
   direction ← need (at_line line BadLine) (direction_of (word_at words 2))
   _ ← refuse (at_line line BadLine) (is_past_criteria t)
-  with_criterion (at_line line BadLine) (at_line line RepeatedId) (at_line line (TooMany Criteria)) t (word_at words 1) direction
+  with_criterion (at_line line BadLine) (at_line line RepeatedId)
+      (at_line line (TooMany Criteria)) t (word_at words 1) direction
 
 -- `classes COUNT`
 unfoldable pub classes_line : ℕ → DecisionTable → List (List ℕ) → Result DecisionTable TableFault
@@ -63,7 +69,8 @@ classes_line line t words = do
   Ok (record t { classes = count })
 
 -- `alternative ID PERFORMANCE ..`, one performance for each criterion
-unfoldable pub alternative_line : ℕ → DecisionTable → List (List ℕ) → Result DecisionTable TableFault
+unfoldable pub alternative_line : ℕ → DecisionTable → List (List ℕ)
+    → Result DecisionTable TableFault
 alternative_line line t words = do
   _ ← refuse (at_line line BadLine) (nat_lt (length words) 2)
   _ ← refuse (at_line line BadLine) (nat_lt (length t.criteria + 2) (length words))

@@ -84,7 +84,9 @@ levels_count performances = distinct_count is_same performances
 
 -- how many distinct performances on the criterion are worse than the alternative's
 abbrev pub rank : DecisionTable → ℕ → ℕ → ℕ
-rank t a i = levels_count (filter (λ p. is_worse (direction_at t i) p (performance_at t a i)) (performances_on t i))
+rank t a i =
+    levels_count
+    (filter (λ p. is_worse (direction_at t i) p (performance_at t a i)) (performances_on t i))
 
 -- how many distinct performances there are on the criterion, less one
 abbrev pub steps : DecisionTable → ℕ → ℕ

@@ -58,7 +58,8 @@ impl Draft {
     #[tactic(auto, unfolding(crate::specs::Draft::with_criterion))]
     pub fn criterion(&mut self, id: &str, direction: Direction) -> Result<(), DraftFault>
         requires { self.old.alternatives ≡ [] }
-        ensures exact { Gives (λ _. self.new) draft_fault result (with_criterion BadId RepeatedId (TooMany Criteria) self.old id.now direction) }
+        ensures exact { Gives (λ _. self.new) draft_fault result
+            (with_criterion BadId RepeatedId (TooMany Criteria) self.old id.now direction) }
         ensures added { OnOk result (self.new ≡ add_criterion self.old id.now direction) }
         ensures unchanged { OnErr result (self.new ≡ self.old) }
     {
@@ -85,7 +86,9 @@ impl Draft {
     pub fn alternative(&mut self, id: &str, performances: &[i64]) -> Result<(), DraftFault>
         requires width { length performances.now ≡ length self.old.criteria }
         requires bounded { All (λ p. unsigned_abs p < 10 ^ 18) performances.now }
-        ensures exact { Gives (λ _. self.new) draft_fault result (with_alternative BadId RepeatedId (TooMany Alternatives) self.old id.now performances.now) }
+        ensures exact { Gives (λ _. self.new) draft_fault result
+            (with_alternative BadId RepeatedId
+            (TooMany Alternatives) self.old id.now performances.now) }
         ensures added { OnOk result (self.new ≡ add_alternative self.old id.now performances.now) }
         ensures unchanged { OnErr result (self.new ≡ self.old) }
     {
@@ -152,7 +155,8 @@ impl Draft {
         self.criteria.is_empty() || self.alternatives.is_empty()
     }
 
-    /// Whether no criterion and no number of classes may follow, since there are classes or alternatives.
+    /// Whether no criterion and no number of classes may follow, since there are classes or
+    /// alternatives.
     pub(crate) fn is_past_criteria(&self) -> bool
         ensures past { result ≡ is_past_criteria self.now }
         ensures first { result ≡ false → self.now.alternatives ≡ [] }

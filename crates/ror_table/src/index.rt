@@ -9,8 +9,8 @@ use crate::draft::Draft;
 use crate::levels::levels_of;
 use std::alloc::{AllocError, Global};
 
-/// The levels of each criterion from the worst to the best, how many columns come before each criterion, and how
-/// many there are.
+/// The levels of each criterion from the worst to the best, how many columns come before each
+/// criterion, and how many there are.
 #[derive(Drop)]
 pub(crate) struct Index {
     pub(crate) levels: Vec<Vec<i64>>,
@@ -35,8 +35,12 @@ fn offsets_of(alloc: Global, levels: &[Vec<i64>]) -> Result<(Vec<usize>, usize),
     requires few { length levels.now ≤ MOST_CRITERIA }
     requires short { All (λ criterion. length criterion.items ≤ MOST_ALTERNATIVES) levels.now }
     ensures number { IfOk result (λ r. length r.0.items ≡ length levels.now) }
-    ensures each { IfOk result (λ r. (i : ℕ) → i < length levels.now → slice_index r.0.items i ≡ sum_by (λ criterion. length criterion.items - 1) (take i levels.now)) }
-    ensures total { IfOk result (λ r. r.1 ≡ sum_by (λ criterion. length criterion.items - 1) levels.now) }
+    ensures each { IfOk result
+        (λ r. (i : ℕ) → i < length levels.now
+        → slice_index r.0.items i
+        ≡ sum_by (λ criterion. length criterion.items - 1) (take i levels.now)) }
+    ensures total { IfOk result
+        (λ r. r.1 ≡ sum_by (λ criterion. length criterion.items - 1) levels.now) }
 {
     let mut offsets = Vec::new(alloc);
     let mut columns = 0;
@@ -50,7 +54,8 @@ fn offsets_of(alloc: Global, levels: &[Vec<i64>]) -> Result<(Vec<usize>, usize),
 /// The index of a draft.
 pub(crate) fn index_of(draft: &Draft) -> Result<Index, AllocError>
     ensures levels { IfOk result (λ index. AreLevels draft.now index.levels.items) }
-    ensures offsets { IfOk result (λ index. AreOffsets draft.now index.offsets.items index.columns) }
+    ensures offsets { IfOk result
+        (λ index. AreOffsets draft.now index.offsets.items index.columns) }
     ensures total { IfOk result (λ index. index.columns ≡ columns draft.now) }
 {
     let few = draft.criteria_count();

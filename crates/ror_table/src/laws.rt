@@ -2,8 +2,8 @@
 
 ghost use Rattle.ror_table.specs.Laws.{ReadsTheGrammar, GivesTheFirstFault, LinesFailFirst};
 
-/// A plain table is read exactly where its bytes are in the grammar and within the limits, and as the table that
-/// the grammar gives.
+/// A plain table is read exactly where its bytes are in the grammar and within the limits, and as
+/// the table that the grammar gives.
 pub fn plain_tables_are_the_grammar()
     ensures { ReadsTheGrammar }
 {}
@@ -13,7 +13,8 @@ pub fn the_first_fault_is_given()
     ensures { GivesTheFirstFault }
 {}
 
-/// A line after the first is refused exactly with the first of the tests that it fails, each of which is taken alone.
+/// A line after the first is refused exactly with the first of the tests that it fails, each of
+/// which is taken alone.
 pub fn lines_fail_first()
     ensures { LinesFailFirst }
 {}

@@ -66,7 +66,9 @@ fn is_head(words: &[&[u8]]) -> bool
 
 /// The performances that words write.
 fn performances_of(alloc: Global, line: u32, words: &[&[u8]]) -> Result<Vec<i64>, TableError>
-    ensures exact { Gives (λ v. v.items) table_fault result (need (at_line line BadNumber) (spec.performances_of (map (λ word. word.now) words.now))) }
+    ensures exact { Gives (λ v. v.items) table_fault result
+        (need (at_line line BadNumber)
+        (spec.performances_of (map (λ word. word.now) words.now))) }
     ensures number { IfOk result (λ v. length v.items ≡ length words.now) }
     ensures bounded { IfOk result (λ v. All (λ p. unsigned_abs p < 10 ^ 18) v.items) }
 {
@@ -81,7 +83,8 @@ fn performances_of(alloc: Global, line: u32, words: &[&[u8]]) -> Result<Vec<i64>
 /// A line `criterion ID max` or `criterion ID min`.
 #[tactic(auto, unfolding(crate::specs::Plain::criterion_line, crate::specs::Draft::with_criterion))]
 fn criterion_line(draft: &mut Draft, line: u32, words: &[&[u8]]) -> Result<(), TableError>
-    ensures { Gives (λ _. draft.new) table_fault result (spec.criterion_line line draft.old (map (λ word. word.now) words.now)) }
+    ensures { Gives (λ _. draft.new) table_fault result
+        (spec.criterion_line line draft.old (map (λ word. word.now) words.now)) }
 {
     refuse_if(words.len() != 3, fault(TableKind::BadLine, line))?;
     let direction = need(
@@ -105,7 +108,8 @@ fn criterion_line(draft: &mut Draft, line: u32, words: &[&[u8]]) -> Result<(), T
 /// A line `classes COUNT`.
 #[tactic(auto, unfolding(crate::specs::Plain::classes_line))]
 fn classes_line(draft: &mut Draft, line: u32, words: &[&[u8]]) -> Result<(), TableError>
-    ensures { Gives (λ _. draft.new) table_fault result (spec.classes_line line draft.old (map (λ word. word.now) words.now)) }
+    ensures { Gives (λ _. draft.new) table_fault result
+        (spec.classes_line line draft.old (map (λ word. word.now) words.now)) }
 {
     refuse_if(words.len() != 2, fault(TableKind::BadLine, line))?;
     refuse_if(draft.is_past_criteria(), fault(TableKind::BadLine, line))?;
@@ -130,7 +134,8 @@ fn alternative_line(
     line: u32,
     words: &[&[u8]],
 ) -> Result<(), TableError>
-    ensures { Gives (λ _. draft.new) table_fault result (spec.alternative_line line draft.old (map (λ word. word.now) words.now)) }
+    ensures { Gives (λ _. draft.new) table_fault result
+        (spec.alternative_line line draft.old (map (λ word. word.now) words.now)) }
 {
     let due = draft.criteria_count() + 2;
     refuse_if(words.len() < 2, fault(TableKind::BadLine, line))?;
@@ -161,7 +166,8 @@ fn known_line(
     line: u32,
     words: &[&[u8]],
 ) -> Result<(), TableError>
-    ensures { Gives (λ _. draft.new) table_fault result (spec.known_line line draft.old (map (λ word. word.now) words.now)) }
+    ensures { Gives (λ _. draft.new) table_fault result
+        (spec.known_line line draft.old (map (λ word. word.now) words.now)) }
 {
     let word = word_at(words, 0);
     if word == b"criterion".as_slice() {
@@ -178,16 +184,19 @@ fn known_line(
 /// A line after the first.
 #[tactic(auto, unfolding(crate::specs::Plain::body_line))]
 fn body_line(alloc: Global, draft: &mut Draft, line: u32, words: &[&[u8]]) -> Result<(), TableError>
-    ensures { Gives (λ _. draft.new) table_fault result (body_line draft.old (line, map (λ word. word.now) words.now)) }
+    ensures { Gives (λ _. draft.new) table_fault result
+        (body_line draft.old (line, map (λ word. word.now) words.now)) }
 {
     refuse_if(has_control(words), fault(TableKind::BadLine, line))?;
     known_line(alloc, draft, line, words)
 }
 
-/// The lines after the first, which has to be `ror-table 1`: the number of the next line, and the bytes from it on.
+/// The lines after the first, which has to be `ror-table 1`: the number of the next line, and the
+/// bytes from it on.
 fn after_head(alloc: Global, bytes: &[u8]) -> Result<(u32, &[u8]), TableError>
     requires { length bytes.now ≤ MOST_TEXT_BYTES }
-    ensures exact { Gives (λ rest. numbered_lines_from rest.0 rest.1.now) table_fault result (after_head (numbered_lines bytes.now)) }
+    ensures exact { Gives (λ rest. numbered_lines_from rest.0 rest.1.now) table_fault result
+        (after_head (numbered_lines bytes.now)) }
     ensures shorter { IfOk result (λ rest. rest.0 + length rest.1.now ≤ 1 + length bytes.now) }
 {
     match next_line(alloc, 1, bytes)? {
@@ -205,7 +214,8 @@ fn after_head(alloc: Global, bytes: &[u8]) -> Result<(u32, &[u8]), TableError>
 /// The lines after the first, added to a draft.
 fn read_lines(alloc: Global, draft: &mut Draft, first: u32, bytes: &[u8]) -> Result<(), TableError>
     requires { first + length bytes.now ≤ 2 * MOST_TEXT_BYTES }
-    ensures { Gives (λ _. draft.new) table_fault result (read_all body_line draft.old (numbered_lines_from first bytes.now)) }
+    ensures { Gives (λ _. draft.new) table_fault result
+        (read_all body_line draft.old (numbered_lines_from first bytes.now)) }
 {
     let mut number = first;
     let mut left = bytes;
@@ -220,7 +230,8 @@ fn read_lines(alloc: Global, draft: &mut Draft, first: u32, bytes: &[u8]) -> Res
 /// A table of all lines.
 #[tactic(auto, unfolding(crate::specs::Draft::finished))]
 fn whole_table(draft: Draft) -> Result<Table, TableError>
-    ensures exact { Gives (λ t. t) table_fault result (finished (at_line 0 Empty) (at_line 0 (TooMany Steps)) draft) }
+    ensures exact { Gives (λ t. t) table_fault result
+        (finished (at_line 0 Empty) (at_line 0 (TooMany Steps)) draft) }
     ensures table { IfOk result IsTable }
 {
     match draft.finish() {
@@ -234,7 +245,8 @@ fn whole_table(draft: Draft) -> Result<Table, TableError>
 /// Whether the bytes are UTF-8.
 fn check_utf8(bytes: &[u8]) -> Result<(), TableError>
     requires { length bytes.now ≤ MOST_TEXT_BYTES }
-    ensures { Gives (λ _. tt) table_fault result (refuse (at_line (bad_utf8_line bytes.now) NotUtf8) (not (is_utf8 bytes.now))) }
+    ensures { Gives (λ _. tt) table_fault result
+        (refuse (at_line (bad_utf8_line bytes.now) NotUtf8) (not (is_utf8 bytes.now))) }
 {
     match bad_utf8_line(bytes) {
         None => Ok(()),

@@ -16,8 +16,8 @@ use crate::limits::MOST_STEPS;
 use ror_text::reading::refuse_if;
 use std::marker::Model;
 
-/// A decision table: at least one alternative, evaluated on at least one criterion. Alternatives, criteria and
-/// columns are numbered from 0, steps and classes from 1.
+/// A decision table: at least one alternative, evaluated on at least one criterion. Alternatives,
+/// criteria and columns are numbered from 0, steps and classes from 1.
 #[derive(Drop)]
 pub struct Table {
     draft: Draft,

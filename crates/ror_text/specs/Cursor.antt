@@ -18,4 +18,6 @@ line_words c = spaced_words (before_first is_line_end c.rest)
 
 -- where the next line begins, if a line feed ends this one
 unfoldable pub line_after : Cursor → Option Cursor
-line_after c = option_map (λ parts. record { place = c.place + length parts.0 + 1; rest = parts.1 }) (split_line c.rest)
+line_after c =
+    option_map (λ parts. record { place = c.place + length parts.0 + 1; rest = parts.1 })
+    (split_line c.rest)

@@ -8,7 +8,8 @@ use Rattle.std.specs.Str.Lossy.{utf8_valid_len}
 abbrev pub is_line_end : ℕ → Bool
 is_line_end byte = byte == 10
 
--- where the line after the first begins: one past the first line feed, or past the end where there is none
+-- where the line after the first begins: one past the first line feed, or past the end where there
+-- is none
 abbrev pub first_line_end : List ℕ → ℕ
 first_line_end bytes = position_or_len is_line_end bytes + 1
 
@@ -33,9 +34,11 @@ is_control byte = nat_lt byte 0x21 || byte == 0x7F
 abbrev pub has_control : List (List ℕ) → Bool
 has_control ws = list_any (list_any is_control) ws
 
--- the words of each line that is not passed over, with the line's number among all lines, of which the first is n
+-- the words of each line that is not passed over, with the line's number among all lines, of which
+-- the first is n
 abbrev pub numbered_lines_from : ℕ → List ℕ → List (ℕ × List (List ℕ))
-numbered_lines_from n bytes = filter (λ line. not (is_passed_over line.1)) (enumerate_from n (map words (lines bytes)))
+numbered_lines_from n bytes =
+    filter (λ line. not (is_passed_over line.1)) (enumerate_from n (map words (lines bytes)))
 
 -- the same, where lines are numbered from 1
 abbrev pub numbered_lines : List ℕ → List (ℕ × List (List ℕ))

@@ -15,11 +15,14 @@ digits_number (digit ∷ digits) = (digit - 48) * 10 ^ length digits + digits_nu
 
 -- the number of 1 to most digits, leading zeros allowed
 abbrev pub digits_up_to : ℕ → List ℕ → Option ℕ
-digits_up_to most word = if is_digits word && nat_le (length word) most then Some (digits_number word) else None
+digits_up_to most word = if is_digits word && nat_le (length word) most
+    then Some (digits_number word) else None
 
 -- the number of digits without a leading zero, or of the digit 0 alone, if it is below the limit
 abbrev pub plain_below : ℕ → List ℕ → Option ℕ
-plain_below limit word = if is_digits word && (length word == 1 || not (slice_index word 0 == 48)) && nat_lt (digits_number word) limit then Some (digits_number word) else None
+plain_below limit word =
+    if is_digits word && (length word == 1 || not (slice_index word 0 == 48))
+    && nat_lt (digits_number word) limit then Some (digits_number word) else None
 
 abbrev pub negative : ℕ → ℤ
 negative n = neg_ℤ (pos n)
@@ -41,7 +44,9 @@ count_of word = digits_up_to 9 word
 unfoldable pub number_of : List ℕ → Option ℤ
 number_of [] = None
 number_of (sign ∷ digits) =
-    if sign == 45 then (if slice_index digits 0 == 48 then None else option_map negative (plain_below NUMBER_LIMIT digits))
+    if sign == 45
+    then (if slice_index digits 0 == 48 then None
+    else option_map negative (plain_below NUMBER_LIMIT digits))
     else option_map pos (plain_below NUMBER_LIMIT (sign ∷ digits))
 
 -- a count, a place or a system of a report: digits without a leading zero, at most 4,294,967,295

@@ -6,7 +6,8 @@ use Rattle.ror_text.specs.Lines.{is_line_end}
 
 -- the bytes before the first line end, and those after it
 abbrev pub split_line : List ℕ → Option (List ℕ × List ℕ)
-split_line bytes = option_map (λ place. (take place bytes, drop (place + 1) bytes)) (position is_line_end bytes)
+split_line bytes =
+    option_map (λ place. (take place bytes, drop (place + 1) bytes)) (position is_line_end bytes)
 
 -- the words of a line, empty ones too
 abbrev pub spaced_words : List ℕ → List (List ℕ)

@@ -37,10 +37,11 @@ fn without_carriage_return(line: &[u8]) -> &[u8]
     }
 }
 
-/// The first line and the bytes after it. A line feed ends a line, and one carriage return just before it is passed
-/// over; the bytes after the last line feed are a line only if there are any.
+/// The first line and the bytes after it. A line feed ends a line, and one carriage return just
+/// before it is passed over; the bytes after the last line feed are a line only if there are any.
 pub fn first_line(bytes: &[u8]) -> Option<(&[u8], &[u8])>
-    ensures line { MatchOption result (lines bytes.now ≡ []) (λ x. lines bytes.now ≡ x.0.now ∷ lines x.1.now) }
+    ensures line { MatchOption result (lines bytes.now ≡ [])
+        (λ x. lines bytes.now ≡ x.0.now ∷ lines x.1.now) }
     ensures rest { IfSome result (λ x. x.1.now ≡ drop (spec.first_line_end bytes.now) bytes.now) }
     ensures shorter { IfSome result (λ x. length x.1.now < length bytes.now) }
 {
@@ -97,7 +98,8 @@ pub fn is_utf8(bytes: &[u8]) -> bool
 /// The line of the first byte at which the bytes are no UTF-8, if they are none.
 pub fn bad_utf8_line(bytes: &[u8]) -> Option<u32>
     requires { length bytes.now < 2 ^ 32 - 1 }
-    ensures { MatchOption result (IsUtf8 bytes.now) (λ line. (¬ (IsUtf8 bytes.now)) × (line ≡ spec.bad_utf8_line bytes.now)) }
+    ensures { MatchOption result (IsUtf8 bytes.now)
+        (λ line. (¬ (IsUtf8 bytes.now)) × (line ≡ spec.bad_utf8_line bytes.now)) }
 {
     match std::str::from_utf8(bytes) {
         Ok(_) => None,
@@ -142,7 +144,8 @@ pub fn next_line(
         ∷ numbered_lines_from (l.number + 1) l.rest.now)) }
     ensures number { IfOk result (λ next. IfSome next
         (λ l. l.number + length l.rest.now < first + length bytes.now)) }
-    ensures shorter { IfOk result (λ next. IfSome next (λ l. length l.rest.now < length bytes.now)) }
+    ensures shorter { IfOk result
+        (λ next. IfSome next (λ l. length l.rest.now < length bytes.now)) }
 {
     let mut number = first;
     let mut left = bytes;

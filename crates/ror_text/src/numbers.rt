@@ -9,7 +9,8 @@ pub const NUMBER_LIMIT: u128 = 1 << 127;
 
 /// The number of one or more digits, if it fits.
 fn digits(word: &[u8]) -> Option<u128>
-    ensures { MatchOption result (spec.is_digits word.now ≡ true → 2 ^ 128 ≤ spec.digits_number word.now) (λ n. (spec.is_digits word.now ≡ true) × (n ≡ spec.digits_number word.now)) }
+    ensures { MatchOption result (spec.is_digits word.now ≡ true → 2 ^ 128 ≤ spec.digits_number word.now)
+        (λ n. (spec.is_digits word.now ≡ true) × (n ≡ spec.digits_number word.now)) }
 {
     if word.is_empty() || !all_digits(word) {
         return None;
@@ -74,8 +75,8 @@ pub fn read_count(word: &[u8]) -> Option<u32>
     Some(digits_up_to(9, word)? as u32)
 }
 
-/// A number of a report: digits without a leading zero, with `-` before them where it is below 0, of absolute value
-/// below [`NUMBER_LIMIT`].
+/// A number of a report: digits without a leading zero, with `-` before them where it is below 0,
+/// of absolute value below [`NUMBER_LIMIT`].
 #[tactic(auto, unfolding(crate::specs::Numbers::number_of))]
 pub fn read_number(word: &[u8]) -> Option<i128>
     ensures value { result ≡ spec.number_of word.now }

@@ -10,7 +10,8 @@ use std::marker::Model;
 
 /// The bytes before the first line feed, and those after it, if there is one.
 pub fn split_line(bytes: &[u8]) -> Option<(&[u8], &[u8])>
-    ensures { MatchOption result (spec.split_line bytes.now ≡ None) (λ x. spec.split_line bytes.now ≡ Some (x.0.now, x.1.now)) }
+    ensures { MatchOption result (spec.split_line bytes.now ≡ None)
+        (λ x. spec.split_line bytes.now ≡ Some (x.0.now, x.1.now)) }
 {
     let end = line_end(bytes)?;
     Some((&bytes[..end], &bytes[end + 1..]))
@@ -27,7 +28,8 @@ pub fn split_spaced(alloc: Global, line: &[u8]) -> Result<Vec<&[u8]>, AllocError
 pub fn line_at(bytes: &[u8], from: usize) -> (&[u8], Option<usize>)
     requires { from ≤ length bytes.now }
     ensures words { spec.spaced_words result.0.now ≡ line_words (cursor_at bytes.now from) }
-    ensures next { option_map (cursor_at bytes.now) result.1 ≡ line_after (cursor_at bytes.now from) }
+    ensures next { option_map (cursor_at bytes.now) result.1
+        ≡ line_after (cursor_at bytes.now from) }
     ensures onward { IfSome result.1 (λ next. from < next) }
     ensures within { IfSome result.1 (λ next. next ≤ length bytes.now) }
 {
@@ -38,8 +40,8 @@ pub fn line_at(bytes: &[u8], from: usize) -> (&[u8], Option<usize>)
     }
 }
 
-/// The words of a line that are not read yet. The line is cut at each single space, one word at a time, so that no
-/// memory is needed for the words.
+/// The words of a line that are left to read. The line is cut at each single space, one word at a
+/// time, so that no memory is needed for the words.
 #[derive(Drop)]
 pub struct Words<'a> {
     rest: Option<&'a [u8]>,
