@@ -2,7 +2,7 @@
 
 ghost use Rattle.std.specs.Prelude.{◌≡◌, ◌<◌, ◌^◌, ◌-◌, ◌+◌, [], is_none, if◌then◌else◌};
 ghost use Rattle.std.specs.Option.{option_copied};
-ghost use Rattle.ror_proof.specs.Reading.{alternative_named};
+ghost use Rattle.ror_table.specs.Table.{alternative_named};
 ghost use Rattle.ror.specs.Work as spec;
 
 use ror_session::{Asked, Command, Line, Named};

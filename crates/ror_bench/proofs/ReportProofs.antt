@@ -9,7 +9,7 @@ use Rattle.std.proofs.lemmas.List.Elements.{filter-append}
 use Rattle.std.proofs.lemmas.List.Sums.{sum_by-append, fold-append}
 use Rattle.ror_session.specs.declared.session.Line.{Line}
 use Rattle.ror_table.specs.Table.{DecisionTable, IsTable}
-use Rattle.ror_proof.specs.Cursor.{Cursor, cursor_at}
+use Rattle.ror_text.specs.Cursor.{Cursor, cursor_at}
 use Rattle.ror_report.specs.declared.block.Block.{Block}
 use Rattle.ror_report.specs.declared.read.ReportFault.{ReportFault}
 use Rattle.ror_report.specs.Text.{block_text, header_text, end_text, report_text, IsPrintableBlock}

@@ -17,7 +17,7 @@ use Rattle.ror_session.specs.declared.session.Named.TheVariants.{Prefer}
 use Rattle.ror_session.specs.declared.session.Asked.{Asked}
 use Rattle.ror_session.specs.declared.session.Asked.TheVariants.{Necessary}
 use Rattle.ror_proof.specs.declared.answer.Answer.{Answer}
-use Rattle.ror_proof.specs.Reading.{alternative_named}
+use Rattle.ror_table.specs.Table.{alternative_named}
 use Rattle.ror_check.specs.declared.fault.CheckFault.{CheckFault}
 use Rattle.ror_check.specs.Proof.{IsProvedAnswer, conclusion_of}
 use Rattle.ror_check.specs.Faults.{FailsAnswer, IsEarlierFault}

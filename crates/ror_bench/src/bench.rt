@@ -5,7 +5,7 @@ ghost use Rattle.std.specs.List.{AllByRecursion};
 ghost use Rattle.std.specs.Option.{option_map};
 ghost use Rattle.ror_statement.specs.Statement.{row_count, IsLawful, IsValid, IsValidQuestion};
 ghost use Rattle.ror_history.specs.History.{statements_of};
-ghost use Rattle.ror_proof.specs.Reading as reading;
+ghost use Rattle.ror_table.specs.Table as reading;
 ghost use Rattle.ror_session.specs.declared.session.Command.TheVariants.{State};
 ghost use Rattle.ror_report.specs.declared.block.Body.TheVariants.{Added};
 ghost use Rattle.ror_bench.specs.Bench.{Workbench, revisions_at, bench_of};

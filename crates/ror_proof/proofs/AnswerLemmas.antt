@@ -28,14 +28,19 @@ use Rattle.ror_proof.specs.declared.answer.Verdict.TheVariants as verdicts
 use Rattle.ror_proof.specs.declared.read.ProofFault.TheVariants.{BadLine}
 use Rattle.ror_proof.specs.declared.read.ProvedVerdict.{ProvedVerdict}
 use Rattle.ror_proof.specs.declared.read.ProvedVerdict.TheVariants as proved
-use Rattle.ror_proof.specs.Cursor.{Cursor}
-use Rattle.ror_proof.specs.Text.{line_text, multipliers_words, certificate_words, id_of, question_words, verdict_word, proof_of, base_text, part_text, answer_text, IsNarrowCertificate, IsPrintablePart, IsPrintable}
-use Rattle.ror_proof.specs.Words.{line_words, next_line, after_word, no_more, number_in, numbers_at, numbers_before_bar}
+use Rattle.ror_text.specs.Cursor.{Cursor}
+use Rattle.ror_text.specs.SpacedLines.{line_text}
+use Rattle.ror_table.specs.Table.{id_of}
+use Rattle.ror_proof.specs.Text.{multipliers_words, certificate_words, question_words, verdict_word, proof_of, base_text, part_text, answer_text, IsNarrowCertificate, IsPrintablePart, IsPrintable}
+use Rattle.ror_text.specs.Cursor.{line_words, line_after}
+use Rattle.ror_proof.specs.Words.{after_word, no_more, number_in, numbers_at, numbers_before_bar}
 use Rattle.ror_proof.specs.Laws.{IsAnswerText}
-use Rattle.ror_proof.specs.Reading.{solution_at, multipliers_at, certificate_at, alternative_named, alternative_at, necessary_at, question_at, verdict_at, verdict_of, system_at, answer_line, base_line, part_line, begins_part, part_lines, answer_at}
+use Rattle.ror_table.specs.Table.{alternative_named}
+use Rattle.ror_proof.specs.Reading.{solution_at, multipliers_at, certificate_at, alternative_at, necessary_at, question_at, verdict_at, verdict_of, system_at, answer_line, base_line, part_line, begins_part, part_lines, answer_at}
 use Rattle.ror_proof.proofs.Loops.{part_step, no_parts}
-use Rattle.ror_proof.proofs.TableIds.{alternative_named-id_of, alternative_named-sound, id_of_is_id}
-use Rattle.ror_proof.proofs.WordLemmas.{done, ok_is, Spans, spans_then, line_spans, length-line_text, line_again, after_word_again, after_word_sound, no_more_sound, number_again, number_sound, numbers_again, numbers_sound, before_bar_again, before_bar_sound}
+use Rattle.ror_table.proofs.NameLemmas.{alternative_named-id_of, alternative_named-sound, id_of_is_id}
+use Rattle.ror_text.proofs.CursorLemmas.{Spans, spans_then, line_spans, length-line_text, line_again}
+use Rattle.ror_proof.proofs.WordLemmas.{done, ok_is, after_word_again, after_word_sound, no_more_sound, number_again, number_sound, numbers_again, numbers_sound, before_bar_again, before_bar_sound}
 
 -- ---- the words of a text are words
 
@@ -255,12 +260,12 @@ answer_reads_back t x place rest table printable none =
 base_sound : (c : Cursor) (x : Certificate × Cursor) → base_line c ≡ Ok x → Spans c (base_text x.0) x.1 × IsNarrowCertificate x.0
 unfolding base_line
 base_sound c x e =
-    let a = bind_ok (after_word c.place (codes "base") (line_words c)) (λ words. certificate_at c.place words >>= λ certificate. need (BadLine c.place) (next_line c) >>= λ next. Ok (certificate, next)) x e in
-    let b = bind_ok (certificate_at c.place a.0) (λ certificate. need (BadLine c.place) (next_line c) >>= λ next. Ok (certificate, next)) x a.2 in
-    let d = bind_ok (need (BadLine c.place) (next_line c)) (λ next. Ok (b.0, next)) x b.2 in
+    let a = bind_ok (after_word c.place (codes "base") (line_words c)) (λ words. certificate_at c.place words >>= λ certificate. need (BadLine c.place) (line_after c) >>= λ next. Ok (certificate, next)) x e in
+    let b = bind_ok (certificate_at c.place a.0) (λ certificate. need (BadLine c.place) (line_after c) >>= λ next. Ok (certificate, next)) x a.2 in
+    let d = bind_ok (need (BadLine c.place) (line_after c)) (λ next. Ok (b.0, next)) x b.2 in
     let certificate = certificate_sound c.place a.0 b.0 b.1 in
     let words : line_words c ≡ codes "base" ∷ certificate_words b.0 = after_word_sound c.place (codes "base") (line_words c) a.0 a.1 ∙ ap (λ (ws : List (List ℕ)). codes "base" ∷ ws) certificate.0 in
-    subst (λ (y : Certificate × Cursor). Spans c (base_text y.0) y.1 × IsNarrowCertificate y.0) (ok_is (b.0, d.0) x d.2) (line_spans c d.0 (codes "base" ∷ certificate_words b.0) words (need_ok (BadLine c.place) (next_line c) d.0 d.1), certificate.1)
+    subst (λ (y : Certificate × Cursor). Spans c (base_text y.0) y.1 × IsNarrowCertificate y.0) (ok_is (b.0, d.0) x d.2) (line_spans c d.0 (codes "base" ∷ certificate_words b.0) words (need_ok (BadLine c.place) (line_after c) d.0 d.1), certificate.1)
 
 system_sound : (place : ℕ) (words : List (List ℕ)) (x : ℕ × List (List ℕ)) → system_at place words ≡ Ok x → (words ≡ decimal x.0 ∷ x.1) × (x.0 < 2 ^ 32)
 unfolding system_at
@@ -273,16 +278,16 @@ system_sound place (word ∷ words) x e =
 part_sound : (c : Cursor) (x : Part × Cursor) → part_line c ≡ Ok x → Spans c (part_text x.0) x.1 × IsPrintablePart x.0
 unfolding part_line
 part_sound c x e =
-    let a = bind_ok (after_word c.place (codes "part") (line_words c)) (λ words. system_at c.place words >>= λ at. certificate_at c.place at.1 >>= λ certificate. need (BadLine c.place) (next_line c) >>= λ next. Ok (record { at = at.0; body = certificate }, next)) x e in
-    let s = bind_ok (system_at c.place a.0) (λ at. certificate_at c.place at.1 >>= λ certificate. need (BadLine c.place) (next_line c) >>= λ next. Ok (record { at = at.0; body = certificate }, next)) x a.2 in
-    let b = bind_ok (certificate_at c.place s.0.1) (λ certificate. need (BadLine c.place) (next_line c) >>= λ next. Ok (record { at = s.0.0; body = certificate }, next)) x s.2 in
-    let d = bind_ok (need (BadLine c.place) (next_line c)) (λ next. Ok (record { at = s.0.0; body = b.0 }, next)) x b.2 in
+    let a = bind_ok (after_word c.place (codes "part") (line_words c)) (λ words. system_at c.place words >>= λ at. certificate_at c.place at.1 >>= λ certificate. need (BadLine c.place) (line_after c) >>= λ next. Ok (record { at = at.0; body = certificate }, next)) x e in
+    let s = bind_ok (system_at c.place a.0) (λ at. certificate_at c.place at.1 >>= λ certificate. need (BadLine c.place) (line_after c) >>= λ next. Ok (record { at = at.0; body = certificate }, next)) x a.2 in
+    let b = bind_ok (certificate_at c.place s.0.1) (λ certificate. need (BadLine c.place) (line_after c) >>= λ next. Ok (record { at = s.0.0; body = certificate }, next)) x s.2 in
+    let d = bind_ok (need (BadLine c.place) (line_after c)) (λ next. Ok (record { at = s.0.0; body = b.0 }, next)) x b.2 in
     let system = system_sound c.place a.0 s.0 s.1 in
     let certificate = certificate_sound c.place s.0.1 b.0 b.1 in
     let made : Part = record { at = s.0.0; body = b.0 } in
     let words : line_words c ≡ codes "part" ∷ decimal made.at ∷ certificate_words made.body =
     after_word_sound c.place (codes "part") (line_words c) a.0 a.1 ∙ ap (λ (ws : List (List ℕ)). codes "part" ∷ ws) (system.0 ∙ ap (λ (ws : List (List ℕ)). decimal s.0.0 ∷ ws) certificate.0) in
-    subst (λ (y : Part × Cursor). Spans c (part_text y.0) y.1 × IsPrintablePart y.0) (ok_is (made, d.0) x d.2) (line_spans c d.0 (codes "part" ∷ decimal made.at ∷ certificate_words made.body) words (need_ok (BadLine c.place) (next_line c) d.0 d.1), record { number = system.1; narrow = certificate.1 })
+    subst (λ (y : Part × Cursor). Spans c (part_text y.0) y.1 × IsPrintablePart y.0) (ok_is (made, d.0) x d.2) (line_spans c d.0 (codes "part" ∷ decimal made.at ∷ certificate_words made.body) words (need_ok (BadLine c.place) (line_after c) d.0 d.1), record { number = system.1; narrow = certificate.1 })
 
 -- what was read as parts
 record AreReadParts (c : Cursor) (ps : List Part) (after : Cursor) : Type 0 where
@@ -320,18 +325,18 @@ head_sound : (t : DecisionTable) (c : Cursor) (x : (Question × ProvedVerdict) �
     → Spans c (line_text (head_words t x.0.0 (verdict_of x.0.1 proof))) x.1 × IsValidQuestion (length t.alternatives) x.0.0
 unfolding answer_line
 head_sound t c x proof e =
-    let ended = λ (q : Question) (v : ProvedVerdict) (words : List (List ℕ)). no_more c.place words >>= λ _. need (BadLine c.place) (next_line c) >>= λ next. Ok ((q, v), next) in
+    let ended = λ (q : Question) (v : ProvedVerdict) (words : List (List ℕ)). no_more c.place words >>= λ _. need (BadLine c.place) (line_after c) >>= λ next. Ok ((q, v), next) in
     let a = bind_ok (after_word c.place (codes "answer") (line_words c)) (λ words. question_at t c.place words >>= λ question. verdict_at c.place question.1 >>= λ verdict. ended question.0 verdict.0 verdict.1) x e in
     let q = bind_ok (question_at t c.place a.0) (λ question. verdict_at c.place question.1 >>= λ verdict. ended question.0 verdict.0 verdict.1) x a.2 in
     let v = bind_ok (verdict_at c.place q.0.1) (λ verdict. ended q.0.0 verdict.0 verdict.1) x q.2 in
-    let m = bind_ok (no_more c.place v.0.1) (λ _. need (BadLine c.place) (next_line c) >>= λ next. Ok ((q.0.0, v.0.0), next)) x v.2 in
-    let d = bind_ok (need (BadLine c.place) (next_line c)) (λ next. Ok ((q.0.0, v.0.0), next)) x m.2 in
+    let m = bind_ok (no_more c.place v.0.1) (λ _. need (BadLine c.place) (line_after c) >>= λ next. Ok ((q.0.0, v.0.0), next)) x v.2 in
+    let d = bind_ok (need (BadLine c.place) (line_after c)) (λ next. Ok ((q.0.0, v.0.0), next)) x m.2 in
     let question = question_sound t c.place a.0 q.0 q.1 in
     let verdict = verdict_sound c.place q.0.1 v.0 proof v.1 in
     let last = no_more_sound c.place v.0.1 m.0 m.1 in
     let words : line_words c ≡ head_words t q.0.0 (verdict_of v.0.0 proof) =
     after_word_sound c.place (codes "answer") (line_words c) a.0 a.1 ∙ ap (λ (ws : List (List ℕ)). codes "answer" ∷ ws) (question.0 ∙ ap (λ (ws : List (List ℕ)). question_words t q.0.0 ++ ws) (verdict ∙ ap (λ (ws : List (List ℕ)). verdict_word (verdict_of v.0.0 proof) ∷ ws) last)) in
-    subst (λ (y : (Question × ProvedVerdict) × Cursor). Spans c (line_text (head_words t y.0.0 (verdict_of y.0.1 proof))) y.1 × IsValidQuestion (length t.alternatives) y.0.0) (ok_is ((q.0.0, v.0.0), d.0) x d.2) (line_spans c d.0 (head_words t q.0.0 (verdict_of v.0.0 proof)) words (need_ok (BadLine c.place) (next_line c) d.0 d.1), question.1)
+    subst (λ (y : (Question × ProvedVerdict) × Cursor). Spans c (line_text (head_words t y.0.0 (verdict_of y.0.1 proof))) y.1 × IsValidQuestion (length t.alternatives) y.0.0) (ok_is ((q.0.0, v.0.0), d.0) x d.2) (line_spans c d.0 (head_words t q.0.0 (verdict_of v.0.0 proof)) words (need_ok (BadLine c.place) (line_after c) d.0 d.1), question.1)
 
 proof_of-verdict_of : (k : ProvedVerdict) (proof : Proof) → proof_of (verdict_of k proof) ≡ proof
 proof_of-verdict_of proved.Yes proof = refl

@@ -1,7 +1,7 @@
-pub mod Cuts
 pub mod Loops
-pub mod TableIds
 pub mod WordLemmas
 pub mod AnswerLemmas
+pub mod WordFaults
+pub mod LineFaults
 pub mod Utf8Lemmas
 pub mod Places

@@ -9,7 +9,7 @@ use Rattle.ror_text.proofs.ReadingLemmas.{gives_exit}
 use Rattle.ror_proof.specs.declared.answer.Part.{Part}
 use Rattle.ror_proof.specs.declared.read.ProofFault.{ProofFault}
 use Rattle.ror_proof.specs.declared.read.ProofFault.TheVariants.{BadLine}
-use Rattle.ror_proof.specs.Cursor.{Cursor}
+use Rattle.ror_text.specs.Cursor.{Cursor}
 use Rattle.ror_proof.specs.Words.{number_in, numbers_at, numbers_before_bar}
 use Rattle.ror_proof.specs.Reading.{proof_fault, begins_part, part_line, part_lines}
 

@@ -22,8 +22,10 @@ use Rattle.ror_proof.specs.declared.answer.Certificate.TheVariants as certificat
 use Rattle.ror_proof.specs.declared.answer.Part.{Part}
 use Rattle.ror_proof.specs.declared.answer.Verdict.{Verdict}
 use Rattle.ror_proof.specs.declared.answer.Verdict.TheVariants as verdicts
-use Rattle.ror_proof.specs.Text.{line_text, certificate_words, id_of, question_words, verdict_word, proof_of, base_text, part_text, answer_text, IsNarrowCertificate, IsPrintablePart, IsPrintable}
-use Rattle.ror_proof.proofs.TableIds.{id_of_is_id}
+use Rattle.ror_text.specs.SpacedLines.{line_text}
+use Rattle.ror_table.specs.Table.{id_of}
+use Rattle.ror_proof.specs.Text.{certificate_words, question_words, verdict_word, proof_of, base_text, part_text, answer_text, IsNarrowCertificate, IsPrintablePart, IsPrintable}
+use Rattle.ror_table.proofs.NameLemmas.{id_of_is_id}
 
 are_below : (bs : List ℕ) → list_all (λ b. ltb b 128) bs ≡ true → AllByRecursion (λ b. b < 128) bs
 are_below [] h = tt

@@ -1,95 +1,28 @@
 -- The words of a line, both ways: what was written is read again, and what is read was so written.
-use Rattle.std.proofs.Common.{◌≡◌, ℕ, ◌+◌, ◌<◌, Bool, true, false, eqb, cond, List, [], ◌∷◌, ◌++◌, length, map, Option, Some, None, Result, Ok, Err, refl, sym, ap, subst, ◌∙◌, append_assoc, arith, inl, inr, length-append, ℤ}
+use Rattle.std.proofs.Common.{◌≡◌, ℕ, ◌<◌, Bool, true, false, eqb, cond, List, [], ◌∷◌, ◌++◌, length, map, Option, Some, Result, Ok, Err, refl, sym, ap, subst, ◌∙◌, arith, inl, inr, ℤ}
 use Rattle.std.specs.Prelude.{codes}
 use Rattle.std.specs.Fmt.{signed_decimal}
 use Rattle.std.specs.List.{AllByRecursion}
-use Rattle.std.specs.Option.{option_map}
 use Rattle.std.specs.Str.{bytes_eq}
 use Rattle.std.proofs.lemmas.Bool.{cases_Bool, ne_eqb, cond-true, cond-false}
 use Rattle.std.proofs.lemmas.Slice.Eq.{bytes_eq-Decides}
 use Rattle.ror_text.specs.Numbers.{number_of}
 use Rattle.ror_text.specs.Reading.{◌>>=◌, refuse, need}
-use Rattle.ror_text.specs.SpacedLines.{split_line, join_words, are_words}
 use Rattle.ror_text.proofs.NumberLemmas.{number_of-signed_decimal, number_of-sound, signed_decimal_some, signed_decimal-ne_bar}
 use Rattle.ror_text.proofs.ReadingLemmas.{bind_ok, need_ok}
-use Rattle.ror_text.proofs.SpacedLemmas.{spaced_words-join_words, join_words-spaced_words, split_line-join_words, split_line-sound}
 use Rattle.ror_system.specs.System.{IsNarrow}
 use Rattle.ror_proof.specs.declared.read.ProofFault.{ProofFault}
 use Rattle.ror_proof.specs.declared.read.ProofFault.TheVariants.{BadLine, BadNumber}
-use Rattle.ror_proof.specs.Cursor.{Cursor}
-use Rattle.ror_proof.specs.Text.{line_text}
-use Rattle.ror_proof.specs.Words.{line_words, next_line, after_word, no_more, number_in, numbers_at, numbers_before_bar}
-use Rattle.ror_proof.proofs.Cuts.{cut_line}
-use Rattle.ror_proof.proofs.TableIds.{bytes_apart, bytes_same}
+use Rattle.ror_proof.specs.Words.{after_word, no_more, number_in, numbers_at, numbers_before_bar}
+use Rattle.ror_text.proofs.ListLemmas.{bytes_apart, bytes_same}
 
--- ---- lines
-
-pub length-line_text : (ws : List (List ℕ)) → length (line_text ws) ≡ length (join_words ws) + 1
-unfolding line_text
-length-line_text ws = length-append (join_words ws) (10 ∷ [])
-
--- a line that was written is cut into its words, and the next line begins where it ends
-pub line_again : (place : ℕ) (word : List ℕ) (ws : List (List ℕ)) (rest : List ℕ) → are_words (word ∷ ws) ≡ true
-    → (line_words (record { place = place; rest = line_text (word ∷ ws) ++ rest }) ≡ word ∷ ws)
-    × (next_line (record { place = place; rest = line_text (word ∷ ws) ++ rest }) ≡ Some (record { place = place + length (line_text (word ∷ ws)); rest = rest }))
-unfolding line_text
-line_again place word ws rest h =
-    let line = join_words (word ∷ ws) in
-    let regrouped : line_text (word ∷ ws) ++ rest ≡ line ++ 10 ∷ rest = append_assoc line (10 ∷ []) rest in
-    let cut = cut_line (record { place = place; rest = line_text (word ∷ ws) ++ rest }) line rest (ap split_line regrouped ∙ split_line-join_words (word ∷ ws) rest h) in
-    let to : place + length line + 1 ≡ place + length (line_text (word ∷ ws)) = omega (arith, length-line_text (word ∷ ws)) in
-    (cut.0 ∙ spaced_words-join_words word ws h, cut.1 ∙ ap (λ n. Some (record { place = n; rest = rest })) to)
+-- ---- results
 
 abbrev pub done : {A : Type 0} → A → Result A ProofFault
 done x = Ok x
 
 pub ok_is : {A : Type 0} (x y : A) → done x ≡ done y → x ≡ y
 ok_is x y e = cc
-
-some_is : {A : Type 0} (x y : A) → Some x ≡ Some y → x ≡ y
-some_is x y e = cc
-
-next_sound : (c after : Cursor) → next_line c ≡ Some after → (line : List ℕ) × (split_line c.rest ≡ Some (line, after.rest)) × (after.place ≡ c.place + length line + 1)
-unfolding next_line
-next_sound c after e = found c (split_line c.rest) after refl e
-  where
-    found : (c : Cursor) (o : Option (List ℕ × List ℕ)) (after : Cursor) → split_line c.rest ≡ o → option_map (λ parts. record { place = c.place + length parts.0 + 1; rest = parts.1 }) o ≡ Some after
-        → (line : List ℕ) × (split_line c.rest ≡ Some (line, after.rest)) × (after.place ≡ c.place + length line + 1)
-    found c None after is e = absurd cc
-    found c (Some (line, tail)) after is e = (line, is ∙ ap (λ (p : Cursor). Some (line, p.rest)) (some_is _ after e), ap (λ (p : Cursor). p.place) (sym (some_is _ after e)))
-
--- a line that a line feed ends is the text of its words
-pub line_sound : (c after : Cursor) → next_line c ≡ Some after → (c.rest ≡ line_text (line_words c) ++ after.rest) × (after.place ≡ c.place + length (line_text (line_words c)))
-unfolding line_text
-line_sound c after e =
-    let cut = next_sound c after e in
-    let line = cut.0 in
-    let sound = split_line-sound c.rest line after.rest cut.1 in
-    let ws = (cut_line c line after.rest cut.1).0 in
-    let joined : join_words (line_words c) ≡ line = ap join_words ws ∙ join_words-spaced_words line in
-    let bytes : c.rest ≡ line_text (line_words c) ++ after.rest = sound.0 ∙ sym (append_assoc line (10 ∷ []) after.rest) ∙ ap (λ l. (l ++ 10 ∷ []) ++ after.rest) (sym joined) in
-    let to : c.place + length line + 1 ≡ c.place + length (line_text (line_words c)) = omega (arith, length-line_text (line_words c), ap length joined) in
-    (bytes, cut.2 ∙ to)
-
--- the text stands between the two cursors
-pub record Spans (c : Cursor) (text : List ℕ) (after : Cursor) : Type 0 where
-  pub rest : c.rest ≡ text ++ after.rest
-  pub place : after.place ≡ c.place + length text
-
-pub spans_then : (a b c : Cursor) (x y : List ℕ) → Spans a x b → Spans b y c → Spans a (x ++ y) c
-spans_then a b c x y p q = record {
-  rest = p.rest ∙ ap (λ (r : List ℕ). x ++ r) q.rest ∙ sym (append_assoc x y c.rest);
-  place = omega (arith, p.place, q.place, length-append x y);
-}
-
--- a line that a line feed ends, and whose words are known
-pub line_spans : (c after : Cursor) (words : List (List ℕ)) → line_words c ≡ words → next_line c ≡ Some after → Spans c (line_text words) after
-line_spans c after words is e =
-    let sound = line_sound c after e in
-    record {
-      rest = sound.0 ∙ ap (λ (ws : List (List ℕ)). line_text ws ++ after.rest) is;
-      place = sound.1 ∙ ap (λ (ws : List (List ℕ)). c.place + length (line_text ws)) is;
-    }
 
 -- ---- single words
 

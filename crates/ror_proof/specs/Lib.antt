@@ -1,5 +1,5 @@
-pub mod Cursor
 pub mod Text
 pub mod Words
 pub mod Reading
+pub mod Expected
 pub mod Laws

@@ -1,12 +1,12 @@
 -- Reading an answer: the answer and where it ends, or the first fault.
-use Rattle.std.specs.Prelude.{ℕ, ◌≤◌, Bool, zero, suc, List, [], ◌∷◌, length, Option, Some, None, Result, Ok, Err, codes, nat_eq, position, if◌then◌else◌}
+use Rattle.std.specs.Prelude.{ℕ, ◌≤◌, Bool, zero, suc, List, [], ◌∷◌, length, Option, Some, None, Result, Ok, Err, codes, nat_eq, if◌then◌else◌}
 use Rattle.std.specs.List.{starts_with}
 use Rattle.std.specs.Str.{bytes_eq}
 use Rattle.ror_text.specs.Numbers.{small_number_of}
 use Rattle.ror_text.specs.Reading.{◌>>=◌, need}
 use Rattle.ror_statement.specs.declared.statement.Question.{Question}
 use Rattle.ror_statement.specs.declared.statement.Question.TheVariants.{Necessary}
-use Rattle.ror_table.specs.Table.{DecisionTable, alternative_ids}
+use Rattle.ror_table.specs.Table.{DecisionTable, alternative_named}
 use Rattle.ror_proof.specs.declared.answer.Answer.{Answer}
 use Rattle.ror_proof.specs.declared.answer.Certificate.{Certificate}
 use Rattle.ror_proof.specs.declared.answer.Certificate.TheVariants as certificates
@@ -18,20 +18,20 @@ use Rattle.ror_proof.specs.declared.read.ProofFault.{ProofFault}
 use Rattle.ror_proof.specs.declared.read.ProofFault.TheVariants as faults
 use Rattle.ror_proof.specs.declared.read.ProvedVerdict.{ProvedVerdict}
 use Rattle.ror_proof.specs.declared.read.ProvedVerdict.TheVariants as proved
-use Rattle.ror_proof.specs.Cursor.{Cursor}
-use Rattle.ror_proof.specs.Words.{line_words, next_line, word_at, after_word, no_more, number_in, numbers_at, numbers_before_bar}
+use Rattle.ror_text.specs.Cursor.{Cursor}
+use Rattle.ror_text.specs.Cursor.{line_words, line_after}
+use Rattle.ror_proof.specs.Words.{first_word, after_word, no_more, number_in, numbers_at, numbers_before_bar}
 
 -- the fault that an error names: none for want of memory
 abbrev pub proof_fault : ProofFault → Option ProofFault
-proof_fault (faults.BadLine at) = Some (faults.BadLine at)
-proof_fault (faults.BadNumber at) = Some (faults.BadNumber at)
 proof_fault faults.Memory = None
+proof_fault fault = Some fault
 
 -- the line of which an error speaks begins at a place or before it
-abbrev pub IsPlaced : ℕ → ProofFault → Type 0
-IsPlaced n (faults.BadLine at) = at ≤ n
-IsPlaced n (faults.BadNumber at) = at ≤ n
-IsPlaced n faults.Memory = Unit {0}
+abbrev pub IsProofFaultWithin : ℕ → ProofFault → Type 0
+IsProofFaultWithin n (faults.BadLine at) = at ≤ n
+IsProofFaultWithin n (faults.BadNumber at) = at ≤ n
+IsProofFaultWithin n faults.Memory = Unit {0}
 
 -- ---- the words of a line; the number is the place of the line's first byte
 
@@ -51,38 +51,38 @@ multipliers_at place words = do
 -- a certificate, up to the end of its line
 unfoldable pub certificate_at : ℕ → List (List ℕ) → Result Certificate ProofFault
 certificate_at place words = do
-  form ← word_at place words
+  form ← first_word place words
   if bytes_eq form.0 (codes "solution") then solution_at place form.1
       else (if bytes_eq form.0 (codes "multipliers") then multipliers_at place form.1
       else Err (faults.BadLine place))
 
--- the place of the alternative that has this id, if there is one
-abbrev pub alternative_named : DecisionTable → List ℕ → Option ℕ
-alternative_named t id = position (λ other. bytes_eq other id) (alternative_ids t)
-
 -- the alternative whose id comes first
-unfoldable pub alternative_at : DecisionTable → ℕ → List (List ℕ) → Result (ℕ × List (List ℕ)) ProofFault
+unfoldable pub alternative_at : DecisionTable → ℕ → List (List ℕ)
+    → Result (ℕ × List (List ℕ)) ProofFault
 alternative_at t place words = do
-  id ← word_at place words
+  id ← first_word place words
   alternative ← need (faults.BadLine place) (alternative_named t id.0)
   Ok (alternative, id.1)
 
 -- `necessary` is before these words
-unfoldable pub necessary_at : DecisionTable → ℕ → List (List ℕ) → Result (Question × List (List ℕ)) ProofFault
+unfoldable pub necessary_at : DecisionTable → ℕ → List (List ℕ)
+    → Result (Question × List (List ℕ)) ProofFault
 necessary_at t place words = do
   first ← alternative_at t place words
   second ← alternative_at t place first.1
   Ok (Necessary first.0 second.0, second.1)
 
-unfoldable pub question_at : DecisionTable → ℕ → List (List ℕ) → Result (Question × List (List ℕ)) ProofFault
+unfoldable pub question_at : DecisionTable → ℕ → List (List ℕ)
+    → Result (Question × List (List ℕ)) ProofFault
 question_at t place words = do
-  form ← word_at place words
-  if bytes_eq form.0 (codes "necessary") then necessary_at t place form.1 else Err (faults.BadLine place)
+  form ← first_word place words
+  if bytes_eq form.0 (codes "necessary") then necessary_at t place form.1
+      else Err (faults.BadLine place)
 
 -- which verdict the first word announces
 unfoldable pub verdict_at : ℕ → List (List ℕ) → Result (ProvedVerdict × List (List ℕ)) ProofFault
 verdict_at place words = do
-  name ← word_at place words
+  name ← first_word place words
   if bytes_eq name.0 (codes "yes") then Ok (proved.Yes, name.1)
       else (if bytes_eq name.0 (codes "no") then Ok (proved.No, name.1)
       else (if bytes_eq name.0 (codes "contradiction") then Ok (proved.Contradiction, name.1)
@@ -97,26 +97,27 @@ verdict_of proved.Contradiction proof = verdicts.Contradiction proof
 -- the number of a system, which comes first
 unfoldable pub system_at : ℕ → List (List ℕ) → Result (ℕ × List (List ℕ)) ProofFault
 system_at place words = do
-  word ← word_at place words
+  word ← first_word place words
   number ← number_in small_number_of place word.0
   Ok (number, word.1)
 
 -- ---- line by line
 
-unfoldable pub answer_line : DecisionTable → Cursor → Result ((Question × ProvedVerdict) × Cursor) ProofFault
+unfoldable pub answer_line : DecisionTable → Cursor
+    → Result ((Question × ProvedVerdict) × Cursor) ProofFault
 answer_line t c = do
   words ← after_word c.place (codes "answer") (line_words c)
   question ← question_at t c.place words
   verdict ← verdict_at c.place question.1
   _ ← no_more c.place verdict.1
-  next ← need (faults.BadLine c.place) (next_line c)
+  next ← need (faults.BadLine c.place) (line_after c)
   Ok ((question.0, verdict.0), next)
 
 unfoldable pub base_line : Cursor → Result (Certificate × Cursor) ProofFault
 base_line c = do
   words ← after_word c.place (codes "base") (line_words c)
   certificate ← certificate_at c.place words
-  next ← need (faults.BadLine c.place) (next_line c)
+  next ← need (faults.BadLine c.place) (line_after c)
   Ok (certificate, next)
 
 unfoldable pub part_line : Cursor → Result (Part × Cursor) ProofFault
@@ -124,7 +125,7 @@ part_line c = do
   words ← after_word c.place (codes "part") (line_words c)
   at ← system_at c.place words
   certificate ← certificate_at c.place at.1
-  next ← need (faults.BadLine c.place) (next_line c)
+  next ← need (faults.BadLine c.place) (line_after c)
   Ok (record { at = at.0; body = certificate }, next)
 
 abbrev pub begins_part : List ℕ → Bool
@@ -144,4 +145,11 @@ answer_at t c = do
   head ← answer_line t c
   base ← base_line head.1
   parts ← part_lines (length base.1.rest) base.1
-  Ok (record { question = head.0.0; verdict = verdict_of head.0.1 (record { base = base.0; parts = parts.0 }) }, parts.1)
+  Ok (
+    record {
+      question = head.0.0;
+      verdict =
+          verdict_of head.0.1 (record { base = base.0; parts = parts.0 });
+    },
+    parts.1,
+  )

@@ -1,13 +1,13 @@
 -- The one text of an answer: words joined by single spaces, line by line.
-use Rattle.std.specs.Prelude.{ℕ, ◌<◌, ◌^◌, List, [], ◌∷◌, ◌++◌, length, map, ℤ, codes, decimal, slice_index_or}
+use Rattle.std.specs.Prelude.{ℕ, ◌<◌, ◌^◌, List, [], ◌∷◌, ◌++◌, length, map, ℤ, codes, decimal}
 use Rattle.std.specs.Fmt.{signed_decimal}
 use Rattle.std.specs.List.{flat_map, AllByRecursion}
-use Rattle.ror_text.specs.SpacedLines.{join_words}
+use Rattle.ror_text.specs.SpacedLines.{line_text}
 use Rattle.ror_statement.specs.declared.statement.Question.{Question}
 use Rattle.ror_statement.specs.declared.statement.Question.TheVariants.{Necessary}
 use Rattle.ror_statement.specs.Statement.{IsValidQuestion}
 use Rattle.ror_system.specs.System.{IsNarrow}
-use Rattle.ror_table.specs.Table.{DecisionTable, alternative_ids}
+use Rattle.ror_table.specs.Table.{DecisionTable, id_of}
 use Rattle.ror_proof.specs.declared.answer.Certificate.{Certificate}
 use Rattle.ror_proof.specs.declared.answer.Certificate.TheVariants as certificates
 use Rattle.ror_proof.specs.declared.answer.Part.{Part}
@@ -16,23 +16,16 @@ use Rattle.ror_proof.specs.declared.answer.Verdict.{Verdict}
 use Rattle.ror_proof.specs.declared.answer.Verdict.TheVariants.{Yes, No, Contradiction}
 use Rattle.ror_proof.specs.declared.answer.Answer.{Answer}
 
--- a line: its words with single spaces between them, and a line feed
-unfoldable pub line_text : List (List ℕ) → List ℕ
-line_text ws = join_words ws ++ 10 ∷ []
-
 abbrev pub solution_words : List ℤ → List (List ℕ)
 solution_words steps = codes "solution" ∷ map signed_decimal steps
 
 abbrev pub multipliers_words : List ℤ → List ℤ → List (List ℕ)
-multipliers_words weak strict = codes "multipliers" ∷ (map signed_decimal weak ++ codes "|" ∷ map signed_decimal strict)
+multipliers_words weak strict =
+    codes "multipliers" ∷ (map signed_decimal weak ++ codes "|" ∷ map signed_decimal strict)
 
 abbrev pub certificate_words : Certificate → List (List ℕ)
 certificate_words (certificates.Solution x) = solution_words x.steps
 certificate_words (certificates.Multipliers m) = multipliers_words m.weak m.strict
-
--- an alternative's id
-abbrev pub id_of : DecisionTable → ℕ → List ℕ
-id_of t a = slice_index_or (alternative_ids t) a []
 
 abbrev pub question_words : DecisionTable → Question → List (List ℕ)
 question_words t (Necessary a b) = codes "necessary" ∷ id_of t a ∷ id_of t b ∷ []
@@ -55,13 +48,15 @@ part_text p = line_text (codes "part" ∷ decimal p.at ∷ certificate_words p.b
 
 -- the line of the question and the verdict, the line of the base, and a line for each part
 unfoldable pub answer_text : DecisionTable → Answer → List ℕ
-answer_text t x = line_text (codes "answer" ∷ (question_words t x.question ++ verdict_word x.verdict ∷ []))
+answer_text t x =
+    line_text (codes "answer" ∷ (question_words t x.question ++ verdict_word x.verdict ∷ []))
     ++ (base_text (proof_of x.verdict).base ++ flat_map part_text (proof_of x.verdict).parts)
 
 -- the numbers of a certificate are of absolute value at most 2^127 - 1
 abbrev pub IsNarrowCertificate : Certificate → Type 0
 IsNarrowCertificate (certificates.Solution x) = AllByRecursion IsNarrow x.steps
-IsNarrowCertificate (certificates.Multipliers m) = AllByRecursion IsNarrow m.weak × AllByRecursion IsNarrow m.strict
+IsNarrowCertificate (certificates.Multipliers m) =
+    AllByRecursion IsNarrow m.weak × AllByRecursion IsNarrow m.strict
 
 pub record IsPrintablePart (p : Part) : Type 0 where
   pub number : p.at < 2 ^ 32

@@ -1,3 +1,5 @@
+//! Answers with their proofs.
+
 use ror_statement::Question;
 use ror_system::{Multipliers, Solution};
 use ror_text::Items;
@@ -16,7 +18,8 @@ pub struct Part {
     pub body: Certificate,
 }
 
-/// The certificate of the base system, the one of the statements alone, and those of the question's systems.
+/// The certificate of the base system, the one of the statements alone, and those of the question's
+/// systems.
 #[derive(Debug, Drop)]
 pub struct Proof {
     pub base: Certificate,

@@ -1,9 +1,9 @@
 //! Laws of the definitions, each the clause of a function that does nothing.
 
-ghost use Rattle.ror_proof.specs.Laws.{AnswersAreTheirTexts, AnswersHaveOneText, TextsAreUtf8, TextsBeginWithAnswer};
+ghost use Rattle.ror_proof.specs.Laws.{AnswersAreTheirTexts, AnswersHaveOneText, TextsAreUtf8, TextsBeginWithAnswer, AnswersFailFirst};
 
-/// An answer is read exactly where its text stands and no further part follows: what was written is read again,
-/// and what is read was so written.
+/// An answer is read exactly where its text stands and no further part follows: what was written is
+/// read again, and what is read was so written.
 pub fn answers_read_back()
     ensures { AnswersAreTheirTexts }
 {}
@@ -17,4 +17,10 @@ pub fn one_spelling()
 pub fn texts()
     ensures begin { TextsBeginWithAnswer }
     ensures utf8 { TextsAreUtf8 }
+{}
+
+/// A text is refused as an answer exactly with the fault of the first faulty word of its first
+/// faulty line.
+pub fn the_first_fault_is_given()
+    ensures { AnswersFailFirst }
 {}

@@ -4,7 +4,6 @@
 mod answer;
 pub mod laws;
 mod read;
-mod words;
 
 pub use answer::{Answer, Certificate, Part, Proof, Verdict};
 pub use read::{ProofFault, read_answer};

@@ -1,15 +1,15 @@
-ghost use Rattle.std.specs.Prelude.{◌≤◌, ◌<◌, ◌≡◌, ◌-◌, length, IfErr, IfOk, IfSome};
-ghost use Rattle.std.specs.Option.{option_map};
+//! The reader of an answer's text.
+
+ghost use Rattle.std.specs.Prelude.{◌≤◌, ◌<◌, ◌≡◌, ◌-◌, length, IfErr, IfOk};
 ghost use Rattle.ror_text.specs.Numbers.{number_of, small_number_of};
 ghost use Rattle.ror_text.specs.Reading.{Gives};
-ghost use Rattle.ror_proof.specs.Cursor.{cursor_at};
+ghost use Rattle.ror_text.specs.Cursor.{cursor_at};
+ghost use Rattle.ror_table.specs.Table.{alternative_named};
 ghost use Rattle.ror_proof.specs.Words as spec;
-ghost use Rattle.ror_proof.specs.Words.{line_words, next_line};
 ghost use Rattle.ror_proof.specs.Reading as reading;
-ghost use Rattle.ror_proof.specs.Reading.{answer_at, proof_fault, IsPlaced};
+ghost use Rattle.ror_proof.specs.Reading.{answer_at, proof_fault, IsProofFaultWithin};
 
 use crate::answer::{Answer, Certificate, Part, Proof, Verdict};
-use crate::words::Words;
 use ror_statement::Question;
 use ror_system::{Multipliers, Solution};
 use ror_table::Table;
@@ -17,7 +17,7 @@ use ror_text::Items;
 use ror_text::ids::id_text;
 use ror_text::numbers::{read_number, read_small_number};
 use ror_text::reading::{need, refuse_if};
-use ror_text::spaced::split_line;
+use ror_text::spaced::{Words, line_at};
 use std::alloc::{AllocError, AllocFailed, Global};
 use thiserror::Error;
 
@@ -73,10 +73,11 @@ pub fn read_answer(
     from: usize,
 ) -> Result<(Answer, usize), ProofFault>
     requires { from ≤ length bytes.now }
-    ensures exact { Gives (λ x. (x.0, cursor_at bytes.now x.1)) proof_fault result (answer_at table.now (cursor_at bytes.now from)) }
+    ensures exact { Gives (λ x. (x.0, cursor_at bytes.now x.1)) proof_fault result
+        (answer_at table.now (cursor_at bytes.now from)) }
     ensures onward { IfOk result (λ x. from < x.1) }
     ensures within { IfOk result (λ x. x.1 ≤ length bytes.now) }
-    ensures placed { IfErr result (IsPlaced (length bytes.now)) }
+    ensures placed { IfErr result (IsProofFaultWithin (length bytes.now)) }
 {
     let (question, verdict, next) = answer_line(table, bytes, from)?;
     let (base, next) = base_line(alloc, bytes, next)?;
@@ -107,13 +108,14 @@ fn answer_line(
     from: usize,
 ) -> Result<(Question, ProvedVerdict, usize), ProofFault>
     requires { from ≤ length bytes.now }
-    ensures exact { Gives (λ x. ((x.0, x.1), cursor_at bytes.now x.2)) proof_fault result (reading.answer_line table.now (cursor_at bytes.now from)) }
+    ensures exact { Gives (λ x. ((x.0, x.1), cursor_at bytes.now x.2)) proof_fault result
+        (reading.answer_line table.now (cursor_at bytes.now from)) }
     ensures onward { IfOk result (λ x. from < x.2) }
     ensures within { IfOk result (λ x. x.2 ≤ length bytes.now) }
-    ensures placed { IfErr result (IsPlaced (length bytes.now)) }
+    ensures placed { IfErr result (IsProofFaultWithin (length bytes.now)) }
 {
-    let (words, next) = line_at(bytes, from);
-    let words = after_word(from, b"answer".as_slice(), words)?;
+    let (line, next) = line_at(bytes, from);
+    let words = after_word(from, b"answer".as_slice(), Words::of(line))?;
     let (question, words) = question_at(table, from, words)?;
     let (verdict, words) = verdict_at(from, words)?;
     no_more(from, words)?;
@@ -125,13 +127,14 @@ fn answer_line(
 #[tactic(auto, using(crate::proofs::Places::placed_on), unfolding(crate::specs::Reading::base_line))]
 fn base_line(alloc: Global, bytes: &[u8], from: usize) -> Result<(Certificate, usize), ProofFault>
     requires { from ≤ length bytes.now }
-    ensures exact { Gives (λ x. (x.0, cursor_at bytes.now x.1)) proof_fault result (reading.base_line (cursor_at bytes.now from)) }
+    ensures exact { Gives (λ x. (x.0, cursor_at bytes.now x.1)) proof_fault result
+        (reading.base_line (cursor_at bytes.now from)) }
     ensures onward { IfOk result (λ x. from < x.1) }
     ensures within { IfOk result (λ x. x.1 ≤ length bytes.now) }
-    ensures placed { IfErr result (IsPlaced (length bytes.now)) }
+    ensures placed { IfErr result (IsProofFaultWithin (length bytes.now)) }
 {
-    let (words, next) = line_at(bytes, from);
-    let words = after_word(from, b"base".as_slice(), words)?;
+    let (line, next) = line_at(bytes, from);
+    let words = after_word(from, b"base".as_slice(), Words::of(line))?;
     let certificate = certificate_at(alloc, from, words)?;
     let next = need(next, ProofFault::BadLine(from))?;
     Ok((certificate, next))
@@ -140,10 +143,11 @@ fn base_line(alloc: Global, bytes: &[u8], from: usize) -> Result<(Certificate, u
 /// A line for each part, as long as one begins.
 fn part_lines(alloc: Global, bytes: &[u8], from: usize) -> Result<(Vec<Part>, usize), ProofFault>
     requires { from ≤ length bytes.now }
-    ensures exact { Gives (λ x. (x.0.items, cursor_at bytes.now x.1)) proof_fault result (reading.part_lines (length bytes.now - from) (cursor_at bytes.now from)) }
+    ensures exact { Gives (λ x. (x.0.items, cursor_at bytes.now x.1)) proof_fault result
+        (reading.part_lines (length bytes.now - from) (cursor_at bytes.now from)) }
     ensures onward { IfOk result (λ x. from ≤ x.1) }
     ensures within { IfOk result (λ x. x.1 ≤ length bytes.now) }
-    ensures placed { IfErr result (IsPlaced (length bytes.now)) }
+    ensures placed { IfErr result (IsProofFaultWithin (length bytes.now)) }
 {
     let mut parts = Vec::new(alloc);
     let mut next = from;
@@ -159,39 +163,26 @@ fn part_lines(alloc: Global, bytes: &[u8], from: usize) -> Result<(Vec<Part>, us
 #[tactic(auto, using(crate::proofs::Places::placed_on), unfolding(crate::specs::Reading::part_line))]
 fn part_line(alloc: Global, bytes: &[u8], from: usize) -> Result<(Part, usize), ProofFault>
     requires { from ≤ length bytes.now }
-    ensures exact { Gives (λ x. (x.0, cursor_at bytes.now x.1)) proof_fault result (reading.part_line (cursor_at bytes.now from)) }
+    ensures exact { Gives (λ x. (x.0, cursor_at bytes.now x.1)) proof_fault result
+        (reading.part_line (cursor_at bytes.now from)) }
     ensures onward { IfOk result (λ x. from < x.1) }
     ensures within { IfOk result (λ x. x.1 ≤ length bytes.now) }
-    ensures placed { IfErr result (IsPlaced (length bytes.now)) }
+    ensures placed { IfErr result (IsProofFaultWithin (length bytes.now)) }
 {
-    let (words, next) = line_at(bytes, from);
-    let words = after_word(from, b"part".as_slice(), words)?;
+    let (line, next) = line_at(bytes, from);
+    let words = after_word(from, b"part".as_slice(), Words::of(line))?;
     let (at, words) = system_at(from, words)?;
     let body = certificate_at(alloc, from, words)?;
     let next = need(next, ProofFault::BadLine(from))?;
     Ok((Part { at, body }, next))
 }
 
-/// The words of the line at a place, and where the next line begins, if a line feed ends this one.
-fn line_at(bytes: &[u8], from: usize) -> (Words<'_>, Option<usize>)
-    requires { from ≤ length bytes.now }
-    ensures words { result.0 ≡ line_words (cursor_at bytes.now from) }
-    ensures next { option_map (cursor_at bytes.now) result.1 ≡ next_line (cursor_at bytes.now from) }
-    ensures onward { IfSome result.1 (λ next. from < next) }
-    ensures within { IfSome result.1 (λ next. next ≤ length bytes.now) }
-{
-    let rest = &bytes[from..];
-    match split_line(rest) {
-        Some((line, _)) => (Words::of(line), Some(from + line.len() + 1)),
-        None => (Words::of(rest), None),
-    }
-}
-
 /// The words after one that has to come first.
 #[tactic(auto, unfolding(crate::specs::Words::after_word))]
 fn after_word<'a>(place: usize, expected: &[u8], words: Words<'a>) -> Result<Words<'a>, ProofFault>
-    ensures exact { Gives (λ rest. rest) proof_fault result (spec.after_word place expected.now words.entry) }
-    ensures placed { IfErr result (IsPlaced place) }
+    ensures exact { Gives (λ rest. rest) proof_fault result
+        (spec.after_word place expected.now words.entry) }
+    ensures placed { IfErr result (IsProofFaultWithin place) }
 {
     match words.next() {
         Some((word, rest)) if word == expected => Ok(rest),
@@ -202,7 +193,7 @@ fn after_word<'a>(place: usize, expected: &[u8], words: Words<'a>) -> Result<Wor
 /// That no word is left.
 fn no_more(place: usize, words: Words<'_>) -> Result<(), ProofFault>
     ensures exact { Gives (λ _. tt) proof_fault result (spec.no_more place words.entry) }
-    ensures placed { IfErr result (IsPlaced place) }
+    ensures placed { IfErr result (IsProofFaultWithin place) }
 {
     match words.next() {
         Some(_) => Err(ProofFault::BadLine(place)),
@@ -217,8 +208,9 @@ fn question_at<'a>(
     place: usize,
     words: Words<'a>,
 ) -> Result<(Question, Words<'a>), ProofFault>
-    ensures exact { Gives (λ x. (x.0, x.1)) proof_fault result (reading.question_at table.now place words.entry) }
-    ensures placed { IfErr result (IsPlaced place) }
+    ensures exact { Gives (λ x. (x.0, x.1)) proof_fault result
+        (reading.question_at table.now place words.entry) }
+    ensures placed { IfErr result (IsProofFaultWithin place) }
 {
     match words.next() {
         Some((form, rest)) if form == b"necessary".as_slice() => necessary_at(table, place, rest),
@@ -233,8 +225,9 @@ fn necessary_at<'a>(
     place: usize,
     words: Words<'a>,
 ) -> Result<(Question, Words<'a>), ProofFault>
-    ensures exact { Gives (λ x. (x.0, x.1)) proof_fault result (reading.necessary_at table.now place words.entry) }
-    ensures placed { IfErr result (IsPlaced place) }
+    ensures exact { Gives (λ x. (x.0, x.1)) proof_fault result
+        (reading.necessary_at table.now place words.entry) }
+    ensures placed { IfErr result (IsProofFaultWithin place) }
 {
     let (first, words) = alternative_at(table, place, words)?;
     let (second, words) = alternative_at(table, place, words)?;
@@ -248,8 +241,9 @@ fn alternative_at<'a>(
     place: usize,
     words: Words<'a>,
 ) -> Result<(usize, Words<'a>), ProofFault>
-    ensures exact { Gives (λ x. (x.0, x.1)) proof_fault result (reading.alternative_at table.now place words.entry) }
-    ensures placed { IfErr result (IsPlaced place) }
+    ensures exact { Gives (λ x. (x.0, x.1)) proof_fault result
+        (reading.alternative_at table.now place words.entry) }
+    ensures placed { IfErr result (IsProofFaultWithin place) }
 {
     match words.next() {
         Some((id, rest)) => {
@@ -262,7 +256,7 @@ fn alternative_at<'a>(
 
 /// The place of an id, if the table has it.
 fn find_alternative(table: &Table, id: &[u8]) -> Option<usize>
-    ensures { result ≡ reading.alternative_named table.now id.now }
+    ensures { result ≡ alternative_named table.now id.now }
 {
     // A table has alternatives, and the id of each is an id.
     prove!(table.alternatives() > 0);
@@ -273,8 +267,9 @@ fn find_alternative(table: &Table, id: &[u8]) -> Option<usize>
 /// The verdict that comes first.
 #[tactic(auto, unfolding(crate::specs::Reading::verdict_at))]
 fn verdict_at<'a>(place: usize, words: Words<'a>) -> Result<(ProvedVerdict, Words<'a>), ProofFault>
-    ensures exact { Gives (λ x. (x.0, x.1)) proof_fault result (reading.verdict_at place words.entry) }
-    ensures placed { IfErr result (IsPlaced place) }
+    ensures exact { Gives (λ x. (x.0, x.1)) proof_fault result
+        (reading.verdict_at place words.entry) }
+    ensures placed { IfErr result (IsProofFaultWithin place) }
 {
     match words.next() {
         Some((b"yes", rest)) => Ok((ProvedVerdict::Yes, rest)),
@@ -290,8 +285,9 @@ fn verdict_at<'a>(place: usize, words: Words<'a>) -> Result<(ProvedVerdict, Word
 /// The number of a system, which comes first.
 #[tactic(auto, unfolding(crate::specs::Reading::system_at))]
 fn system_at<'a>(place: usize, words: Words<'a>) -> Result<(u32, Words<'a>), ProofFault>
-    ensures exact { Gives (λ x. (x.0, x.1)) proof_fault result (reading.system_at place words.entry) }
-    ensures placed { IfErr result (IsPlaced place) }
+    ensures exact { Gives (λ x. (x.0, x.1)) proof_fault result
+        (reading.system_at place words.entry) }
+    ensures placed { IfErr result (IsProofFaultWithin place) }
 {
     match words.next() {
         Some((word, rest)) => Ok((small_number_in(place, word)?, rest)),
@@ -303,7 +299,7 @@ fn system_at<'a>(place: usize, words: Words<'a>) -> Result<(u32, Words<'a>), Pro
 #[tactic(auto, unfolding(crate::specs::Reading::certificate_at))]
 fn certificate_at(alloc: Global, place: usize, words: Words<'_>) -> Result<Certificate, ProofFault>
     ensures exact { Gives (λ x. x) proof_fault result (reading.certificate_at place words.entry) }
-    ensures placed { IfErr result (IsPlaced place) }
+    ensures placed { IfErr result (IsProofFaultWithin place) }
 {
     match words.next() {
         Some((word, rest)) if word == b"solution".as_slice() => solution_at(alloc, place, rest),
@@ -318,7 +314,7 @@ fn certificate_at(alloc: Global, place: usize, words: Words<'_>) -> Result<Certi
 #[tactic(auto, unfolding(crate::specs::Reading::solution_at))]
 fn solution_at(alloc: Global, place: usize, words: Words<'_>) -> Result<Certificate, ProofFault>
     ensures exact { Gives (λ x. x) proof_fault result (reading.solution_at place words.entry) }
-    ensures placed { IfErr result (IsPlaced place) }
+    ensures placed { IfErr result (IsProofFaultWithin place) }
 {
     let steps = Items::from(numbers_at(alloc, place, words)?);
     Ok(Certificate::Solution(Solution { steps }))
@@ -328,7 +324,7 @@ fn solution_at(alloc: Global, place: usize, words: Words<'_>) -> Result<Certific
 #[tactic(auto, unfolding(crate::specs::Reading::multipliers_at))]
 fn multipliers_at(alloc: Global, place: usize, words: Words<'_>) -> Result<Certificate, ProofFault>
     ensures exact { Gives (λ x. x) proof_fault result (reading.multipliers_at place words.entry) }
-    ensures placed { IfErr result (IsPlaced place) }
+    ensures placed { IfErr result (IsProofFaultWithin place) }
 {
     let (weak, words) = numbers_before_bar(alloc, place, words)?;
     let weak = Items::from(weak);
@@ -338,8 +334,9 @@ fn multipliers_at(alloc: Global, place: usize, words: Words<'_>) -> Result<Certi
 
 /// The numbers up to the end of the line.
 fn numbers_at(alloc: Global, place: usize, words: Words<'_>) -> Result<Vec<i128>, ProofFault>
-    ensures exact { Gives (λ numbers. numbers.items) proof_fault result (spec.numbers_at place words.entry) }
-    ensures placed { IfErr result (IsPlaced place) }
+    ensures exact { Gives (λ numbers. numbers.items) proof_fault result
+        (spec.numbers_at place words.entry) }
+    ensures placed { IfErr result (IsProofFaultWithin place) }
 {
     let mut numbers = Vec::new(alloc);
     let mut left = words;
@@ -357,8 +354,9 @@ fn numbers_before_bar<'a>(
     place: usize,
     words: Words<'a>,
 ) -> Result<(Vec<i128>, Words<'a>), ProofFault>
-    ensures exact { Gives (λ x. (x.0.items, x.1)) proof_fault result (spec.numbers_before_bar place words.entry) }
-    ensures placed { IfErr result (IsPlaced place) }
+    ensures exact { Gives (λ x. (x.0.items, x.1)) proof_fault result
+        (spec.numbers_before_bar place words.entry) }
+    ensures placed { IfErr result (IsProofFaultWithin place) }
 {
     let mut numbers = Vec::new(alloc);
     let mut left = words;
@@ -375,8 +373,9 @@ fn numbers_before_bar<'a>(
 
 /// The number that a word says.
 fn number_in(place: usize, word: &[u8]) -> Result<i128, ProofFault>
-    ensures exact { Gives (λ number. number) proof_fault result (spec.number_in number_of place word.now) }
-    ensures placed { IfErr result (IsPlaced place) }
+    ensures exact { Gives (λ number. number) proof_fault result
+        (spec.number_in number_of place word.now) }
+    ensures placed { IfErr result (IsProofFaultWithin place) }
 {
     refuse_if(word.is_empty(), ProofFault::BadLine(place))?;
     need(read_number(word), ProofFault::BadNumber(place))
@@ -384,8 +383,9 @@ fn number_in(place: usize, word: &[u8]) -> Result<i128, ProofFault>
 
 /// The small number that a word says.
 fn small_number_in(place: usize, word: &[u8]) -> Result<u32, ProofFault>
-    ensures exact { Gives (λ number. number) proof_fault result (spec.number_in small_number_of place word.now) }
-    ensures placed { IfErr result (IsPlaced place) }
+    ensures exact { Gives (λ number. number) proof_fault result
+        (spec.number_in small_number_of place word.now) }
+    ensures placed { IfErr result (IsProofFaultWithin place) }
 {
     refuse_if(word.is_empty(), ProofFault::BadLine(place))?;
     need(read_small_number(word), ProofFault::BadNumber(place))

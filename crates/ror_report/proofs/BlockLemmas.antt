@@ -8,7 +8,7 @@ use Rattle.ror_text.proofs.ReadingLemmas.{bind_ok, refuse_ok}
 use Rattle.ror_table.specs.Table.{DecisionTable, IsTable}
 use Rattle.ror_proof.specs.declared.answer.Answer.{Answer}
 use Rattle.ror_proof.specs.declared.read.ProofFault.{ProofFault}
-use Rattle.ror_proof.specs.Cursor.{Cursor}
+use Rattle.ror_text.specs.Cursor.{Cursor}
 use Rattle.ror_proof.specs.Text.{answer_text, IsPrintable}
 use Rattle.ror_proof.specs.Reading.{begins_part, answer_at}
 use Rattle.ror_proof.proofs.AnswerLemmas.{answer_reads_back, answer_is_text, answer_begins}
@@ -20,7 +20,7 @@ use Rattle.ror_report.specs.Text.{body_text, block_text, IsPrintableBody, IsPrin
 use Rattle.ror_report.specs.Reading.{read_in_report, numbered_line, begins_added, ends_body, body_answers, added_at, answers_at, body_at, block_at}
 use Rattle.ror_report.specs.Laws.{IsBlockText}
 use Rattle.ror_report.proofs.Bodies.{answer_step, no_answers}
-use Rattle.ror_proof.proofs.WordLemmas.{Spans, spans_then}
+use Rattle.ror_text.proofs.CursorLemmas.{Spans, spans_then}
 use Rattle.ror_report.proofs.LineForms.{numbered_text, numbered_again, numbered_sound, passed, done, ok_is, begins_added_text, goes_on_at_answer, ends_no_added, ends_no_part}
 
 -- ---- what was written is read again
@@ -51,7 +51,7 @@ body_again t (suc most) place (x ∷ xs) rest table printable ends room =
     let to : place + length front + length others ≡ place + length (front ++ others) = omega (arith, length-append front others) in
     answer_step t most start more ∙ (rw (first, later) (ap (λ n. Ok (x ∷ xs, record { place = n; rest = rest })) to))
 
-answer_has_bytes : (t : DecisionTable) (x : Answer) → 0 < length (answer_text t x)
+pub answer_has_bytes : (t : DecisionTable) (x : Answer) → 0 < length (answer_text t x)
 answer_has_bytes t x = let begins = answer_begins t x in omega (arith, ap length begins.1)
 
 body_has_bytes : (t : DecisionTable) (xs : List Answer) → length xs ≤ length (flat_map (answer_text t) xs)
@@ -86,7 +86,7 @@ block_reads_back t b place rest table printable ends =
 
 -- ---- what is read was so written
 
-in_report_ok : {A : Type 0} (r : Result A ProofFault) (x : A) → read_in_report r ≡ Ok x → r ≡ Ok x
+pub in_report_ok : {A : Type 0} (r : Result A ProofFault) (x : A) → read_in_report r ≡ Ok x → r ≡ Ok x
 in_report_ok (Ok y) x e = cc
 in_report_ok (Err f) x e = absurd cc
 

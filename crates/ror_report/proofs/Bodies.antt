@@ -8,12 +8,12 @@ use Rattle.ror_table.specs.Table.{DecisionTable}
 use Rattle.ror_proof.specs.declared.answer.Answer.{Answer}
 use Rattle.ror_proof.specs.declared.read.ProofFault.{ProofFault}
 use Rattle.ror_proof.specs.declared.read.ProofFault.TheVariants as answers
-use Rattle.ror_proof.specs.Cursor.{Cursor}
+use Rattle.ror_text.specs.Cursor.{Cursor}
 use Rattle.ror_proof.specs.Reading as answer_reading
 use Rattle.ror_proof.specs.Reading.{proof_fault, answer_at}
 use Rattle.ror_proof.proofs.Loops.{with_front, with_more}
 use Rattle.ror_report.specs.declared.read.ReportFault.{ReportFault}
-use Rattle.ror_report.specs.Reading.{report_fault, IsPlaced, fault_of_answer, read_in_report, ends_body, body_answers}
+use Rattle.ror_report.specs.Reading.{report_fault, IsReportFaultWithin, fault_of_answer, read_in_report, ends_body, body_answers}
 
 -- an answer's fault is handed on with its place
 handed_on : {A : Type 0} (e : ProofFault) (reading : Result A ProofFault) → IfSome (proof_fault e) (λ f. reading ≡ Err f) → IfSome (report_fault (fault_of_answer e)) (λ f. read_in_report reading ≡ Err f)
@@ -21,7 +21,7 @@ handed_on (answers.BadLine at) reading h = ap read_in_report h
 handed_on (answers.BadNumber at) reading h = ap read_in_report h
 handed_on answers.Memory reading h = tt
 
-pub answer_placed : (n : ℕ) (e : ProofFault) → answer_reading.IsPlaced n e → IsPlaced n (fault_of_answer e)
+pub answer_placed : (n : ℕ) (e : ProofFault) → answer_reading.IsProofFaultWithin n e → IsReportFaultWithin n (fault_of_answer e)
 answer_placed n (answers.BadLine at) h = h
 answer_placed n (answers.BadNumber at) h = h
 answer_placed n answers.Memory h = tt

@@ -11,12 +11,12 @@ use Rattle.ror_text.specs.SpacedLines.{is_word, are_words}
 use Rattle.ror_text.proofs.NumberLemmas.{small_number_of-decimal, small_number_of-sound, decimal_some, is_word-decimal}
 use Rattle.ror_text.proofs.ReadingLemmas.{bind_ok, need_ok, refuse_ok}
 use Rattle.ror_table.specs.Table.{DecisionTable}
-use Rattle.ror_proof.specs.Cursor.{Cursor}
-use Rattle.ror_proof.specs.Text.{line_text}
-use Rattle.ror_proof.specs.Words.{line_words, next_line}
+use Rattle.ror_text.specs.Cursor.{Cursor}
+use Rattle.ror_text.specs.SpacedLines.{line_text}
+use Rattle.ror_text.specs.Cursor.{line_words, line_after}
 use Rattle.ror_proof.specs.Reading.{begins_part}
-use Rattle.ror_proof.proofs.TableIds.{bytes_same}
-use Rattle.ror_proof.proofs.WordLemmas.{Spans, line_again, line_spans}
+use Rattle.ror_text.proofs.ListLemmas.{bytes_same}
+use Rattle.ror_text.proofs.CursorLemmas.{Spans, line_again, line_spans}
 use Rattle.ror_report.specs.declared.block.Block.{Block}
 use Rattle.ror_report.specs.declared.read.ReportFault.{ReportFault}
 use Rattle.ror_report.specs.declared.read.ReportFault.TheVariants.{BadLine, BadNumber}
@@ -66,7 +66,7 @@ pub numbered_sound : (name : List ℕ) (c : Cursor) (x : ℕ × Cursor) → numb
 unfolding numbered_line
 numbered_sound name c x e =
     let ws = line_words c in
-    let last = λ (number : ℕ). need (BadLine c.place) (next_line c) >>= λ next. done (number, next) in
+    let last = λ (number : ℕ). need (BadLine c.place) (line_after c) >>= λ next. done (number, next) in
     let only = λ (number : ℕ). refuse (BadLine c.place) (not (eqb (length ws) 2)) >>= λ _. last number in
     let says = λ (word : List ℕ). need (BadNumber c.place) (small_number_of word) >>= λ number. only number in
     let some = λ (word : List ℕ). refuse (BadLine c.place) (eqb (length word) 0) >>= λ _. says word in
@@ -78,7 +78,7 @@ numbered_sound name c x e =
     let f = bind_ok (refuse (BadLine c.place) (eqb (length d.0) 0)) (λ _. says d.0) x d.2 in
     let g = bind_ok (need (BadNumber c.place) (small_number_of d.0)) (λ number. only number) x f.2 in
     let h = bind_ok (refuse (BadLine c.place) (not (eqb (length ws) 2))) (λ _. last g.0) x g.2 in
-    let k = bind_ok (need (BadLine c.place) (next_line c)) (λ next. done (g.0, next)) x h.2 in
+    let k = bind_ok (need (BadLine c.place) (line_after c)) (λ next. done (g.0, next)) x h.2 in
     let words = named_words name ws a.0 d.0 g.0 (need_ok _ _ a.0 a.1) (refuse_ok _ _ b.0 b.1) (need_ok _ _ d.0 d.1) (need_ok _ _ g.0 g.1) (refuse_ok _ _ h.0 h.1) in
     subst (λ (y : ℕ × Cursor). Spans c (numbered_text name y.0) y.1 × (y.0 < 2 ^ 32)) {x = (g.0, k.0)} (ok_is (g.0, k.0) x k.2) (line_spans c k.0 (name ∷ decimal g.0 ∷ []) words.0 (need_ok _ _ k.0 k.1), words.1)
 

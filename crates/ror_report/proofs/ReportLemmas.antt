@@ -9,7 +9,7 @@ use Rattle.std.proofs.lemmas.Slice.Eq.{starts_is}
 use Rattle.ror_text.specs.Reading.{◌>>=◌, refuse}
 use Rattle.ror_text.proofs.ReadingLemmas.{bind_ok, refuse_ok}
 use Rattle.ror_table.specs.Table.{DecisionTable, IsTable}
-use Rattle.ror_proof.specs.Cursor.{Cursor}
+use Rattle.ror_text.specs.Cursor.{Cursor}
 use Rattle.ror_report.specs.declared.block.Block.{Block}
 use Rattle.ror_report.specs.declared.read.ReportFault.TheVariants.{BadLine}
 use Rattle.ror_report.specs.Text.{block_text, header_text, end_text, report_text, IsPrintableBlock}

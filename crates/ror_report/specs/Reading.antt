@@ -1,12 +1,13 @@
--- Reading a report piece by piece: its first line, a block and where it ends, its last line; or the first fault.
+-- Reading a report piece by piece: its first line, a block and where it ends, its last line; or the
+-- first fault.
 use Rattle.std.specs.Prelude.{ℕ, ◌≤◌, zero, suc, Bool, not, ◌||◌, List, [], ◌∷◌, length, Option, Some, None, Result, Ok, Err, codes, nat_eq, ◌==◌, slice_get, if◌then◌else◌}
 use Rattle.std.specs.List.{starts_with}
 use Rattle.std.specs.Str.{bytes_eq}
 use Rattle.ror_text.specs.Numbers.{small_number_of}
 use Rattle.ror_text.specs.Reading.{◌>>=◌, refuse, need}
 use Rattle.ror_table.specs.Table.{DecisionTable}
-use Rattle.ror_proof.specs.Cursor.{Cursor}
-use Rattle.ror_proof.specs.Words.{line_words, next_line}
+use Rattle.ror_text.specs.Cursor.{Cursor}
+use Rattle.ror_text.specs.Cursor.{line_words, line_after}
 use Rattle.ror_proof.specs.Reading.{answer_at}
 use Rattle.ror_proof.specs.declared.answer.Answer.{Answer}
 use Rattle.ror_proof.specs.declared.read.ProofFault.{ProofFault}
@@ -20,15 +21,14 @@ use Rattle.ror_report.specs.Text.{header_text}
 
 -- the fault that an error names: none for want of memory
 abbrev pub report_fault : ReportFault → Option ReportFault
-report_fault (faults.BadLine at) = Some (faults.BadLine at)
-report_fault (faults.BadNumber at) = Some (faults.BadNumber at)
 report_fault faults.Memory = None
+report_fault fault = Some fault
 
 -- the line of which an error speaks begins in a text of so many bytes, or at its end
-abbrev pub IsPlaced : ℕ → ReportFault → Type 0
-IsPlaced n (faults.BadLine at) = at ≤ n
-IsPlaced n (faults.BadNumber at) = at ≤ n
-IsPlaced n faults.Memory = Unit {0}
+abbrev pub IsReportFaultWithin : ℕ → ReportFault → Type 0
+IsReportFaultWithin n (faults.BadLine at) = at ≤ n
+IsReportFaultWithin n (faults.BadNumber at) = at ≤ n
+IsReportFaultWithin n faults.Memory = Unit {0}
 
 -- an answer's fault, as one of the report
 abbrev pub fault_of_answer : ProofFault → ReportFault
@@ -53,7 +53,7 @@ numbered_line name c = do
   _ ← refuse (faults.BadLine c.place) (length word == 0)
   number ← need (faults.BadNumber c.place) (small_number_of word)
   _ ← refuse (faults.BadLine c.place) (not (length (line_words c) == 2))
-  next ← need (faults.BadLine c.place) (next_line c)
+  next ← need (faults.BadLine c.place) (line_after c)
   Ok (number, next)
 
 abbrev pub begins_block : List ℕ → Bool

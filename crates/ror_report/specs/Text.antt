@@ -3,7 +3,8 @@ use Rattle.std.specs.Prelude.{ℕ, ◌<◌, ◌^◌, List, [], ◌∷◌, ◌++�
 use Rattle.std.specs.List.{flat_map, AllByRecursion}
 use Rattle.ror_table.specs.Table.{DecisionTable}
 use Rattle.ror_proof.specs.declared.answer.Answer.{Answer}
-use Rattle.ror_proof.specs.Text.{line_text, answer_text, IsPrintable}
+use Rattle.ror_text.specs.SpacedLines.{line_text}
+use Rattle.ror_proof.specs.Text.{answer_text, IsPrintable}
 use Rattle.ror_report.specs.declared.block.Block.{Block}
 use Rattle.ror_report.specs.declared.block.Body.{Body}
 use Rattle.ror_report.specs.declared.block.Body.TheVariants.{Added, Answers}

@@ -1,3 +1,5 @@
+//! What a report says of a line.
+
 use ror_proof::Answer;
 use ror_text::Items;
 

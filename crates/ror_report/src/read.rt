@@ -1,12 +1,14 @@
+//! The reader of a report's text, piece by piece.
+
 ghost use Rattle.std.specs.Prelude.{◌≡◌, ◌≤◌, ◌<◌, ◌-◌, codes, drop, length, IfErr, IfOk, IfSome, slice_get, map};
 ghost use Rattle.std.specs.Option.{option_map};
 ghost use Rattle.ror_text.specs.Reading.{Gives};
-ghost use Rattle.ror_proof.specs.Cursor.{cursor_at};
-ghost use Rattle.ror_proof.specs.Words.{next_line};
+ghost use Rattle.ror_text.specs.Cursor.{cursor_at};
+ghost use Rattle.ror_text.specs.Cursor.{line_after};
 ghost use Rattle.ror_text.specs.SpacedLines.{spaced_words};
-ghost use Rattle.ror_proof.specs.Words.{line_words};
+ghost use Rattle.ror_text.specs.Cursor.{line_words};
 ghost use Rattle.ror_report.specs.Reading as reading;
-ghost use Rattle.ror_report.specs.Reading.{block_at, end_at, report_fault, header_at, IsPlaced};
+ghost use Rattle.ror_report.specs.Reading.{block_at, end_at, report_fault, header_at, IsReportFaultWithin};
 
 use crate::block::{Block, Body};
 use ror_proof::{Answer, ProofFault, read_answer};
@@ -14,7 +16,7 @@ use ror_table::Table;
 use ror_text::Items;
 use ror_text::numbers::read_small_number;
 use ror_text::reading::{need, refuse_if};
-use ror_text::spaced::{split_line, split_spaced};
+use ror_text::spaced::{line_at, split_spaced};
 use std::alloc::{AllocError, AllocFailed, Global};
 use thiserror::Error;
 
@@ -91,10 +93,11 @@ pub fn read_block(
     from: usize,
 ) -> Result<(Block, usize), ReportFault>
     requires { from ≤ length bytes.now }
-    ensures exact { Gives (λ x. (x.0, cursor_at bytes.now x.1)) report_fault result (block_at table.now (cursor_at bytes.now from)) }
+    ensures exact { Gives (λ x. (x.0, cursor_at bytes.now x.1)) report_fault result
+        (block_at table.now (cursor_at bytes.now from)) }
     ensures onward { IfOk result (λ x. from < x.1) }
     ensures within { IfOk result (λ x. x.1 ≤ length bytes.now) }
-    ensures placed { IfErr result (IsPlaced (length bytes.now)) }
+    ensures placed { IfErr result (IsReportFaultWithin (length bytes.now)) }
 {
     let (line, next) = numbered_line(alloc, b"line".as_slice(), bytes, from)?;
     let (body, next) = body_at(alloc, table, bytes, next)?;
@@ -110,10 +113,11 @@ fn body_at(
     from: usize,
 ) -> Result<(Body, usize), ReportFault>
     requires { from ≤ length bytes.now }
-    ensures exact { Gives (λ x. (x.0, cursor_at bytes.now x.1)) report_fault result (reading.body_at table.now (cursor_at bytes.now from)) }
+    ensures exact { Gives (λ x. (x.0, cursor_at bytes.now x.1)) report_fault result
+        (reading.body_at table.now (cursor_at bytes.now from)) }
     ensures onward { IfOk result (λ x. from ≤ x.1) }
     ensures within { IfOk result (λ x. x.1 ≤ length bytes.now) }
-    ensures placed { IfErr result (IsPlaced (length bytes.now)) }
+    ensures placed { IfErr result (IsReportFaultWithin (length bytes.now)) }
 {
     if bytes[from..].starts_with(b"added ") {
         added_at(alloc, bytes, from)
@@ -126,10 +130,11 @@ fn body_at(
 #[tactic(auto, unfolding(crate::specs::Reading::added_at))]
 fn added_at(alloc: Global, bytes: &[u8], from: usize) -> Result<(Body, usize), ReportFault>
     requires { from ≤ length bytes.now }
-    ensures exact { Gives (λ x. (x.0, cursor_at bytes.now x.1)) report_fault result (reading.added_at (cursor_at bytes.now from)) }
+    ensures exact { Gives (λ x. (x.0, cursor_at bytes.now x.1)) report_fault result
+        (reading.added_at (cursor_at bytes.now from)) }
     ensures onward { IfOk result (λ x. from ≤ x.1) }
     ensures within { IfOk result (λ x. x.1 ≤ length bytes.now) }
-    ensures placed { IfErr result (IsPlaced (length bytes.now)) }
+    ensures placed { IfErr result (IsReportFaultWithin (length bytes.now)) }
 {
     let (number, next) = numbered_line(alloc, b"added".as_slice(), bytes, from)?;
     refuse_if(!ends_body(bytes, next), ReportFault::BadLine(next))?;
@@ -145,21 +150,23 @@ fn answers_at(
     from: usize,
 ) -> Result<(Body, usize), ReportFault>
     requires { from ≤ length bytes.now }
-    ensures exact { Gives (λ x. (x.0, cursor_at bytes.now x.1)) report_fault result (reading.answers_at table.now (cursor_at bytes.now from)) }
+    ensures exact { Gives (λ x. (x.0, cursor_at bytes.now x.1)) report_fault result
+        (reading.answers_at table.now (cursor_at bytes.now from)) }
     ensures onward { IfOk result (λ x. from ≤ x.1) }
     ensures within { IfOk result (λ x. x.1 ≤ length bytes.now) }
-    ensures placed { IfErr result (IsPlaced (length bytes.now)) }
+    ensures placed { IfErr result (IsReportFaultWithin (length bytes.now)) }
 {
     let (answers, next) = body_answers(alloc, table, bytes, from)?;
     Ok((Body::Answers(Items::from(answers)), next))
 }
 
-/// Reads the last line, from its first byte to the end of the bytes: the number of blocks that it gives.
+/// Reads the last line, from its first byte to the end of the bytes: the number of blocks that it
+/// gives.
 #[tactic(auto, unfolding(crate::specs::Reading::end_at))]
 pub fn read_end(alloc: Global, bytes: &[u8], from: usize) -> Result<u32, ReportFault>
     requires { from ≤ length bytes.now }
     ensures exact { Gives (λ n. n) report_fault result (end_at (cursor_at bytes.now from)) }
-    ensures placed { IfErr result (IsPlaced (length bytes.now)) }
+    ensures placed { IfErr result (IsReportFaultWithin (length bytes.now)) }
 {
     let (blocks, next) = numbered_line(alloc, b"end".as_slice(), bytes, from)?;
     refuse_if(next < bytes.len(), ReportFault::BadLine(next))?;
@@ -191,10 +198,11 @@ fn body_answers(
     from: usize,
 ) -> Result<(Vec<Answer>, usize), ReportFault>
     requires { from ≤ length bytes.now }
-    ensures exact { Gives (λ x. (x.0.items, cursor_at bytes.now x.1)) report_fault result (reading.body_answers table.now (length bytes.now - from) (cursor_at bytes.now from)) }
+    ensures exact { Gives (λ x. (x.0.items, cursor_at bytes.now x.1)) report_fault result
+        (reading.body_answers table.now (length bytes.now - from) (cursor_at bytes.now from)) }
     ensures onward { IfOk result (λ x. from ≤ x.1) }
     ensures within { IfOk result (λ x. x.1 ≤ length bytes.now) }
-    ensures placed { IfErr result (IsPlaced (length bytes.now)) }
+    ensures placed { IfErr result (IsReportFaultWithin (length bytes.now)) }
 {
     let mut answers = Vec::new(alloc);
     let mut next = from;
@@ -215,10 +223,11 @@ fn numbered_line(
     from: usize,
 ) -> Result<(u32, usize), ReportFault>
     requires { from ≤ length bytes.now }
-    ensures exact { Gives (λ x. (x.0, cursor_at bytes.now x.1)) report_fault result (reading.numbered_line name.now (cursor_at bytes.now from)) }
+    ensures exact { Gives (λ x. (x.0, cursor_at bytes.now x.1)) report_fault result
+        (reading.numbered_line name.now (cursor_at bytes.now from)) }
     ensures onward { IfOk result (λ x. from < x.1) }
     ensures within { IfOk result (λ x. x.1 ≤ length bytes.now) }
-    ensures placed { IfErr result (IsPlaced (length bytes.now)) }
+    ensures placed { IfErr result (IsReportFaultWithin (length bytes.now)) }
 {
     let (line, next) = line_at(bytes, from);
     let words = split_spaced(alloc, line)?;
@@ -234,22 +243,8 @@ fn numbered_line(
 
 /// The word at a place among words, if there are so many.
 fn word_at<'a>(words: &[&'a [u8]], index: usize) -> Option<&'a [u8]>
-    ensures { option_map (λ word. word.now) result ≡ slice_get (map (λ word. word.now) words.now) index }
+    ensures { option_map (λ word. word.now) result
+        ≡ slice_get (map (λ word. word.now) words.now) index }
 {
     words.get(index).copied()
-}
-
-/// The line at a place, and where the next line begins, if a line feed ends this one.
-fn line_at(bytes: &[u8], from: usize) -> (&[u8], Option<usize>)
-    requires { from ≤ length bytes.now }
-    ensures words { spaced_words result.0.now ≡ line_words (cursor_at bytes.now from) }
-    ensures next { option_map (cursor_at bytes.now) result.1 ≡ next_line (cursor_at bytes.now from) }
-    ensures onward { IfSome result.1 (λ next. from < next) }
-    ensures within { IfSome result.1 (λ next. next ≤ length bytes.now) }
-{
-    let rest = &bytes[from..];
-    match split_line(rest) {
-        Some((line, _)) => (line, Some(from + line.len() + 1)),
-        None => (rest, None),
-    }
 }

@@ -1,5 +1,4 @@
 pub mod CommandLemmas
-pub mod TextLemmas
 pub mod GrammarLemmas
 pub mod SessionLemmas
 pub mod NumberLemmas

@@ -5,8 +5,9 @@ use Rattle.std.specs.Str.Lines as text
 use Rattle.std.specs.List.{AllByRecursion, enumerate_from}
 use Rattle.std.specs.List.Sorted.{IsStrictlyIncreasing}
 use Rattle.std.proofs.lemmas.Bool.{cases_Bool}
-use Rattle.ror_text.specs.Lines.{is_comment, words, numbered_lines, line_count}
+use Rattle.ror_text.specs.Lines.{is_passed_over, words, numbered_lines, line_count}
 use Rattle.ror_text.specs.Reading.{read_all}
+use Rattle.ror_session.specs.declared.reading.TheConstants.{MOST_LINES}
 use Rattle.ror_session.specs.Session.{add_line, desks_of}
 use Rattle.ror_session.specs.Grammar.{AreLines}
 use Rattle.ror_session.specs.declared.session.Line.{Line}
@@ -52,7 +53,7 @@ numbers_same (first ∷ more) [] h = absurd h
 numbers_same (first ∷ more) (line ∷ lines) h = rw (h.0.number, numbers_same more lines h.1) refl
 
 numbers_rise : (bytes : List ℕ) (lines : List Line) → AreLines (numbered_lines bytes) lines → Rise 1 (1 + line_count bytes) (map (λ (line : Line). line.number) lines)
-numbers_rise bytes lines h = subst (λ (ns : List ℕ). Rise 1 (1 + line_count bytes) ns) (sym (numbers_same (numbered_lines bytes) lines h)) (kept_rise (λ line. not (is_comment line.1)) 1 (1 + line_count bytes) (map words (text.lines bytes)) (omega (arith, length-map (text.lines bytes) words)))
+numbers_rise bytes lines h = subst (λ (ns : List ℕ). Rise 1 (1 + line_count bytes) ns) (sym (numbers_same (numbered_lines bytes) lines h)) (kept_rise (λ line. not (is_passed_over line.1)) 1 (1 + line_count bytes) (map words (text.lines bytes)) (omega (arith, length-map (text.lines bytes) words)))
 
 small_numbers : (low high : ℕ) (lines : List Line) → high ≤ 2 ^ 32 → Rise low high (map (λ (line : Line). line.number) lines) → AllByRecursion (λ (line : Line). line.number < 2 ^ 32) lines
 small_numbers low high [] small h = tt
@@ -78,7 +79,7 @@ desks_hold bytes (line ∷ lines) e = desks_zero (numbered_lines bytes) (line �
 pub few_read : (bytes : List ℕ) (lines : List Line) → read_all add_line [] (numbered_lines bytes) ≡ Ok lines → length lines ≤ line_count bytes
 few_read bytes lines e = omega (arith, rise_count 1 (1 + line_count bytes) _ (numbers_rise bytes lines (said bytes lines e)), length-map lines (λ (line : Line). line.number))
 
-pub numbers_small : (bytes : List ℕ) (lines : List Line) → line_count bytes ≤ 100_000 → read_all add_line [] (numbered_lines bytes) ≡ Ok lines → AllByRecursion (λ (line : Line). line.number < 2 ^ 32) lines
+pub numbers_small : (bytes : List ℕ) (lines : List Line) → line_count bytes ≤ MOST_LINES → read_all add_line [] (numbered_lines bytes) ≡ Ok lines → AllByRecursion (λ (line : Line). line.number < 2 ^ 32) lines
 numbers_small bytes lines few e = small_numbers 1 (1 + line_count bytes) lines (omega arith) (numbers_rise bytes lines (said bytes lines e))
 
 pub numbers_increase : (bytes : List ℕ) (lines : List Line) → read_all add_line [] (numbered_lines bytes) ≡ Ok lines → IsStrictlyIncreasing (map (λ (line : Line). line.number) lines)

@@ -6,6 +6,8 @@ use Rattle.std.proofs.lemmas.Bool.{cases_Bool, ltb-true, ltb-false}
 use Rattle.std.proofs.lemmas.Str.{IsUtf8-from_is_utf8, is_utf8-from_IsUtf8}
 use Rattle.ror_text.specs.Lines.{numbered_lines, line_count}
 use Rattle.ror_text.specs.Reading.{◌>>=◌, read_all}
+use Rattle.ror_text.specs.declared.lines.TheConstants.{MOST_TEXT_BYTES}
+use Rattle.ror_session.specs.declared.reading.TheConstants.{MOST_LINES}
 use Rattle.ror_session.specs.Session.{session_of, add_line, desks_of}
 use Rattle.ror_session.specs.Grammar.{IsWithinLimits, AreLines, IsSession, IsFirstBadLine}
 use Rattle.ror_session.specs.declared.session.Session.{Session}
@@ -20,18 +22,18 @@ whole r = r >>= λ lines. Ok (record { desks = desks_of lines; lines = lines })
 
 -- the test that decides
 data FirstTest (bytes : List ℕ) : Type 0 where
-  long : 16_777_216 < length bytes → session_of bytes ≡ Err TooLong → FirstTest bytes
-  not_utf8 : length bytes ≤ 16_777_216 → ¬ (IsUtf8 bytes) → session_of bytes ≡ Err NotUtf8 → FirstTest bytes
-  many : length bytes ≤ 16_777_216 → IsUtf8 bytes → 100_000 < line_count bytes → session_of bytes ≡ Err TooManyLines → FirstTest bytes
+  long : MOST_TEXT_BYTES < length bytes → session_of bytes ≡ Err TooLong → FirstTest bytes
+  not_utf8 : length bytes ≤ MOST_TEXT_BYTES → ¬ (IsUtf8 bytes) → session_of bytes ≡ Err NotUtf8 → FirstTest bytes
+  many : length bytes ≤ MOST_TEXT_BYTES → IsUtf8 bytes → MOST_LINES < line_count bytes → session_of bytes ≡ Err TooManyLines → FirstTest bytes
   by_lines : IsWithinLimits bytes → IsUtf8 bytes → session_of bytes ≡ whole (read_all add_line [] (numbered_lines bytes)) → FirstTest bytes
 
 first_test : (bytes : List ℕ) → FirstTest bytes
 unfolding session_of whole
-first_test bytes = elim (cases_Bool (nat_lt 16_777_216 (length bytes))) [
+first_test bytes = elim (cases_Bool (nat_lt MOST_TEXT_BYTES (length bytes))) [
   | inl above ↦ long (ltb-true _ _ above) (rw above refl)
   | inr within ↦ elim (cases_Bool (is_utf8 bytes)) [
     | inr other ↦ not_utf8 (ltb-false _ _ within) (λ u. let g = is_utf8-from_IsUtf8 bytes u in absurd cc) (rw (within, other) refl)
-    | inl text ↦ elim (cases_Bool (nat_lt 100_000 (line_count bytes))) [
+    | inl text ↦ elim (cases_Bool (nat_lt MOST_LINES (line_count bytes))) [
       | inl more ↦ many (ltb-false _ _ within) (IsUtf8-from_is_utf8 bytes text) (ltb-true _ _ more) (rw (within, text, more) refl)
       | inr few ↦ by_lines (record { few_bytes = ltb-false _ _ within; few_lines = ltb-false _ _ few }) (IsUtf8-from_is_utf8 bytes text) (rw (within, text, few) refl)
     ]
@@ -98,7 +100,7 @@ first_bad_is_named bytes number h = elim (first_test bytes) [
   | by_lines limits text is ↦ is ∙ whole-fails _ (BadLine number) (bad_line_fails (numbered_lines bytes) number h.2)
 ]
 
-pub too_long : (bytes : List ℕ) → (session_of bytes ≡ Err TooLong) ↔ (16_777_216 < length bytes)
+pub too_long : (bytes : List ℕ) → (session_of bytes ≡ Err TooLong) ↔ (MOST_TEXT_BYTES < length bytes)
 too_long bytes = elim (first_test bytes) [
   | long more is ↦ (λ e. more, λ h. is)
   | not_utf8 few other is ↦ (λ e. absurd cc, λ h. absurd (omega arith))
@@ -106,7 +108,7 @@ too_long bytes = elim (first_test bytes) [
   | by_lines limits text is ↦ (λ e. absurd (let bad = lines_fault bytes TooLong (sym is ∙ e) in cc), λ h. absurd (omega (arith, limits.few_bytes)))
 ]
 
-pub not_utf8_bytes : (bytes : List ℕ) → (session_of bytes ≡ Err NotUtf8) ↔ ((length bytes ≤ 16_777_216) × (¬ (IsUtf8 bytes)))
+pub not_utf8_bytes : (bytes : List ℕ) → (session_of bytes ≡ Err NotUtf8) ↔ ((length bytes ≤ MOST_TEXT_BYTES) × (¬ (IsUtf8 bytes)))
 not_utf8_bytes bytes = elim (first_test bytes) [
   | long more is ↦ (λ e. absurd cc, λ h. absurd (omega (arith, h.0)))
   | not_utf8 few other is ↦ (λ e. (few, other), λ h. is)
@@ -114,7 +116,7 @@ not_utf8_bytes bytes = elim (first_test bytes) [
   | by_lines limits text is ↦ (λ e. absurd (let bad = lines_fault bytes NotUtf8 (sym is ∙ e) in cc), λ h. absurd (h.1 text))
 ]
 
-pub too_many_lines : (bytes : List ℕ) → (session_of bytes ≡ Err TooManyLines) ↔ ((length bytes ≤ 16_777_216) × IsUtf8 bytes × (100_000 < line_count bytes))
+pub too_many_lines : (bytes : List ℕ) → (session_of bytes ≡ Err TooManyLines) ↔ ((length bytes ≤ MOST_TEXT_BYTES) × IsUtf8 bytes × (MOST_LINES < line_count bytes))
 too_many_lines bytes = elim (first_test bytes) [
   | long more is ↦ (λ e. absurd cc, λ h. absurd (omega (arith, h.0)))
   | not_utf8 few other is ↦ (λ e. absurd cc, λ h. absurd (other h.1))

@@ -1,7 +1,9 @@
 -- Well formed sessions: what their lines may be, and what each line says.
 use Rattle.std.specs.Prelude.{◌≡◌, ◌≢◌, ℕ, ◌≤◌, List, [], ◌∷◌, ◌++◌, length, codes}
 use Rattle.std.specs.List.{AllByRecursion}
+use Rattle.ror_text.specs.declared.lines.TheConstants.{MOST_TEXT_BYTES}
 use Rattle.ror_text.specs.Lines.{line_count}
+use Rattle.ror_session.specs.declared.reading.TheConstants.{MOST_LINES}
 use Rattle.ror_session.specs.Session.{desks_of}
 use Rattle.ror_session.specs.declared.session.Session.{Session}
 use Rattle.ror_session.specs.declared.session.Line.{Line}
@@ -12,13 +14,14 @@ use Rattle.ror_session.specs.declared.session.Asked.TheVariants.{Necessary}
 
 -- how long a session's text may be: lines that are passed over count too
 pub record IsWithinLimits (bytes : List ℕ) : Type 0 where
-  pub few_bytes : length bytes ≤ 16_777_216
-  pub few_lines : line_count bytes ≤ 100_000
+  pub few_bytes : length bytes ≤ MOST_TEXT_BYTES
+  pub few_lines : line_count bytes ≤ MOST_LINES
 
 -- the words spell the command
 abbrev pub Spells : List (List ℕ) → Command → Type 0
 Spells ws (State (Prefer first second)) = ws ≡ codes "prefer" ∷ first ∷ second ∷ []
-Spells ws (Ask (Necessary first second)) = ws ≡ codes "ask" ∷ codes "necessary" ∷ first ∷ second ∷ []
+Spells ws (Ask (Necessary first second)) =
+    ws ≡ codes "ask" ∷ codes "necessary" ∷ first ∷ second ∷ []
 
 -- no byte of a word is below 0x21 or is 0x7F
 abbrev pub IsClean : List (List ℕ) → Type 0

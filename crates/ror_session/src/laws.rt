@@ -2,12 +2,14 @@
 
 ghost use Rattle.ror_session.specs.Laws.{WellFormedIsRead, FirstBadLineIsNamed, LongTextIsTooLong, OtherBytesAreNotUtf8, ManyLinesAreTooMany};
 
-/// A text is read exactly where it is within the limits, UTF-8 and well formed, and as the session that its lines are.
+/// A text is read exactly where it is within the limits, UTF-8 and well formed, and as the session
+/// that its lines are.
 pub fn well_formed_is_read()
     ensures { WellFormedIsRead }
 {}
 
-/// A bad line is named exactly where it is the first one of a text that is within the limits and UTF-8.
+/// A bad line is named exactly where it is the first one of a text that is within the limits and
+/// UTF-8.
 pub fn first_bad_line_is_named()
     ensures { FirstBadLineIsNamed }
 {}

@@ -5,7 +5,7 @@ pub mod laws;
 mod reading;
 mod session;
 
-pub use reading::read_session;
+pub use reading::{MOST_LINES, read_session};
 pub use session::{Asked, Command, Line, Named, Session, SessionFault};
 
 #[cfg(test)]

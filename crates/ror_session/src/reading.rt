@@ -4,28 +4,19 @@ ghost use Rattle.std.specs.Prelude.{◌≡◌, ◌≤◌, ◌<◌, ◌^◌, true
 ghost use Rattle.std.specs.List.{AllByRecursion};
 ghost use Rattle.std.specs.List.Sorted.{IsStrictlyIncreasing};
 ghost use Rattle.std.specs.Str.{IsUtf8, is_utf8};
-ghost use Rattle.ror_text.specs.Lines.{line_count, numbered_lines};
+ghost use Rattle.ror_text.specs.declared.lines.TheConstants.{MOST_TEXT_BYTES};
+ghost use Rattle.ror_text.specs.Lines.{numbered_lines};
 ghost use Rattle.ror_text.specs.Reading.{Gives, read_all};
 ghost use Rattle.ror_session.specs.Session.{session_of, session_fault, line_of_words, command_of, add_line, desks_of};
 
 use crate::session::{Asked, Command, Line, Named, Session, SessionFault};
-use ror_text::lines::{first_line, has_control, is_comment, line_count, split_words};
+use ror_text::lines::{MOST_TEXT_BYTES, has_control, is_utf8, line_count, next_line};
 use ror_text::reading::{need, refuse_if};
 use ror_text::{Items, Text};
 use std::alloc::{AllocError, Global};
 
-/// The greatest length of a session's text, in bytes.
-const MOST_BYTES: usize = 16_777_216;
-
-/// The greatest number of its lines, those that are passed over among them.
-const MOST_LINES: usize = 100_000;
-
-/// Whether the bytes are UTF-8.
-fn is_text(bytes: &[u8]) -> bool
-    ensures { result ≡ is_utf8 bytes.now }
-{
-    std::str::from_utf8(bytes).is_ok()
-}
+/// The greatest number of lines of a session's text, those that are passed over among them.
+pub const MOST_LINES: usize = 100_000;
 
 /// A text of its own with the bytes of a word.
 fn text_of(alloc: Global, word: &[u8]) -> Result<Text, AllocError>
@@ -62,7 +53,8 @@ fn read_command(alloc: Global, words: &[&[u8]]) -> Result<Option<Command>, Alloc
 #[tactic(auto, unfolding(crate::specs::Session::line_of_words))]
 fn read_line(alloc: Global, number: u32, words: &[&[u8]]) -> Result<Line, SessionFault>
     requires utf8 { AllByRecursion IsUtf8 (map (λ word. word.now) words.now) }
-    ensures exact { Gives (λ line. line) session_fault result (line_of_words number (map (λ word. word.now) words.now)) }
+    ensures exact { Gives (λ line. line) session_fault result
+        (line_of_words number (map (λ word. word.now) words.now)) }
 {
     refuse_if(has_control(words), SessionFault::BadLine(number))?;
     let command = need(read_command(alloc, words)?, SessionFault::BadLine(number))?;
@@ -76,19 +68,17 @@ fn read_line(alloc: Global, number: u32, words: &[&[u8]]) -> Result<Line, Sessio
 /// Reads the lines that are not passed over.
 fn read_lines(alloc: Global, bytes: &[u8]) -> Result<Vec<Line>, SessionFault>
     requires utf8 { is_utf8 bytes.now ≡ true }
-    requires few { line_count bytes.now ≤ 100_000 }
-    ensures exact { Gives (λ lines. lines.items) session_fault result (read_all add_line [] (numbered_lines bytes.now)) }
+    requires short { length bytes.now ≤ MOST_TEXT_BYTES }
+    ensures exact { Gives (λ lines. lines.items) session_fault result
+        (read_all add_line [] (numbered_lines bytes.now)) }
 {
     let mut lines = Vec::new(alloc);
     let mut rest = bytes;
     let mut number: u32 = 1;
-    'lines: while let Some((line, after)) = first_line(rest) {
-        let words = split_words(alloc, line)?;
-        if !is_comment(&words) {
-            lines.push(read_line(alloc, number, &words)?)?;
-        }
-        rest = after;
-        number += 1;
+    'lines: while let Some(line) = next_line(alloc, number, rest)? {
+        lines.push(read_line(alloc, line.number, &line.words)?)?;
+        number = line.number + 1;
+        rest = line.rest;
     }
     Ok(lines)
 }
@@ -110,12 +100,12 @@ pub fn read_session(alloc: Global, bytes: &[u8]) -> Result<Session, SessionFault
     ensures exact { Gives (λ s. s) session_fault result (session_of bytes.now) }
     ensures desks { IfOk result (λ s. AllByRecursion (λ line. line.desk < length s.desks) s.lines) }
     ensures few_desks { IfOk result (λ s. length s.desks ≤ 64) }
-    ensures few_lines { IfOk result (λ s. length s.lines ≤ 100_000) }
+    ensures few_lines { IfOk result (λ s. length s.lines ≤ MOST_LINES) }
     ensures numbers { IfOk result (λ s. AllByRecursion (λ line. line.number < 2 ^ 32) s.lines) }
     ensures rising { IfOk result (λ s. IsStrictlyIncreasing (map (λ line. line.number) s.lines)) }
 {
-    refuse_if(bytes.len() > MOST_BYTES, SessionFault::TooLong)?;
-    refuse_if(!is_text(bytes), SessionFault::NotUtf8)?;
+    refuse_if(bytes.len() > MOST_TEXT_BYTES, SessionFault::TooLong)?;
+    refuse_if(!is_utf8(bytes), SessionFault::NotUtf8)?;
     refuse_if(line_count(bytes) > MOST_LINES, SessionFault::TooManyLines)?;
     let lines = read_lines(alloc, bytes)?;
     let desks = desks_for(alloc, &lines)?;

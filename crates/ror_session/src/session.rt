@@ -17,7 +17,8 @@ pub enum Named {
 /// What a line asks, by the names that it gives.
 #[derive(Debug, Drop)]
 pub enum Asked {
-    /// Whether the first alternative is at least as good as the second for every compatible function.
+    /// Whether the first alternative is at least as good as the second for every compatible
+    /// function.
     Necessary(Text, Text),
 }
 

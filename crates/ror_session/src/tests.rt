@@ -1,3 +1,5 @@
+//! Tests of the crate's public calls.
+
 use crate::{Asked, Command, Line, Named, Session, SessionFault, read_session};
 use std::alloc::Global;
 use std::test::Fail;
@@ -94,74 +96,9 @@ fn lines_have_their_numbers_in_the_file(rt: HostRuntime) {
 }
 
 #[test]
-fn names_are_any_words(rt: HostRuntime) {
-    let marked = b"ask necessary @x #y\nask necessary - ask\nprefer a #b\nprefer prefer @";
-    assert!(rt;
-        reads_as(
-            rt.alloc(),
-            marked,
-            &[
-                (1, Necessary, "@x", "#y"),
-                (2, Necessary, "-", "ask"),
-                (3, Prefer, "a", "#b"),
-                (4, Prefer, "prefer", "@"),
-            ]
-        )
-    );
-    // 65 bytes
-    let long =
-        b"ask necessary a0123456789012345678901234567890123456789012345678901234567890123 \xC3\xA9";
-    let name = "a0123456789012345678901234567890123456789012345678901234567890123";
-    assert!(rt; reads_as(rt.alloc(), long, &[(1, Necessary, name, "\u{E9}")]));
-}
-
-#[test]
-fn statements_and_questions_come_in_any_order(rt: HostRuntime) {
-    let text = b"prefer a b\r\nask necessary a b\n \tprefer  b\t a \nprefer a a\nask necessary b a";
-    let wanted = [
-        (1, Prefer, "a", "b"),
-        (2, Necessary, "a", "b"),
-        (3, Prefer, "b", "a"),
-        (4, Prefer, "a", "a"),
-        (5, Necessary, "b", "a"),
-    ];
-    assert!(rt; reads_as(rt.alloc(), text, &wanted));
-}
-
-#[test]
-fn other_lines_are_bad(rt: HostRuntime) {
-    assert!(rt; is_bad_at(rt.alloc(), b"PREFER a b", 1));
-    assert!(rt; is_bad_at(rt.alloc(), b"prefer a", 1));
-    assert!(rt; is_bad_at(rt.alloc(), b"prefer a b c", 1));
-    assert!(rt; is_bad_at(rt.alloc(), b"ask a b", 1));
-    assert!(rt; is_bad_at(rt.alloc(), b"prefer a b\n@desk prefer a b", 2));
-    assert!(rt; is_bad_at(rt.alloc(), b"ask possible a b", 1));
-    assert!(rt; is_bad_at(rt.alloc(), b"ask necessary a", 1));
-    assert!(rt; is_bad_at(rt.alloc(), b"ask necessary a b c", 1));
-    assert!(rt; is_bad_at(rt.alloc(), b"@desk ask necessary a b", 1));
-    assert!(rt; is_bad_at(rt.alloc(), b"\xEF\xBB\xBFask necessary a b", 1));
-    let first = b"# none\nask necessary a b\n\nASK necessary a b\nask\n";
-    assert!(rt; is_bad_at(rt.alloc(), first, 4));
-}
-
-#[test]
-fn control_bytes_are_allowed_in_comments_only(rt: HostRuntime) {
-    let comment = b"# \x00\x7F\x01\rx\nask necessary a b";
-    assert!(rt; reads_as(rt.alloc(), comment, &[(2, Necessary, "a", "b")]));
-    assert!(rt; is_bad_at(rt.alloc(), b"\nask necessary a\x7F b", 2));
-    assert!(rt; is_bad_at(rt.alloc(), b"prefer a \x00b", 1));
-    assert!(rt; is_bad_at(rt.alloc(), b"ask necessary a b\x1F", 1));
-    assert!(rt; is_bad_at(rt.alloc(), b"\x01# x", 1));
-    // A carriage return is passed over before a line feed only, and there only one.
-    assert!(rt; is_bad_at(rt.alloc(), b"ask necessary a b\n\r", 2));
-    assert!(rt; is_bad_at(rt.alloc(), b"ask necessary a b\r", 1));
-    assert!(rt; is_bad_at(rt.alloc(), b"ask necessary a b\r\r\n", 1));
-}
-
-#[test]
-fn utf8_is_asked_of_the_whole_text_first(rt: HostRuntime) {
-    assert!(rt; is_not_utf8(rt.alloc(), b"no line\n# \xFF"));
-    assert!(rt; is_not_utf8(rt.alloc(), b"ask necessary a \xC3"));
+fn the_first_bad_line_is_named(rt: HostRuntime) {
+    let text = b"# none\nask necessary a b\n\nprefer a\nask\n";
+    assert!(rt; is_bad_at(rt.alloc(), text, 4));
 }
 
 #[test]
@@ -175,17 +112,5 @@ fn lines_that_are_passed_over_count(rt: HostRuntime) -> Result<(), Fail> {
     assert!(rt; has_too_many_lines(rt.alloc(), text.as_slice()));
     text.extend_from_slice(b"\xFF")?;
     assert!(rt; is_not_utf8(rt.alloc(), text.as_slice()));
-    Ok(())
-}
-
-#[test]
-fn the_length_is_asked_before_all(rt: HostRuntime) -> Result<(), Fail> {
-    let text = vec![in rt.alloc(); b'\xFF'; 16_777_217]?;
-    let long = match read_session(rt.alloc(), text.as_slice()) {
-        Err(SessionFault::TooLong) => true,
-        _ => false,
-    };
-    assert!(rt; long);
-    assert!(rt; is_not_utf8(rt.alloc(), &text.as_slice()[1..]));
     Ok(())
 }

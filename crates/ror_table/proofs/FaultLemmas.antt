@@ -1,87 +1,31 @@
 -- The fault that is read is the first, and the first fault is read.
-use Rattle.std.proofs.Common.{◌≡◌, ℕ, ◌+◌, ◌<◌, ◌≤◌, Bool, true, false, not, cond, eqb, ltb, leb, ◌||◌, List, [], ◌∷◌, length, drop, Option, Some, None, Result, Ok, Err, ℤ, refl, sym, ap, subst, ◌∙◌, inl, inr}
-use Rattle.std.specs.Prelude.{◌⊎◌, codes}
-use Rattle.std.specs.Str.{bytes_eq, IsUtf8, is_utf8}
+use Rattle.std.proofs.Common.{◌≡◌, ℕ, ◌<◌, ◌≤◌, Bool, true, false, not, cond, eqb, ltb, ◌||◌, List, [], ◌∷◌, length, Result, Ok, Err, refl, sym, ap, ◌∙◌, inl, inr}
+use Rattle.std.specs.Str.{IsUtf8, is_utf8}
 use Rattle.std.proofs.lemmas.Bool.{ltb-true, ltb-false, lt-ltb, le-ltb, eqb-true, false≢true}
 use Rattle.std.proofs.lemmas.List.{nil_from_length}
 use Rattle.std.proofs.lemmas.Str.{IsUtf8-from_is_utf8}
-use Rattle.ror_text.specs.Ids.{is_id}
-use Rattle.ror_text.specs.Lines.{has_control, numbered_lines, bad_utf8_line}
-use Rattle.ror_text.specs.Numbers.{count_of}
-use Rattle.ror_text.specs.Reading.{◌>>=◌, refuse, need, read_all}
+use Rattle.ror_text.specs.declared.lines.TheConstants.{MOST_TEXT_BYTES}
+use Rattle.ror_text.specs.Lines.{numbered_lines, bad_utf8_line}
+use Rattle.ror_text.specs.Reading.{◌>>=◌, refuse, read_all}
 use Rattle.ror_text.proofs.ReadingLemmas.{bind_err, first_fault, read_all_fails}
-use Rattle.ror_table.specs.declared.direction.Direction.{Direction}
 use Rattle.ror_table.specs.declared.fault.TableFault.{TableFault}
-use Rattle.ror_table.specs.declared.fault.TableKind.TheVariants.{Form, NotUtf8, BadLine, RepeatedId, MissingPerformance, BadNumber, TooMany, Empty, TooLong}
-use Rattle.ror_table.specs.declared.fault.What.TheVariants.{Alternatives, Criteria, Steps, Classes}
-use Rattle.ror_table.specs.Table.{DecisionTable, criterion_ids, alternative_ids, columns}
-use Rattle.ror_table.specs.Draft.{empty_table, has_id, add_criterion, add_alternative}
-use Rattle.ror_table.specs.Plain.{at_line, word_at, is_head, direction_of, performances_of, is_past_criteria, criterion_line, classes_line, alternative_line, known_line, table_line, after_head, whole_table, plain_table}
-use Rattle.ror_table.specs.Grammar.{Words}
+use Rattle.ror_table.specs.declared.fault.TableKind.TheVariants.{Form, NotUtf8, TooMany, Empty, TooLong}
+use Rattle.ror_table.specs.declared.fault.What.TheVariants.{Steps}
+use Rattle.ror_table.specs.Table.{DecisionTable, columns}
+use Rattle.ror_table.specs.Draft.{empty_table, finished}
+use Rattle.ror_table.specs.Plain.{at_line, is_head, body_line, after_head, plain_table}
+use Rattle.ror_table.specs.Grammar.{LineWords}
 use Rattle.ror_table.specs.Faults.{HasRead, IsFaultOfLine, IsReadable, BeginsTable, IsEmpty, IsFirstFaultOf}
 use Rattle.ror_table.specs.Faults.IsFirstFaultOf.{too_long, not_utf8, no_line, other_line, in_line, nothing_there, too_many_steps}
-use Rattle.ror_table.proofs.GrammarLemmas.{Numbered, texts, head_words, read_lines_write, written_lines_read, head_is, bool_false}
+use Rattle.ror_table.proofs.GrammarLemmas.{whole_table, Numbered, texts, head_words, read_lines_write, written_lines_read, head_is, bool_false}
 use Rattle.ror_table.proofs.LineSteps.{not_false}
+use Rattle.ror_table.proofs.LineFaultLemmas.{line_first, first_line_fault, refused}
+use Rattle.ror_table.specs.declared.limits.TheConstants.{MOST_STEPS}
 use Rattle.ror_table.proofs.RankLemmas.{or_cases}
 use Rattle.ror_table.proofs.PlainLemmas.{is_utf8-true, is_utf8-false}
 
--- ---- a fault in a line has the line's number
-
 abbrev as_read : DecisionTable → Result DecisionTable TableFault
 as_read t = Ok t
-
-is_at : (n : ℕ) (f e : TableFault) → f.line ≡ n → f ≡ e → e.line ≡ n
-is_at n f e at same = subst (λ (x : TableFault). x.line ≡ n) same at
-
-criterion_at : (n : ℕ) (f g h : TableFault) (b1 b2 : Bool) (o : Option Direction) (b3 b4 b5 : Bool) (k : Direction → DecisionTable) (e : TableFault) → f.line ≡ n → g.line ≡ n → h.line ≡ n
-    → (refuse f b1 >>= λ _. refuse f b2 >>= λ _. need f o >>= λ d. refuse f b3 >>= λ _. refuse g b4 >>= λ _. refuse h b5 >>= λ _. Ok (k d)) ≡ Err e → e.line ≡ n
-criterion_at n f g h true b2 o b3 b4 b5 k e p q r is = is_at n f e p cc
-criterion_at n f g h false true o b3 b4 b5 k e p q r is = is_at n f e p cc
-criterion_at n f g h false false None b3 b4 b5 k e p q r is = is_at n f e p cc
-criterion_at n f g h false false (Some d) true b4 b5 k e p q r is = is_at n f e p cc
-criterion_at n f g h false false (Some d) false true b5 k e p q r is = is_at n g e q cc
-criterion_at n f g h false false (Some d) false false true k e p q r is = is_at n h e r cc
-criterion_at n f g h false false (Some d) false false false k e p q r is = absurd cc
-
-two_at : (n : ℕ) (g h : TableFault) (b3 b4 : Bool) (t : DecisionTable) (e : TableFault) → g.line ≡ n → h.line ≡ n → (refuse g b3 >>= λ _. refuse h b4 >>= λ _. Ok t) ≡ Err e → e.line ≡ n
-two_at n g h true b4 t e q r is = is_at n g e q cc
-two_at n g h false true t e q r is = is_at n h e r cc
-two_at n g h false false t e q r is = absurd cc
-
-classes_at : (n : ℕ) (f g h : TableFault) (b1 b2 : Bool) (o : Option ℕ) (b3 b4 : ℕ → Bool) (k : ℕ → DecisionTable) (e : TableFault) → f.line ≡ n → g.line ≡ n → h.line ≡ n
-    → (refuse f b1 >>= λ _. refuse f b2 >>= λ _. need g o >>= λ m. refuse g (b3 m) >>= λ _. refuse h (b4 m) >>= λ _. Ok (k m)) ≡ Err e → e.line ≡ n
-classes_at n f g h true b2 o b3 b4 k e p q r is = is_at n f e p cc
-classes_at n f g h false true o b3 b4 k e p q r is = is_at n f e p cc
-classes_at n f g h false false None b3 b4 k e p q r is = is_at n g e q cc
-classes_at n f g h false false (Some m) b3 b4 k e p q r is = two_at n g h (b3 m) (b4 m) (k m) e q r is
-
-alternative_at : (n : ℕ) (f g h m l : TableFault) (b1 b2 b3 b4 b5 : Bool) (o : Option (List ℤ)) (b6 : Bool) (k : List ℤ → DecisionTable) (e : TableFault) → f.line ≡ n → g.line ≡ n → h.line ≡ n → m.line ≡ n → l.line ≡ n
-    → (refuse f b1 >>= λ _. refuse f b2 >>= λ _. refuse f b3 >>= λ _. refuse g b4 >>= λ _. refuse h b5 >>= λ _. need m o >>= λ ps. refuse l b6 >>= λ _. Ok (k ps)) ≡ Err e → e.line ≡ n
-alternative_at n f g h m l true b2 b3 b4 b5 o b6 k e p q r s u is = is_at n f e p cc
-alternative_at n f g h m l false true b3 b4 b5 o b6 k e p q r s u is = is_at n f e p cc
-alternative_at n f g h m l false false true b4 b5 o b6 k e p q r s u is = is_at n f e p cc
-alternative_at n f g h m l false false false true b5 o b6 k e p q r s u is = is_at n g e q cc
-alternative_at n f g h m l false false false false true o b6 k e p q r s u is = is_at n h e r cc
-alternative_at n f g h m l false false false false false None b6 k e p q r s u is = is_at n m e s cc
-alternative_at n f g h m l false false false false false (Some ps) true k e p q r s u is = is_at n l e u cc
-alternative_at n f g h m l false false false false false (Some ps) false k e p q r s u is = absurd cc
-
-known_at : (n : ℕ) (t : DecisionTable) (words : Words) (e : TableFault) (b1 b2 b3 : Bool) → cond b1 (criterion_line n t words) (cond b2 (classes_line n t words) (cond b3 (alternative_line n t words) (Err (at_line n BadLine)))) ≡ Err e → e.line ≡ n
-unfolding criterion_line classes_line alternative_line
-known_at n t words e true b2 b3 is = criterion_at n (at_line n BadLine) (at_line n RepeatedId) (at_line n (TooMany Criteria)) (not (eqb (length words) 3)) (not (is_id (word_at words 1))) (direction_of (word_at words 2)) (is_past_criteria t) (has_id (criterion_ids t) (word_at words 1)) (leb 64 (length t.criteria)) (λ d. add_criterion t (word_at words 1) d) e refl refl refl is
-known_at n t words e false true b3 is = classes_at n (at_line n BadLine) (at_line n BadNumber) (at_line n (TooMany Classes)) (not (eqb (length words) 2)) (is_past_criteria t) (count_of (word_at words 1)) (λ m. eqb m 0) (λ m. ltb 100 m) (λ m. record t { classes = m }) e refl refl refl is
-known_at n t words e false false true is = alternative_at n (at_line n BadLine) (at_line n RepeatedId) (at_line n MissingPerformance) (at_line n BadNumber) (at_line n (TooMany Alternatives)) (ltb (length words) 2) (ltb (length t.criteria + 2) (length words)) (not (is_id (word_at words 1))) (has_id (alternative_ids t) (word_at words 1)) (ltb (length words) (length t.criteria + 2)) (performances_of (drop 2 words)) (leb 200 (length t.alternatives)) (λ ps. add_alternative t (word_at words 1) ps) e refl refl refl refl refl is
-known_at n t words e false false false is = is_at n (at_line n BadLine) e refl cc
-
-refused_at : (n : ℕ) (f : TableFault) (b : Bool) (r : Result DecisionTable TableFault) (e : TableFault) → f.line ≡ n → (r ≡ Err e → e.line ≡ n) → (refuse f b >>= λ _. r) ≡ Err e → e.line ≡ n
-refused_at n f true r e p rest is = is_at n f e p cc
-refused_at n f false r e p rest is = rest is
-
-table_line_at : (t : DecisionTable) (line : ℕ × Words) (e : TableFault) → table_line t line ≡ Err e → e.line ≡ line.0
-unfolding table_line known_line
-table_line_at t line e is =
-    refused_at line.0 (at_line line.0 BadLine) (has_control line.1) (known_line line.0 t line.1) e refl
-    (λ known. known_at line.0 t line.1 e (bytes_eq (word_at line.1 0) (codes "criterion")) (bytes_eq (word_at line.1 0) (codes "classes")) (bytes_eq (word_at line.1 0) (codes "alternative")) known) is
 
 or_true : (b : Bool) → (b || true) ≡ true
 or_true true = refl
@@ -92,9 +36,9 @@ no_fault t e h = absurd cc
 
 -- ---- lines
 
-pub line_fault : (lines : Numbered) (e : TableFault) → read_all table_line empty_table lines ≡ Err e → IsFaultOfLine lines e
+pub line_fault : (lines : Numbered) (e : TableFault) → read_all body_line empty_table lines ≡ Err e → IsFaultOfLine lines e
 line_fault lines e is =
-    let first = first_fault table_line empty_table lines e is in
+    let first = first_fault body_line empty_table lines e is in
     record {
       before = first.before;
       line = first.line;
@@ -102,26 +46,22 @@ line_fault lines e is =
       reached = first.reached;
       is = first.split;
       reads = read_lines_write first.before first.reached first.reads;
-      fails = first.fails;
-      number = table_line_at first.reached first.line e first.fails;
+      first = (line_first first.reached first.line e first.fails).1;
+      number = (line_first first.reached first.line e first.fails).0;
     }
 
-pub fault_of_line : (lines : Numbered) (e : TableFault) → IsFaultOfLine lines e → read_all table_line empty_table lines ≡ Err e
-fault_of_line lines e at = read_all_fails table_line empty_table lines e (record {
+pub fault_of_line : (lines : Numbered) (e : TableFault) → IsFaultOfLine lines e → read_all body_line empty_table lines ≡ Err e
+fault_of_line lines e at = read_all_fails body_line empty_table lines e (record {
   before = at.before;
   line = at.line;
   after = at.after;
   reached = at.reached;
   split = at.is;
   reads = written_lines_read at.before at.reached at.reads.writes at.reads.draft;
-  fails = at.fails;
+  fails = first_line_fault at.reached at.line e at.number at.first;
 })
 
 -- ---- the whole text
-
-refused : (f : TableFault) (b : Bool) (r : Result DecisionTable TableFault) (e : TableFault) → (refuse f b >>= λ _. r) ≡ Err e → ((b ≡ true) × (e ≡ f)) ⊎ ((b ≡ false) × (r ≡ Err e))
-refused f true r e is = inl (refl, cc)
-refused f false r e is = inr (refl, is)
 
 empty_is : (t : DecisionTable) → (eqb (length t.criteria) 0 || eqb (length t.alternatives) 0) ≡ true → IsEmpty t
 empty_is t h = elim (or_cases (eqb (length t.criteria) 0) (eqb (length t.alternatives) 0) h) [
@@ -137,70 +77,70 @@ not_empty : (t : DecisionTable) → (eqb (length t.criteria) 0 || eqb (length t.
 not_empty t h none = false≢true (sym h ∙ is_empty t none)
 
 whole_fault : (bytes : List ℕ) (rest : Numbered) (t : DecisionTable) (e : TableFault) → BeginsTable bytes rest → HasRead (texts rest) t → whole_table t ≡ Err e → IsFirstFaultOf bytes e
-unfolding whole_table
+unfolding finished
 whole_fault bytes rest t e begins reads is =
     let empty : Bool = eqb (length t.criteria) 0 || eqb (length t.alternatives) 0 in
-    elim (refused (at_line 0 Empty) empty (refuse (at_line 0 (TooMany Steps)) (ltb 2000 (columns t)) >>= λ _. Ok t) e is) [
+    elim (refused (at_line 0 Empty) empty (refuse (at_line 0 (TooMany Steps)) (ltb MOST_STEPS (columns t)) >>= λ _. Ok t) e is) [
       | inl h ↦ nothing_there (record { rest = rest; begins = begins; table = t; reads = reads; lacks = empty_is t h.0 }) h.1
       | inr h ↦
-          elim (refused (at_line 0 (TooMany Steps)) (ltb 2000 (columns t)) (Ok t) e h.1) [
-            | inl wide ↦ too_many_steps (record { rest = rest; begins = begins; table = t; reads = reads; lacks = (not_empty t h.0, ltb-true 2000 (columns t) wide.0) }) wide.1
+          elim (refused (at_line 0 (TooMany Steps)) (ltb MOST_STEPS (columns t)) (Ok t) e h.1) [
+            | inl wide ↦ too_many_steps (record { rest = rest; begins = begins; table = t; reads = reads; lacks = (not_empty t h.0, ltb-true MOST_STEPS (columns t) wide.0) }) wide.1
             | inr none ↦ absurd (no_fault t e none.1)
           ]
     ]
 
-after_head_fault : (bytes : List ℕ) (line : ℕ × Words) (rest : Numbered) (e : TableFault) (b : Bool) → IsReadable bytes → numbered_lines bytes ≡ line ∷ rest → is_head line.1 ≡ b
-    → (cond b (Ok rest) (Err (at_line line.0 Form)) >>= λ lines. read_all table_line empty_table lines >>= λ s. whole_table s) ≡ Err e → IsFirstFaultOf bytes e
+after_head_fault : (bytes : List ℕ) (line : ℕ × LineWords) (rest : Numbered) (e : TableFault) (b : Bool) → IsReadable bytes → numbered_lines bytes ≡ line ∷ rest → is_head line.1 ≡ b
+    → (cond b (Ok rest) (Err (at_line line.0 Form)) >>= λ lines. read_all body_line empty_table lines >>= λ s. whole_table s) ≡ Err e → IsFirstFaultOf bytes e
 after_head_fault bytes line rest e true readable lines head is =
-    let begins : BeginsTable bytes rest = record { readable = readable; number = line.0; is = lines ∙ ap (λ (w : Words). (line.0, w) ∷ rest) (head_is line.1 head) } in
-    elim (bind_err (read_all table_line empty_table rest) (λ s. whole_table s) e is) [
+    let begins : BeginsTable bytes rest = record { readable = readable; number = line.0; is = lines ∙ ap (λ (w : LineWords). (line.0, w) ∷ rest) (head_is line.1 head) } in
+    elim (bind_err (read_all body_line empty_table rest) (λ s. whole_table s) e is) [
       | inl here ↦ in_line rest begins (line_fault rest e here)
       | inr later ↦ whole_fault bytes rest later.0 e begins (read_lines_write rest later.0 later.1) later.2
     ]
 after_head_fault bytes line rest e false readable lines head is =
     other_line readable line rest lines (λ (same : line.1 ≡ head_words). false≢true (sym head ∙ ap is_head same)) cc
 
-readable_fault : (bytes : List ℕ) (lines : Numbered) (e : TableFault) → IsReadable bytes → numbered_lines bytes ≡ lines → (after_head lines >>= λ ls. read_all table_line empty_table ls >>= λ s. whole_table s) ≡ Err e → IsFirstFaultOf bytes e
+readable_fault : (bytes : List ℕ) (lines : Numbered) (e : TableFault) → IsReadable bytes → numbered_lines bytes ≡ lines → (after_head lines >>= λ ls. read_all body_line empty_table ls >>= λ s. whole_table s) ≡ Err e → IsFirstFaultOf bytes e
 readable_fault bytes [] e readable none is = no_line readable none cc
 readable_fault bytes (line ∷ rest) e readable lines is = after_head_fault bytes line rest e (is_head line.1) readable lines refl is
 
 pub plain_fault : (bytes : List ℕ) (e : TableFault) → plain_table bytes ≡ Err e → IsFirstFaultOf bytes e
 unfolding plain_table
 plain_fault bytes e is =
-    elim (refused (at_line 0 TooLong) (ltb 16777216 (length bytes)) (refuse (at_line (bad_utf8_line bytes) NotUtf8) (not (is_utf8 bytes)) >>= λ _. after_head (numbered_lines bytes) >>= λ lines. read_all table_line empty_table lines >>= λ s. whole_table s) e is) [
-      | inl long ↦ too_long (ltb-true 16777216 (length bytes) long.0) long.1
+    elim (refused (at_line 0 TooLong) (ltb MOST_TEXT_BYTES (length bytes)) (refuse (at_line (bad_utf8_line bytes) NotUtf8) (not (is_utf8 bytes)) >>= λ _. after_head (numbered_lines bytes) >>= λ lines. read_all body_line empty_table lines >>= λ s. whole_table s) e is) [
+      | inl long ↦ too_long (ltb-true MOST_TEXT_BYTES (length bytes) long.0) long.1
       | inr rest ↦
-          let short : length bytes ≤ 16777216 = ltb-false 16777216 (length bytes) rest.0 in
-          elim (refused (at_line (bad_utf8_line bytes) NotUtf8) (not (is_utf8 bytes)) (after_head (numbered_lines bytes) >>= λ lines. read_all table_line empty_table lines >>= λ s. whole_table s) e rest.1) [
+          let short : length bytes ≤ MOST_TEXT_BYTES = ltb-false MOST_TEXT_BYTES (length bytes) rest.0 in
+          elim (refused (at_line (bad_utf8_line bytes) NotUtf8) (not (is_utf8 bytes)) (after_head (numbered_lines bytes) >>= λ lines. read_all body_line empty_table lines >>= λ s. whole_table s) e rest.1) [
             | inl bad ↦ not_utf8 short (λ (text : IsUtf8 bytes). false≢true (ap not (sym (is_utf8-true bytes text)) ∙ bad.0)) bad.1
             | inr good ↦ readable_fault bytes (numbered_lines bytes) e (record { short = short; utf8 = IsUtf8-from_is_utf8 bytes (not_false (is_utf8 bytes) good.0) }) refl good.1
           ]
     ]
 
-plain-readable : (bytes : List ℕ) → IsReadable bytes → plain_table bytes ≡ (after_head (numbered_lines bytes) >>= λ lines. read_all table_line empty_table lines >>= λ s. whole_table s)
+plain-readable : (bytes : List ℕ) → IsReadable bytes → plain_table bytes ≡ (after_head (numbered_lines bytes) >>= λ lines. read_all body_line empty_table lines >>= λ s. whole_table s)
 unfolding plain_table
-plain-readable bytes readable = rw (le-ltb 16777216 (length bytes) readable.short, is_utf8-true bytes readable.utf8) refl
+plain-readable bytes readable = rw (le-ltb MOST_TEXT_BYTES (length bytes) readable.short, is_utf8-true bytes readable.utf8) refl
 
-plain-begins : (bytes : List ℕ) (rest : Numbered) → BeginsTable bytes rest → plain_table bytes ≡ (read_all table_line empty_table rest >>= λ s. whole_table s)
+plain-begins : (bytes : List ℕ) (rest : Numbered) → BeginsTable bytes rest → plain_table bytes ≡ (read_all body_line empty_table rest >>= λ s. whole_table s)
 plain-begins bytes rest begins = plain-readable bytes begins.readable ∙ rw begins.is refl
 
 plain-reads : (bytes : List ℕ) (rest : Numbered) (t : DecisionTable) → BeginsTable bytes rest → HasRead (texts rest) t → plain_table bytes ≡ whole_table t
 plain-reads bytes rest t begins reads = plain-begins bytes rest begins ∙ rw (written_lines_read rest t reads.writes reads.draft) refl
 
 whole-empty : (t : DecisionTable) → IsEmpty t → whole_table t ≡ Err (at_line 0 Empty)
-unfolding whole_table
+unfolding finished
 whole-empty t none = rw (is_empty t none) refl
 
-whole-wide : (t : DecisionTable) → (IsEmpty t → ⊥) → 2000 < columns t → whole_table t ≡ Err (at_line 0 (TooMany Steps))
-unfolding whole_table
+whole-wide : (t : DecisionTable) → (IsEmpty t → ⊥) → MOST_STEPS < columns t → whole_table t ≡ Err (at_line 0 (TooMany Steps))
+unfolding finished
 whole-wide t some wide =
     let there : (eqb (length t.criteria) 0 || eqb (length t.alternatives) 0) ≡ false = bool_false _ (λ h. some (empty_is t h)) in
-    rw (there, lt-ltb 2000 (columns t) wide) refl
+    rw (there, lt-ltb MOST_STEPS (columns t) wide) refl
 
 pub fault_read : (bytes : List ℕ) (e : TableFault) → IsFirstFaultOf bytes e → plain_table bytes ≡ Err e
 unfolding plain_table
-fault_read bytes e (too_long long is) = rw (lt-ltb 16777216 (length bytes) long) (ap Err (sym is))
-fault_read bytes e (not_utf8 short bad is) = rw (le-ltb 16777216 (length bytes) short, is_utf8-false bytes bad) (ap Err (sym is))
+fault_read bytes e (too_long long is) = rw (lt-ltb MOST_TEXT_BYTES (length bytes) long) (ap Err (sym is))
+fault_read bytes e (not_utf8 short bad is) = rw (le-ltb MOST_TEXT_BYTES (length bytes) short, is_utf8-false bytes bad) (ap Err (sym is))
 fault_read bytes e (no_line readable none is) = plain-readable bytes readable ∙ rw none (ap Err (sym is))
 fault_read bytes e (other_line readable line rest lines other is) =
     let head : is_head line.1 ≡ false = bool_false (is_head line.1) (λ h. other (head_is line.1 h)) in

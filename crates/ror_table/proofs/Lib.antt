@@ -1,9 +1,11 @@
 pub mod LevelLemmas
 pub mod RankLemmas
+pub mod NameLemmas
 pub mod DraftLemmas
 pub mod RowLemmas
 pub mod IndexLemmas
 pub mod PlainLemmas
 pub mod LineSteps
 pub mod GrammarLemmas
+pub mod LineFaultLemmas
 pub mod FaultLemmas

@@ -10,7 +10,7 @@ use Rattle.std.proofs.lemmas.Bool.{ltb-false, leb-true, le-ltb, leb-false, lt-le
 use Rattle.std.proofs.lemmas.Slice.Eq.{bytes_eq-Decides}
 use Rattle.ror_text.specs.Ids.{is_id, IsId}
 use Rattle.ror_text.specs.Lines.{has_control, is_control}
-use Rattle.ror_text.specs.Numbers.{performance_of, count_of, digits_up_to, is_digits, digits_number, negative}
+use Rattle.ror_text.specs.Numbers.{read_performance, count_of, digits_up_to, is_digits, digits_number, negative}
 use Rattle.ror_text.proofs.Digits.{up_to_small}
 use Rattle.std.proofs.lemmas.List.Elements.{All-cons}
 use Rattle.ror_text.specs.Reading.{◌>>=◌, refuse, need}
@@ -20,39 +20,40 @@ use Rattle.ror_table.specs.declared.direction.Direction.TheVariants.{Max, Min}
 use Rattle.ror_table.specs.declared.fault.TableFault.{TableFault}
 use Rattle.ror_table.specs.declared.fault.TableKind.TheVariants.{BadLine, RepeatedId, MissingPerformance, BadNumber, TooMany}
 use Rattle.ror_table.specs.declared.fault.What.TheVariants.{Alternatives, Criteria, Classes}
+use Rattle.ror_table.specs.declared.limits.TheConstants.{MOST_ALTERNATIVES, MOST_CLASSES, MOST_CRITERIA}
 use Rattle.ror_table.specs.Table.{Criterion, Alternative, DecisionTable, criterion_ids, alternative_ids}
-use Rattle.ror_table.specs.Draft.{has_id, add_criterion, add_alternative}
-use Rattle.ror_table.specs.Plain.{at_line, word_at, direction_of, performances_of, is_past_criteria, criterion_line, classes_line, alternative_line, known_line, table_line}
-use Rattle.ror_table.specs.Grammar.{Words, direction_word, criterion_words, WritesAlternative}
+use Rattle.ror_table.specs.Draft.{has_id, add_criterion, add_alternative, with_criterion}
+use Rattle.ror_table.specs.Plain.{at_line, direction_of, performances_of, is_past_criteria, criterion_line, classes_line, alternative_line, known_line, body_line}
+use Rattle.ror_table.specs.Grammar.{word_at, LineWords, direction_word, criterion_words, WritesAlternative}
 
 -- ---- what a line adds
 
-pub record AddsCriterion (t : DecisionTable) (line : Words) (t' : DecisionTable) : Type 0 where
+pub record AddsCriterion (t : DecisionTable) (line : LineWords) (t' : DecisionTable) : Type 0 where
   pub criterion : Criterion
   pub is : line ≡ criterion_words criterion
   pub valid : IsId criterion.id
   pub fresh : has_id (criterion_ids t) criterion.id ≡ false
-  pub room : length t.criteria < 64
+  pub room : length t.criteria < MOST_CRITERIA
   pub early : is_past_criteria t ≡ false
   pub becomes : add_criterion t criterion.id criterion.direction ≡ t'
 
-pub record SetsClasses (t : DecisionTable) (line : Words) (t' : DecisionTable) : Type 0 where
+pub record SetsClasses (t : DecisionTable) (line : LineWords) (t' : DecisionTable) : Type 0 where
   pub word : List ℕ
   pub count : ℕ
   pub is : line ≡ codes "classes" ∷ word ∷ []
   pub written : count_of word ≡ Some count
   pub some : 0 < count
-  pub few : count ≤ 100
+  pub few : count ≤ MOST_CLASSES
   pub early : is_past_criteria t ≡ false
   pub becomes : record t { classes = count } ≡ t'
 
-pub record AddsAlternative (t : DecisionTable) (line : Words) (t' : DecisionTable) : Type 0 where
+pub record AddsAlternative (t : DecisionTable) (line : LineWords) (t' : DecisionTable) : Type 0 where
   pub alternative : Alternative
   pub writes : WritesAlternative line alternative
   pub valid : IsId alternative.id
   pub fresh : has_id (alternative_ids t) alternative.id ≡ false
   pub width : length alternative.performances ≡ length t.criteria
-  pub room : length t.alternatives < 200
+  pub room : length t.alternatives < MOST_ALTERNATIVES
   pub becomes : add_alternative t alternative.id alternative.performances ≡ t'
 
 -- ---- words
@@ -63,20 +64,20 @@ is_word a b h = (bytes_eq-Decides a b).0 h
 same_word : (a : List ℕ) → bytes_eq a a ≡ true
 same_word a = (bytes_eq-Decides a a).1 refl
 
-pub two_words : (line : Words) → eqb (length line) 2 ≡ true → line ≡ word_at line 0 ∷ word_at line 1 ∷ []
+pub two_words : (line : LineWords) → eqb (length line) 2 ≡ true → line ≡ word_at line 0 ∷ word_at line 1 ∷ []
 two_words [] h = absurd cc
 two_words (a ∷ []) h = absurd cc
 two_words (a ∷ b ∷ []) h = refl
 two_words (a ∷ b ∷ c ∷ more) h = absurd (omega (arith, eqb-true (length (a ∷ b ∷ c ∷ more)) 2 h))
 
-three_words : (line : Words) → eqb (length line) 3 ≡ true → line ≡ word_at line 0 ∷ word_at line 1 ∷ word_at line 2 ∷ []
+pub three_words : (line : LineWords) → eqb (length line) 3 ≡ true → line ≡ word_at line 0 ∷ word_at line 1 ∷ word_at line 2 ∷ []
 three_words [] h = absurd cc
 three_words (a ∷ []) h = absurd cc
 three_words (a ∷ b ∷ []) h = absurd cc
 three_words (a ∷ b ∷ c ∷ []) h = refl
 three_words (a ∷ b ∷ c ∷ d ∷ more) h = absurd (omega (arith, eqb-true (length (a ∷ b ∷ c ∷ d ∷ more)) 3 h))
 
-two_and_more : (line : Words) → ltb (length line) 2 ≡ false → line ≡ word_at line 0 ∷ word_at line 1 ∷ drop 2 line
+pub two_and_more : (line : LineWords) → ltb (length line) 2 ≡ false → line ≡ word_at line 0 ∷ word_at line 1 ∷ drop 2 line
 two_and_more [] h = absurd cc
 two_and_more (a ∷ []) h = absurd cc
 two_and_more (a ∷ b ∷ more) h = refl
@@ -90,10 +91,10 @@ direction_by word d true b max min h = let same : Max ≡ d = cc in is_word word
 direction_by word d false true max min h = let same : Min ≡ d = cc in is_word word (codes "min") min ∙ ap direction_word same
 direction_by word d false false max min h = absurd cc
 
-direction_of_word : (word : List ℕ) (d : Direction) → direction_of word ≡ Some d → word ≡ direction_word d
+pub direction_of_word : (word : List ℕ) (d : Direction) → direction_of word ≡ Some d → word ≡ direction_word d
 direction_of_word word d h = direction_by word d (bytes_eq word (codes "max")) (bytes_eq word (codes "min")) refl refl h
 
-direction_of-direction_word : (d : Direction) → direction_of (direction_word d) ≡ Some d
+pub direction_of-direction_word : (d : Direction) → direction_of (direction_word d) ≡ Some d
 direction_of-direction_word Max = refl
 direction_of-direction_word Min = refl
 
@@ -107,23 +108,23 @@ then_some : (p : ℤ) (o : Option (List ℤ)) (ps : List ℤ) → option_map (λ
 then_some p None ps h = absurd cc
 then_some p (Some more) ps h = (more, refl, cc)
 
-abbrev pub AreWritten : Words → List ℤ → Type 0
-AreWritten words ps = AllZip (λ word p. performance_of word ≡ Some p) words ps
+abbrev pub AreWritten : LineWords → List ℤ → Type 0
+AreWritten words ps = AllZip (λ word p. read_performance word ≡ Some p) words ps
 
-pub are_written : (words : Words) (ps : List ℤ) → performances_of words ≡ Some ps → AreWritten words ps
+pub are_written : (words : LineWords) (ps : List ℤ) → performances_of words ≡ Some ps → AreWritten words ps
 are_written [] ps h = let none : ps ≡ [] = cc in subst (AreWritten []) (sym none) tt
 are_written (word ∷ words) ps h =
-    let a = first_some (performance_of word) (λ p. option_map (λ more. p ∷ more) (performances_of words)) ps h in
+    let a = first_some (read_performance word) (λ p. option_map (λ more. p ∷ more) (performances_of words)) ps h in
     let b = then_some a.0 (performances_of words) ps a.2 in
     subst (AreWritten (word ∷ words)) (sym b.2) (a.1, are_written words b.0 b.1)
 
-pub written_are : (words : Words) (ps : List ℤ) → AreWritten words ps → performances_of words ≡ Some ps
+pub written_are : (words : LineWords) (ps : List ℤ) → AreWritten words ps → performances_of words ≡ Some ps
 written_are [] [] h = refl
 written_are [] (p ∷ ps) h = absurd h
 written_are (word ∷ words) [] h = absurd h
 written_are (word ∷ words) (p ∷ ps) h = rw (h.0, written_are words ps h.1) refl
 
-pub length-written : (words : Words) (ps : List ℤ) → AreWritten words ps → length words ≡ length ps
+pub length-written : (words : LineWords) (ps : List ℤ) → AreWritten words ps → length words ≡ length ps
 length-written [] [] h = refl
 length-written [] (p ∷ ps) h = absurd h
 length-written (word ∷ words) [] h = absurd h
@@ -170,8 +171,8 @@ sign_visible sign digits p false true a b h =
     or_both (is_control sign) (list_any is_control digits) (ap is_control (eqb-true sign 45 b)) (up_to_visible 18 digits n.0 n.1)
 sign_visible sign digits p false false a b h = let n = mapped pos (digits_up_to 18 (sign ∷ digits)) p h in up_to_visible 18 (sign ∷ digits) n.0 n.1
 
-performance_visible : (word : List ℕ) (p : ℤ) → performance_of word ≡ Some p → list_any is_control word ≡ false
-unfolding performance_of
+performance_visible : (word : List ℕ) (p : ℤ) → read_performance word ≡ Some p → list_any is_control word ≡ false
+unfolding read_performance
 performance_visible [] p h = refl
 performance_visible (sign ∷ digits) p h = sign_visible sign digits p (eqb sign 43) (eqb sign 45) refl refl h
 
@@ -179,7 +180,7 @@ count_visible : (word : List ℕ) (n : ℕ) → count_of word ≡ Some n → lis
 unfolding count_of
 count_visible word n h = up_to_visible 9 word n h
 
-written_visible : (words : Words) (ps : List ℤ) → AreWritten words ps → has_control words ≡ false
+written_visible : (words : LineWords) (ps : List ℤ) → AreWritten words ps → has_control words ≡ false
 written_visible [] ps h = refl
 written_visible (word ∷ words) [] h = absurd h
 written_visible (word ∷ words) (p ∷ ps) h = or_both (list_any is_control word) (has_control words) (performance_visible word p h.0) (written_visible words ps h.1)
@@ -216,12 +217,12 @@ sign_bounded sign digits p false false h =
     let n = mapped pos (digits_up_to 18 (sign ∷ digits)) p h in
     subst (λ z. unsigned_abs z < 10 ^ 18) n.2 (up_to_below 18 (sign ∷ digits) n.0 n.1)
 
-performance_bounded : (word : List ℕ) (p : ℤ) → performance_of word ≡ Some p → unsigned_abs p < 10 ^ 18
-unfolding performance_of
+performance_bounded : (word : List ℕ) (p : ℤ) → read_performance word ≡ Some p → unsigned_abs p < 10 ^ 18
+unfolding read_performance
 performance_bounded [] p h = absurd cc
 performance_bounded (sign ∷ digits) p h = sign_bounded sign digits p (eqb sign 43) (eqb sign 45) h
 
-pub written_bounded : (words : Words) (ps : List ℤ) → AreWritten words ps → All (λ p. unsigned_abs p < 10 ^ 18) ps
+pub written_bounded : (words : LineWords) (ps : List ℤ) → AreWritten words ps → All (λ p. unsigned_abs p < 10 ^ 18) ps
 written_bounded [] [] h = λ k d lt. absurd (omega arith)
 written_bounded [] (p ∷ ps) h = absurd h
 written_bounded (word ∷ words) [] h = absurd h
@@ -229,42 +230,42 @@ written_bounded (word ∷ words) (p ∷ ps) h = All-cons (λ x. unsigned_abs x <
 
 -- ---- a line of criteria
 
-criterion_tests : (f g h : TableFault) (b1 b2 : Bool) (o : Option Direction) (b3 b4 b5 : Bool) (k : Direction → DecisionTable) (t' : DecisionTable)
-    → (refuse f b1 >>= λ _. refuse f b2 >>= λ _. need f o >>= λ d. refuse f b3 >>= λ _. refuse g b4 >>= λ _. refuse h b5 >>= λ _. Ok (k d)) ≡ Ok t'
-    → (d : Direction) × (b1 ≡ false) × (b2 ≡ false) × (o ≡ Some d) × (b3 ≡ false) × (b4 ≡ false) × (b5 ≡ false) × (k d ≡ t')
-criterion_tests f g h true b2 o b3 b4 b5 k t' e = absurd cc
-criterion_tests f g h false true o b3 b4 b5 k t' e = absurd cc
-criterion_tests f g h false false None b3 b4 b5 k t' e = absurd cc
-criterion_tests f g h false false (Some d) true b4 b5 k t' e = absurd cc
-criterion_tests f g h false false (Some d) false true b5 k t' e = absurd cc
-criterion_tests f g h false false (Some d) false false true k t' e = absurd cc
-criterion_tests f g h false false (Some d) false false false k t' e = (d, refl, refl, refl, refl, refl, refl, cc)
+criterion_tests : (f g h : TableFault) (b1 : Bool) (o : Option Direction) (b2 b3 b4 b5 : Bool) (k : Direction → DecisionTable) (t' : DecisionTable)
+    → (refuse f b1 >>= λ _. need f o >>= λ d. refuse f b2 >>= λ _. (refuse f b3 >>= λ _. refuse g b4) >>= λ _. refuse h b5 >>= λ _. Ok (k d)) ≡ Ok t'
+    → (d : Direction) × (b1 ≡ false) × (o ≡ Some d) × (b2 ≡ false) × (b3 ≡ false) × (b4 ≡ false) × (b5 ≡ false) × (k d ≡ t')
+criterion_tests f g h true o b2 b3 b4 b5 k t' e = absurd cc
+criterion_tests f g h false None b2 b3 b4 b5 k t' e = absurd cc
+criterion_tests f g h false (Some d) true b3 b4 b5 k t' e = absurd cc
+criterion_tests f g h false (Some d) false true b4 b5 k t' e = absurd cc
+criterion_tests f g h false (Some d) false false true b5 k t' e = absurd cc
+criterion_tests f g h false (Some d) false false false true k t' e = absurd cc
+criterion_tests f g h false (Some d) false false false false k t' e = (d, refl, refl, refl, refl, refl, refl, cc)
 
-criterion_line_adds : (line : ℕ) (t : DecisionTable) (words : Words) (t' : DecisionTable) → bytes_eq (word_at words 0) (codes "criterion") ≡ true → criterion_line line t words ≡ Ok t' → AddsCriterion t words t'
-unfolding criterion_line
+criterion_line_adds : (line : ℕ) (t : DecisionTable) (words : LineWords) (t' : DecisionTable) → bytes_eq (word_at words 0) (codes "criterion") ≡ true → criterion_line line t words ≡ Ok t' → AddsCriterion t words t'
+unfolding criterion_line with_criterion
 criterion_line_adds line t words t' first e =
     let id : List ℕ = word_at words 1 in
-    let r = criterion_tests (at_line line BadLine) (at_line line RepeatedId) (at_line line (TooMany Criteria)) (not (eqb (length words) 3)) (not (is_id id)) (direction_of (word_at words 2)) (is_past_criteria t) (has_id (criterion_ids t) id) (leb 64 (length t.criteria)) (λ d. add_criterion t id d) t' e in
+    let r = criterion_tests (at_line line BadLine) (at_line line RepeatedId) (at_line line (TooMany Criteria)) (not (eqb (length words) 3)) (direction_of (word_at words 2)) (is_past_criteria t) (not (is_id id)) (has_id (criterion_ids t) id) (leb MOST_CRITERIA (length t.criteria)) (λ d. add_criterion t id d) t' e in
     let parts = three_words words (not_false (eqb (length words) 3) r.1) in
     let name : word_at words 0 ≡ codes "criterion" = is_word (word_at words 0) (codes "criterion") first in
-    let direction : word_at words 2 ≡ direction_word r.0 = direction_of_word (word_at words 2) r.0 r.3 in
+    let direction : word_at words 2 ≡ direction_word r.0 = direction_of_word (word_at words 2) r.0 r.2 in
     record {
       criterion = record { id = id; direction = r.0 };
       is = parts ∙ ap (λ (w : List ℕ). w ∷ id ∷ word_at words 2 ∷ []) name ∙ ap (λ (w : List ℕ). codes "criterion" ∷ id ∷ w ∷ []) direction;
-      valid = not_false (is_id id) r.2;
+      valid = not_false (is_id id) r.4;
       fresh = r.5;
-      room = leb-false 64 (length t.criteria) r.6;
-      early = r.4;
+      room = leb-false MOST_CRITERIA (length t.criteria) r.6;
+      early = r.3;
       becomes = r.7;
     }
 
-adds_criterion_line : (line : ℕ) (t : DecisionTable) (words : Words) (t' : DecisionTable) → AddsCriterion t words t' → table_line t (line, words) ≡ Ok t'
-unfolding table_line known_line criterion_line
+adds_criterion_line : (line : ℕ) (t : DecisionTable) (words : LineWords) (t' : DecisionTable) → AddsCriterion t words t' → body_line t (line, words) ≡ Ok t'
+unfolding body_line known_line criterion_line with_criterion
 adds_criterion_line line t words t' adds =
     let c = adds.criterion in
     let visible : list_any is_control c.id ≡ false = (IsId-form c.id adds.valid).visible in
-    let full : leb 64 (length t.criteria) ≡ false = lt-leb _ _ adds.room in
-    ap (λ (w : Words). table_line t (line, w)) adds.is ∙ rw (visible, direction_visible c.direction, adds.valid, direction_of-direction_word c.direction, adds.early, adds.fresh, full) (ap Ok adds.becomes)
+    let full : leb MOST_CRITERIA (length t.criteria) ≡ false = lt-leb _ _ adds.room in
+    ap (λ (w : LineWords). body_line t (line, w)) adds.is ∙ rw (visible, direction_visible c.direction, adds.valid, direction_of-direction_word c.direction, adds.early, adds.fresh, full) (ap Ok adds.becomes)
 
 -- ---- a line of classes
 
@@ -281,10 +282,10 @@ classes_tests f g h false true o b3 b4 k t' e = absurd cc
 classes_tests f g h false false None b3 b4 k t' e = absurd cc
 classes_tests f g h false false (Some n) b3 b4 k t' e = let r = two_tests g h (b3 n) (b4 n) (k n) t' e in (n, refl, refl, refl, r.0, r.1, r.2)
 
-classes_line_sets : (line : ℕ) (t : DecisionTable) (words : Words) (t' : DecisionTable) → bytes_eq (word_at words 0) (codes "classes") ≡ true → classes_line line t words ≡ Ok t' → SetsClasses t words t'
+classes_line_sets : (line : ℕ) (t : DecisionTable) (words : LineWords) (t' : DecisionTable) → bytes_eq (word_at words 0) (codes "classes") ≡ true → classes_line line t words ≡ Ok t' → SetsClasses t words t'
 unfolding classes_line
 classes_line_sets line t words t' first e =
-    let r = classes_tests (at_line line BadLine) (at_line line BadNumber) (at_line line (TooMany Classes)) (not (eqb (length words) 2)) (is_past_criteria t) (count_of (word_at words 1)) (λ n. eqb n 0) (λ n. ltb 100 n) (λ n. record t { classes = n }) t' e in
+    let r = classes_tests (at_line line BadLine) (at_line line BadNumber) (at_line line (TooMany Classes)) (not (eqb (length words) 2)) (is_past_criteria t) (count_of (word_at words 1)) (λ n. eqb n 0) (λ n. ltb MOST_CLASSES n) (λ n. record t { classes = n }) t' e in
     let name : word_at words 0 ≡ codes "classes" = is_word (word_at words 0) (codes "classes") first in
     let positive : r.0 ≢ 0 = eqb-false r.0 0 r.4 in
     record {
@@ -293,22 +294,22 @@ classes_line_sets line t words t' first e =
       is = two_words words (not_false (eqb (length words) 2) r.1) ∙ ap (λ (w : List ℕ). w ∷ word_at words 1 ∷ []) name;
       written = r.3;
       some = omega arith;
-      few = ltb-false 100 r.0 r.5;
+      few = ltb-false MOST_CLASSES r.0 r.5;
       early = r.2;
       becomes = r.6;
     }
 
-sets_classes_line : (line : ℕ) (t : DecisionTable) (words : Words) (t' : DecisionTable) → SetsClasses t words t' → table_line t (line, words) ≡ Ok t'
-unfolding table_line known_line classes_line
+sets_classes_line : (line : ℕ) (t : DecisionTable) (words : LineWords) (t' : DecisionTable) → SetsClasses t words t' → body_line t (line, words) ≡ Ok t'
+unfolding body_line known_line classes_line
 sets_classes_line line t words t' sets =
     let positive : eqb sets.count 0 ≡ false = ne_eqb sets.count 0 (λ (e : sets.count ≡ 0). omega (arith, sets.some)) in
-    let few : ltb 100 sets.count ≡ false = le-ltb 100 sets.count sets.few in
-    ap (λ (w : Words). table_line t (line, w)) sets.is ∙ rw (count_visible sets.word sets.count sets.written, sets.early, sets.written, positive, few) (ap Ok sets.becomes)
+    let few : ltb MOST_CLASSES sets.count ≡ false = le-ltb MOST_CLASSES sets.count sets.few in
+    ap (λ (w : LineWords). body_line t (line, w)) sets.is ∙ rw (count_visible sets.word sets.count sets.written, sets.early, sets.written, positive, few) (ap Ok sets.becomes)
 
 -- ---- a line of an alternative
 
 alternative_tests : (f g h m n : TableFault) (b1 b2 b3 b4 b5 : Bool) (o : Option (List ℤ)) (b6 : Bool) (k : List ℤ → DecisionTable) (t' : DecisionTable)
-    → (refuse f b1 >>= λ _. refuse f b2 >>= λ _. refuse f b3 >>= λ _. refuse g b4 >>= λ _. refuse h b5 >>= λ _. need m o >>= λ ps. refuse n b6 >>= λ _. Ok (k ps)) ≡ Ok t'
+    → (refuse f b1 >>= λ _. refuse f b2 >>= λ _. (refuse f b3 >>= λ _. refuse g b4) >>= λ _. refuse h b5 >>= λ _. need m o >>= λ ps. refuse n b6 >>= λ _. Ok (k ps)) ≡ Ok t'
     → (ps : List ℤ) × (b1 ≡ false) × (b2 ≡ false) × (b3 ≡ false) × (b4 ≡ false) × (b5 ≡ false) × (o ≡ Some ps) × (b6 ≡ false) × (k ps ≡ t')
 alternative_tests f g h m n true b2 b3 b4 b5 o b6 k t' e = absurd cc
 alternative_tests f g h m n false true b3 b4 b5 o b6 k t' e = absurd cc
@@ -319,12 +320,12 @@ alternative_tests f g h m n false false false false false None b6 k t' e = absur
 alternative_tests f g h m n false false false false false (Some ps) true k t' e = absurd cc
 alternative_tests f g h m n false false false false false (Some ps) false k t' e = (ps, refl, refl, refl, refl, refl, refl, refl, cc)
 
-alternative_line_adds : (line : ℕ) (t : DecisionTable) (words : Words) (t' : DecisionTable) → bytes_eq (word_at words 0) (codes "alternative") ≡ true → alternative_line line t words ≡ Ok t' → AddsAlternative t words t'
+alternative_line_adds : (line : ℕ) (t : DecisionTable) (words : LineWords) (t' : DecisionTable) → bytes_eq (word_at words 0) (codes "alternative") ≡ true → alternative_line line t words ≡ Ok t' → AddsAlternative t words t'
 unfolding alternative_line
 alternative_line_adds line t words t' first e =
     let id : List ℕ = word_at words 1 in
     let due : ℕ = length t.criteria + 2 in
-    let r = alternative_tests (at_line line BadLine) (at_line line RepeatedId) (at_line line MissingPerformance) (at_line line BadNumber) (at_line line (TooMany Alternatives)) (ltb (length words) 2) (ltb due (length words)) (not (is_id id)) (has_id (alternative_ids t) id) (ltb (length words) due) (performances_of (drop 2 words)) (leb 200 (length t.alternatives)) (λ ps. add_alternative t id ps) t' e in
+    let r = alternative_tests (at_line line BadLine) (at_line line RepeatedId) (at_line line MissingPerformance) (at_line line BadNumber) (at_line line (TooMany Alternatives)) (ltb (length words) 2) (ltb due (length words)) (not (is_id id)) (has_id (alternative_ids t) id) (ltb (length words) due) (performances_of (drop 2 words)) (leb MOST_ALTERNATIVES (length t.alternatives)) (λ ps. add_alternative t id ps) t' e in
     let parts = two_and_more words r.1 in
     let name : word_at words 0 ≡ codes "alternative" = is_word (word_at words 0) (codes "alternative") first in
     let written = are_written (drop 2 words) r.0 r.6 in
@@ -335,31 +336,31 @@ alternative_line_adds line t words t' first e =
       valid = not_false (is_id id) r.3;
       fresh = r.4;
       width = omega (arith, length-written (drop 2 words) r.0 written, length-drop 2 words);
-      room = leb-false 200 (length t.alternatives) r.7;
+      room = leb-false MOST_ALTERNATIVES (length t.alternatives) r.7;
       becomes = r.8;
     }
 
-adds_alternative_line : (line : ℕ) (t : DecisionTable) (words : Words) (t' : DecisionTable) → AddsAlternative t words t' → table_line t (line, words) ≡ Ok t'
-unfolding table_line known_line alternative_line
+adds_alternative_line : (line : ℕ) (t : DecisionTable) (words : LineWords) (t' : DecisionTable) → AddsAlternative t words t' → body_line t (line, words) ≡ Ok t'
+unfolding body_line known_line alternative_line
 adds_alternative_line line t words t' adds =
     let a = adds.alternative in
     let numbers = adds.writes.numbers in
     let long : length numbers ≡ length t.criteria = length-written numbers a.performances adds.writes.written ∙ adds.width in
     let visible : list_any is_control a.id ≡ false = (IsId-form a.id adds.valid).visible in
-    let full : leb 200 (length t.alternatives) ≡ false = lt-leb _ _ adds.room in
+    let full : leb MOST_ALTERNATIVES (length t.alternatives) ≡ false = lt-leb _ _ adds.room in
     let some : ltb (suc (suc (length numbers))) 2 ≡ false = le-ltb _ _ (omega arith) in
     let not_more : ltb (length t.criteria + 2) (suc (suc (length numbers))) ≡ false = le-ltb _ _ (omega arith) in
     let not_less : ltb (suc (suc (length numbers))) (length t.criteria + 2) ≡ false = le-ltb _ _ (omega arith) in
-    ap (λ (w : Words). table_line t (line, w)) adds.writes.is ∙ rw (visible, written_visible numbers a.performances adds.writes.written, some, not_more, adds.valid, adds.fresh, not_less, written_are numbers a.performances adds.writes.written, full) (ap Ok adds.becomes)
+    ap (λ (w : LineWords). body_line t (line, w)) adds.writes.is ∙ rw (visible, written_visible numbers a.performances adds.writes.written, some, not_more, adds.valid, adds.fresh, not_less, written_are numbers a.performances adds.writes.written, full) (ap Ok adds.becomes)
 
 -- ---- any line
 
-pub data Adds (t : DecisionTable) (line : Words) (t' : DecisionTable) : Type 0 where
+pub data Adds (t : DecisionTable) (line : LineWords) (t' : DecisionTable) : Type 0 where
   a_criterion : AddsCriterion t line t' → Adds t line t'
   the_classes : SetsClasses t line t' → Adds t line t'
   an_alternative : AddsAlternative t line t' → Adds t line t'
 
-known_by : (line : ℕ) (t : DecisionTable) (words : Words) (t' : DecisionTable) (b1 b2 b3 : Bool) → bytes_eq (word_at words 0) (codes "criterion") ≡ b1 → bytes_eq (word_at words 0) (codes "classes") ≡ b2 → bytes_eq (word_at words 0) (codes "alternative") ≡ b3
+known_by : (line : ℕ) (t : DecisionTable) (words : LineWords) (t' : DecisionTable) (b1 b2 b3 : Bool) → bytes_eq (word_at words 0) (codes "criterion") ≡ b1 → bytes_eq (word_at words 0) (codes "classes") ≡ b2 → bytes_eq (word_at words 0) (codes "alternative") ≡ b3
     → cond b1 (criterion_line line t words) (cond b2 (classes_line line t words) (cond b3 (alternative_line line t words) (Err (at_line line BadLine)))) ≡ Ok t' → Adds t words t'
 known_by line t words t' true b2 b3 p q r e = a_criterion (criterion_line_adds line t words t' p e)
 known_by line t words t' false true b3 p q r e = the_classes (classes_line_sets line t words t' q e)
@@ -371,13 +372,13 @@ after_refuse f true r t' e = absurd cc
 after_refuse f false r t' e = (refl, e)
 
 -- reading a line is adding it
-pub table_line_adds : (line : ℕ) (t : DecisionTable) (words : Words) (t' : DecisionTable) → table_line t (line, words) ≡ Ok t' → Adds t words t'
-unfolding table_line known_line
-table_line_adds line t words t' e =
+pub body_line_adds : (line : ℕ) (t : DecisionTable) (words : LineWords) (t' : DecisionTable) → body_line t (line, words) ≡ Ok t' → Adds t words t'
+unfolding body_line known_line
+body_line_adds line t words t' e =
     let known = after_refuse (at_line line BadLine) (has_control words) (known_line line t words) t' e in
     known_by line t words t' (bytes_eq (word_at words 0) (codes "criterion")) (bytes_eq (word_at words 0) (codes "classes")) (bytes_eq (word_at words 0) (codes "alternative")) refl refl refl known.1
 
-pub adds_table_line : (line : ℕ) (t : DecisionTable) (words : Words) (t' : DecisionTable) → Adds t words t' → table_line t (line, words) ≡ Ok t'
-adds_table_line line t words t' (a_criterion adds) = adds_criterion_line line t words t' adds
-adds_table_line line t words t' (the_classes sets) = sets_classes_line line t words t' sets
-adds_table_line line t words t' (an_alternative adds) = adds_alternative_line line t words t' adds
+pub adds_body_line : (line : ℕ) (t : DecisionTable) (words : LineWords) (t' : DecisionTable) → Adds t words t' → body_line t (line, words) ≡ Ok t'
+adds_body_line line t words t' (a_criterion adds) = adds_criterion_line line t words t' adds
+adds_body_line line t words t' (the_classes sets) = sets_classes_line line t words t' sets
+adds_body_line line t words t' (an_alternative adds) = adds_alternative_line line t words t' adds

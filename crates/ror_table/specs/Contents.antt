@@ -13,4 +13,10 @@ abbrev pub alternative_of : String Global × Vec ℤ → Alternative
 alternative_of e = record { id = string_bytes e.0; performances = e.1.items }
 
 abbrev pub contents : Inside → DecisionTable
-contents d = record { criteria = map criterion_of d.criteria.entries; alternatives = map alternative_of d.alternatives.entries; classes = d.classes }
+contents d =
+    record {
+      criteria = map criterion_of d.criteria.entries;
+      alternatives =
+          map alternative_of d.alternatives.entries;
+      classes = d.classes;
+    }

@@ -1,45 +1,48 @@
 -- The first fault of a plain table's text, in the words of the grammar.
-use Rattle.std.specs.Prelude.{◌≡◌, ◌≢◌, ◌⊎◌, ℕ, ◌<◌, ◌≤◌, List, [], ◌∷◌, ◌++◌, length, map, codes, Err}
+use Rattle.std.specs.Prelude.{◌≡◌, ◌≢◌, ◌⊎◌, ℕ, ◌<◌, ◌≤◌, List, [], ◌∷◌, ◌++◌, length, map, codes}
 use Rattle.std.specs.Str.{IsUtf8}
+use Rattle.ror_text.specs.declared.lines.TheConstants.{MOST_TEXT_BYTES}
 use Rattle.ror_text.specs.Lines.{numbered_lines, bad_utf8_line}
+use Rattle.ror_table.specs.declared.limits.TheConstants.{MOST_STEPS}
 use Rattle.ror_table.specs.declared.fault.What.TheVariants.{Steps}
 use Rattle.ror_table.specs.declared.fault.TableKind.TheVariants.{Form, NotUtf8, Empty, TooMany, TooLong}
 use Rattle.ror_table.specs.declared.fault.TableFault.{TableFault}
 use Rattle.ror_table.specs.Table.{DecisionTable, columns}
 use Rattle.ror_table.specs.Draft.{IsDraft}
-use Rattle.ror_table.specs.Plain.{at_line, table_line}
-use Rattle.ror_table.specs.Grammar.{Words, WritesTable}
+use Rattle.ror_table.specs.Plain.{at_line}
+use Rattle.ror_table.specs.Grammar.{LineWords, WritesTable}
+use Rattle.ror_table.specs.LineFaults.{IsFirstOfLine}
 
--- the lines write a table so far
-pub record HasRead (lines : List Words) (t : DecisionTable) : Type 0 where
+-- the lines write a table, if not a whole one
+pub record HasRead (lines : List LineWords) (t : DecisionTable) : Type 0 where
   pub writes : WritesTable lines t
   pub draft : IsDraft t
 
--- the lines before one write a table so far, to which this one, by its number, cannot be added
-pub record IsFaultOfLine (lines : List (ℕ × Words)) (fault : TableFault) : Type 0 where
-  pub before : List (ℕ × Words)
-  pub line : ℕ × Words
-  pub after : List (ℕ × Words)
+-- the lines before one write a table, to which this one, by its number, cannot be added, and why
+pub record IsFaultOfLine (lines : List (ℕ × LineWords)) (fault : TableFault) : Type 0 where
+  pub before : List (ℕ × LineWords)
+  pub line : ℕ × LineWords
+  pub after : List (ℕ × LineWords)
   pub reached : DecisionTable
   pub is : lines ≡ before ++ line ∷ after
   pub reads : HasRead (map (λ l. l.1) before) reached
-  pub fails : table_line reached line ≡ Err fault
+  pub first : IsFirstOfLine reached line.1 fault.kind
   pub number : fault.line ≡ line.0
 
 -- the bytes are within the limit, and a text
 pub record IsReadable (bytes : List ℕ) : Type 0 where
-  pub short : length bytes ≤ 16777216
+  pub short : length bytes ≤ MOST_TEXT_BYTES
   pub utf8 : IsUtf8 bytes
 
 -- the first line that is not passed over is `ror-table 1`, and these are the others
-pub record BeginsTable (bytes : List ℕ) (rest : List (ℕ × Words)) : Type 0 where
+pub record BeginsTable (bytes : List ℕ) (rest : List (ℕ × LineWords)) : Type 0 where
   pub readable : IsReadable bytes
   pub number : ℕ
   pub is : numbered_lines bytes ≡ (number, codes "ror-table" ∷ codes "1" ∷ []) ∷ rest
 
 -- all lines are read, and what they write is no table
 pub record IsFaultOfWhole (bytes : List ℕ) (Lacks : DecisionTable → Type 0) : Type 0 where
-  pub rest : List (ℕ × Words)
+  pub rest : List (ℕ × LineWords)
   pub begins : BeginsTable bytes rest
   pub table : DecisionTable
   pub reads : HasRead (map (λ l. l.1) rest) table
@@ -50,10 +53,17 @@ IsEmpty t = (t.criteria ≡ []) ⊎ (t.alternatives ≡ [])
 
 -- the fault is the first that the bytes have
 pub data IsFirstFaultOf (bytes : List ℕ) (fault : TableFault) : Type 0 where
-  too_long : 16777216 < length bytes → fault ≡ at_line 0 TooLong → IsFirstFaultOf bytes fault
-  not_utf8 : length bytes ≤ 16777216 → (IsUtf8 bytes → ⊥) → fault ≡ at_line (bad_utf8_line bytes) NotUtf8 → IsFirstFaultOf bytes fault
-  no_line : IsReadable bytes → numbered_lines bytes ≡ [] → fault ≡ at_line 1 Form → IsFirstFaultOf bytes fault
-  other_line : IsReadable bytes → (line : ℕ × Words) → (rest : List (ℕ × Words)) → numbered_lines bytes ≡ line ∷ rest → line.1 ≢ codes "ror-table" ∷ codes "1" ∷ [] → fault ≡ at_line line.0 Form → IsFirstFaultOf bytes fault
-  in_line : (rest : List (ℕ × Words)) → BeginsTable bytes rest → IsFaultOfLine rest fault → IsFirstFaultOf bytes fault
-  nothing_there : IsFaultOfWhole bytes IsEmpty → fault ≡ at_line 0 Empty → IsFirstFaultOf bytes fault
-  too_many_steps : IsFaultOfWhole bytes (λ t. (IsEmpty t → ⊥) × (2000 < columns t)) → fault ≡ at_line 0 (TooMany Steps) → IsFirstFaultOf bytes fault
+  too_long : MOST_TEXT_BYTES < length bytes → fault ≡ at_line 0 TooLong → IsFirstFaultOf bytes fault
+  not_utf8 : length bytes ≤ MOST_TEXT_BYTES → (IsUtf8 bytes → ⊥)
+      → fault ≡ at_line (bad_utf8_line bytes) NotUtf8 → IsFirstFaultOf bytes fault
+  no_line : IsReadable bytes → numbered_lines bytes ≡ [] → fault ≡ at_line 1 Form
+      → IsFirstFaultOf bytes fault
+  other_line : IsReadable bytes → (line : ℕ × LineWords) → (rest : List (ℕ × LineWords))
+      → numbered_lines bytes ≡ line ∷ rest → line.1 ≢ codes "ror-table" ∷ codes "1" ∷ []
+      → fault ≡ at_line line.0 Form → IsFirstFaultOf bytes fault
+  in_line : (rest : List (ℕ × LineWords)) → BeginsTable bytes rest → IsFaultOfLine rest fault
+      → IsFirstFaultOf bytes fault
+  nothing_there : IsFaultOfWhole bytes IsEmpty → fault ≡ at_line 0 Empty
+      → IsFirstFaultOf bytes fault
+  too_many_steps : IsFaultOfWhole bytes (λ t. (IsEmpty t → ⊥) × (MOST_STEPS < columns t))
+      → fault ≡ at_line 0 (TooMany Steps) → IsFirstFaultOf bytes fault

@@ -5,5 +5,6 @@ pub mod Contents
 pub mod Index
 pub mod Plain
 pub mod Grammar
+pub mod LineFaults
 pub mod Laws
 pub mod Faults

@@ -1,11 +1,12 @@
 -- The plain text of a table: what is read of it, or its first fault.
-use Rattle.std.specs.Prelude.{ℕ, ◌+◌, Bool, not, ◌&&◌, ◌||◌, ◌==◌, nat_lt, nat_le, if◌then◌else◌, List, [], ◌∷◌, length, drop, slice_index_or, codes, Option, Some, None, Result, Ok, Err, ℤ}
+use Rattle.std.specs.Prelude.{ℕ, ◌+◌, Bool, not, ◌&&◌, ◌||◌, ◌==◌, nat_lt, if◌then◌else◌, List, [], ◌∷◌, length, drop, codes, Option, Some, None, Result, Ok, Err, ℤ}
 use Rattle.std.specs.Option.{option_map, option_and_then}
 use Rattle.std.specs.Str.{bytes_eq, is_utf8}
-use Rattle.ror_text.specs.Ids.{is_id}
+use Rattle.ror_text.specs.declared.lines.TheConstants.{MOST_TEXT_BYTES}
 use Rattle.ror_text.specs.Lines.{has_control, numbered_lines, bad_utf8_line}
-use Rattle.ror_text.specs.Numbers.{performance_of, count_of}
+use Rattle.ror_text.specs.Numbers.{read_performance, count_of}
 use Rattle.ror_text.specs.Reading.{◌>>=◌, refuse, need, read_all}
+use Rattle.ror_table.specs.declared.limits.TheConstants.{MOST_CLASSES}
 use Rattle.ror_table.specs.declared.direction.Direction.{Direction}
 use Rattle.ror_table.specs.declared.direction.Direction.TheVariants.{Max, Min}
 use Rattle.ror_table.specs.declared.fault.What.TheVariants.{Alternatives, Criteria, Steps, Classes}
@@ -14,8 +15,9 @@ use Rattle.ror_table.specs.declared.fault.TableKind.TheVariants.{Form, NotUtf8, 
 use Rattle.ror_table.specs.declared.fault.TableFault.{TableFault}
 use Rattle.ror_table.specs.declared.fault.TableError.{TableError}
 use Rattle.ror_table.specs.declared.fault.TableError.TheVariants as errors
-use Rattle.ror_table.specs.Table.{DecisionTable, criterion_ids, alternative_ids, columns}
-use Rattle.ror_table.specs.Draft.{empty_table, has_id, add_criterion, add_alternative}
+use Rattle.ror_table.specs.Table.{DecisionTable, alternative_ids}
+use Rattle.ror_table.specs.Grammar.{word_at}
+use Rattle.ror_table.specs.Draft.{empty_table, free_id, with_criterion, place_alternative, finished}
 
 -- the fault that an error names: none for want of memory
 abbrev pub table_fault : TableError → Option TableFault
@@ -26,23 +28,24 @@ table_fault errors.Memory = None
 abbrev pub at_line : ℕ → TableKind → TableFault
 at_line line kind = record { kind = kind; line = line }
 
--- a line's word, from 0; past the last word it is empty
-abbrev pub word_at : List (List ℕ) → ℕ → List ℕ
-word_at words i = slice_index_or words i []
-
 -- the two words `ror-table` and `1`
 abbrev pub is_head : List (List ℕ) → Bool
-is_head words = length words == 2 && bytes_eq (word_at words 0) (codes "ror-table") && bytes_eq (word_at words 1) (codes "1")
+is_head words =
+    length words == 2 && bytes_eq (word_at words 0) (codes "ror-table")
+    && bytes_eq (word_at words 1) (codes "1")
 
 abbrev pub direction_of : List ℕ → Option Direction
-direction_of word = if bytes_eq word (codes "max") then Some Max else (if bytes_eq word (codes "min") then Some Min else None)
+direction_of word = if bytes_eq word (codes "max") then Some Max
+    else (if bytes_eq word (codes "min") then Some Min else None)
 
 -- the performances that the words write, or None where one writes none
 abbrev pub performances_of : List (List ℕ) → Option (List ℤ)
 performances_of [] = Some []
-performances_of (word ∷ words) = option_and_then (λ p. option_map (λ ps. p ∷ ps) (performances_of words)) (performance_of word)
+performances_of (word ∷ words) =
+    option_and_then (λ p. option_map (λ ps. p ∷ ps) (performances_of words)) (read_performance word)
 
--- a line of classes or of an alternative stands before: no criterion and no line of classes may follow it
+-- a line of classes or of an alternative stands before: no criterion and no line of classes may
+-- follow it
 abbrev pub is_past_criteria : DecisionTable → Bool
 is_past_criteria t = not (t.classes == 0) || not (length t.alternatives == 0)
 
@@ -50,12 +53,10 @@ is_past_criteria t = not (t.classes == 0) || not (length t.alternatives == 0)
 unfoldable pub criterion_line : ℕ → DecisionTable → List (List ℕ) → Result DecisionTable TableFault
 criterion_line line t words = do
   _ ← refuse (at_line line BadLine) (not (length words == 3))
-  _ ← refuse (at_line line BadLine) (not (is_id (word_at words 1)))
   direction ← need (at_line line BadLine) (direction_of (word_at words 2))
   _ ← refuse (at_line line BadLine) (is_past_criteria t)
-  _ ← refuse (at_line line RepeatedId) (has_id (criterion_ids t) (word_at words 1))
-  _ ← refuse (at_line line (TooMany Criteria)) (nat_le 64 (length t.criteria))
-  Ok (add_criterion t (word_at words 1) direction)
+  with_criterion (at_line line BadLine) (at_line line RepeatedId)
+      (at_line line (TooMany Criteria)) t (word_at words 1) direction
 
 -- `classes COUNT`
 unfoldable pub classes_line : ℕ → DecisionTable → List (List ℕ) → Result DecisionTable TableFault
@@ -64,20 +65,19 @@ classes_line line t words = do
   _ ← refuse (at_line line BadLine) (is_past_criteria t)
   count ← need (at_line line BadNumber) (count_of (word_at words 1))
   _ ← refuse (at_line line BadNumber) (count == 0)
-  _ ← refuse (at_line line (TooMany Classes)) (nat_lt 100 count)
+  _ ← refuse (at_line line (TooMany Classes)) (nat_lt MOST_CLASSES count)
   Ok (record t { classes = count })
 
 -- `alternative ID PERFORMANCE ..`, one performance for each criterion
-unfoldable pub alternative_line : ℕ → DecisionTable → List (List ℕ) → Result DecisionTable TableFault
+unfoldable pub alternative_line : ℕ → DecisionTable → List (List ℕ)
+    → Result DecisionTable TableFault
 alternative_line line t words = do
   _ ← refuse (at_line line BadLine) (nat_lt (length words) 2)
   _ ← refuse (at_line line BadLine) (nat_lt (length t.criteria + 2) (length words))
-  _ ← refuse (at_line line BadLine) (not (is_id (word_at words 1)))
-  _ ← refuse (at_line line RepeatedId) (has_id (alternative_ids t) (word_at words 1))
+  _ ← free_id (at_line line BadLine) (at_line line RepeatedId) (alternative_ids t) (word_at words 1)
   _ ← refuse (at_line line MissingPerformance) (nat_lt (length words) (length t.criteria + 2))
   performances ← need (at_line line BadNumber) (performances_of (drop 2 words))
-  _ ← refuse (at_line line (TooMany Alternatives)) (nat_le 200 (length t.alternatives))
-  Ok (add_alternative t (word_at words 1) performances)
+  place_alternative (at_line line (TooMany Alternatives)) t (word_at words 1) performances
 
 -- the first word says what a line is
 unfoldable pub known_line : ℕ → DecisionTable → List (List ℕ) → Result DecisionTable TableFault
@@ -88,8 +88,8 @@ known_line line t words =
     else Err (at_line line BadLine)))
 
 -- a line after the first: what is read of it after the lines before, of which t was read
-unfoldable pub table_line : DecisionTable → ℕ × List (List ℕ) → Result DecisionTable TableFault
-table_line t line = do
+unfoldable pub body_line : DecisionTable → ℕ × List (List ℕ) → Result DecisionTable TableFault
+body_line t line = do
   _ ← refuse (at_line line.0 BadLine) (has_control line.1)
   known_line line.0 t line.1
 
@@ -98,17 +98,10 @@ abbrev pub after_head : List (ℕ × List (List ℕ)) → Result (List (ℕ × L
 after_head [] = Err (at_line 1 Form)
 after_head (line ∷ lines) = if is_head line.1 then Ok lines else Err (at_line line.0 Form)
 
--- a table of all lines
-unfoldable pub whole_table : DecisionTable → Result DecisionTable TableFault
-whole_table t = do
-  _ ← refuse (at_line 0 Empty) (length t.criteria == 0 || length t.alternatives == 0)
-  _ ← refuse (at_line 0 (TooMany Steps)) (nat_lt 2000 (columns t))
-  Ok t
-
 unfoldable pub plain_table : List ℕ → Result DecisionTable TableFault
 plain_table bytes = do
-  _ ← refuse (at_line 0 TooLong) (nat_lt 16777216 (length bytes))
+  _ ← refuse (at_line 0 TooLong) (nat_lt MOST_TEXT_BYTES (length bytes))
   _ ← refuse (at_line (bad_utf8_line bytes) NotUtf8) (not (is_utf8 bytes))
   lines ← after_head (numbered_lines bytes)
-  t ← read_all table_line empty_table lines
-  whole_table t
+  t ← read_all body_line empty_table lines
+  finished (at_line 0 Empty) (at_line 0 (TooMany Steps)) t

@@ -1,10 +1,12 @@
 -- Decision tables, and what is read off them: ranks, steps and columns.
-use Rattle.std.specs.Prelude.{◌≡◌, ◌≢◌, ℕ, ◌+◌, ◌-◌, ◌<◌, ◌≤◌, ◌^◌, Bool, List, length, map, filter, Option, Some, None, unwrap_or, slice_get, slice_index_or, ℤ, pos, unsigned_abs, int_lt, All, AllPairs, Contains, sum_by}
+use Rattle.std.specs.Prelude.{◌≡◌, ◌≢◌, ℕ, ◌+◌, ◌-◌, ◌<◌, ◌≤◌, ◌^◌, Bool, List, [], length, map, filter, Option, Some, None, unwrap_or, slice_get, slice_index_or, ℤ, pos, unsigned_abs, int_lt, All, AllPairs, Contains, sum_by, position}
 use Rattle.std.specs.Option.{option_map}
 use Rattle.std.specs.Ordering.{int_eq}
 use Rattle.std.specs.List.{range_with_len}
 use Rattle.std.specs.Set.{distinct_count}
+use Rattle.std.specs.Str.{bytes_eq}
 use Rattle.ror_text.specs.Ids.{IsId}
+use Rattle.ror_table.specs.declared.limits.TheConstants.{MOST_ALTERNATIVES, MOST_CLASSES, MOST_CRITERIA, MOST_STEPS}
 use Rattle.ror_table.specs.declared.direction.Direction.{Direction}
 use Rattle.ror_table.specs.declared.direction.Direction.TheVariants.{Max, Min}
 
@@ -33,6 +35,22 @@ alternative_ids t = map (λ a. a.id) t.alternatives
 abbrev pub HasPlace : List (List ℕ) → List ℕ → Option ℕ → Type 0
 HasPlace ids id None = Contains ids id → ⊥
 HasPlace ids id (Some k) = slice_get ids k ≡ Some id
+
+-- the place of the id among the ids, if one of them is it
+abbrev pub place_of : List (List ℕ) → List ℕ → Option ℕ
+place_of ids id = position (λ other. bytes_eq other id) ids
+
+-- the alternative that has this id, if there is one
+abbrev pub alternative_named : DecisionTable → List ℕ → Option ℕ
+alternative_named t id = place_of (alternative_ids t) id
+
+-- the criterion that has this id, if there is one
+abbrev pub criterion_named : DecisionTable → List ℕ → Option ℕ
+criterion_named t id = place_of (criterion_ids t) id
+
+-- an alternative's id
+abbrev pub id_of : DecisionTable → ℕ → List ℕ
+id_of t a = slice_index_or (alternative_ids t) a []
 
 -- no two ids are equal
 abbrev pub AreDistinct : List (List ℕ) → Type 0
@@ -66,7 +84,9 @@ levels_count performances = distinct_count is_same performances
 
 -- how many distinct performances on the criterion are worse than the alternative's
 abbrev pub rank : DecisionTable → ℕ → ℕ → ℕ
-rank t a i = levels_count (filter (λ p. is_worse (direction_at t i) p (performance_at t a i)) (performances_on t i))
+rank t a i =
+    levels_count
+    (filter (λ p. is_worse (direction_at t i) p (performance_at t a i)) (performances_on t i))
 
 -- how many distinct performances there are on the criterion, less one
 abbrev pub steps : DecisionTable → ℕ → ℕ
@@ -92,10 +112,10 @@ pub record IsEvaluated (n : ℕ) (a : Alternative) : Type 0 where
 pub record IsTable (t : DecisionTable) : Type 0 where
   pub some_criterion : 0 < length t.criteria
   pub some_alternative : 0 < length t.alternatives
-  pub criteria_limit : length t.criteria ≤ 64
-  pub alternatives_limit : length t.alternatives ≤ 200
-  pub classes_limit : t.classes ≤ 100
-  pub columns_limit : columns t ≤ 2000
+  pub criteria_limit : length t.criteria ≤ MOST_CRITERIA
+  pub alternatives_limit : length t.alternatives ≤ MOST_ALTERNATIVES
+  pub classes_limit : t.classes ≤ MOST_CLASSES
+  pub columns_limit : columns t ≤ MOST_STEPS
   pub criterion_ids_valid : All IsId (criterion_ids t)
   pub alternative_ids_valid : All IsId (alternative_ids t)
   pub criterion_ids_distinct : AreDistinct (criterion_ids t)

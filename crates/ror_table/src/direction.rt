@@ -1,3 +1,5 @@
+//! The direction of a criterion.
+
 ghost use Rattle.std.specs.Prelude.{◌≡◌};
 ghost use Rattle.ror_table.specs.Table as spec;
 

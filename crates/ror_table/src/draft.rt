@@ -3,25 +3,23 @@
 ghost use Rattle.std.specs.Prelude.{◌≡◌, [], ◌<◌, ◌≤◌, ◌^◌, ◌==◌, ◌||◌, false, length, slice_get, All, unsigned_abs, is_some, OnOk, OnErr, IfOk, Some};
 ghost use Rattle.ror_text.specs.Ids.{IsId};
 ghost use Rattle.ror_text.specs.Reading.{Gives};
+ghost use Rattle.ror_table.specs.declared.fault.DraftFault.TheVariants.{BadId, RepeatedId, TooMany};
+ghost use Rattle.ror_table.specs.declared.fault.What.TheVariants.{Alternatives, Criteria};
+ghost use Rattle.ror_table.specs.declared.limits.TheConstants.{MOST_ALTERNATIVES, MOST_CLASSES, MOST_CRITERIA};
 ghost use Rattle.ror_table.specs.Plain.{is_past_criteria};
 ghost use Rattle.ror_table.specs.Table.{HasPlace, criterion_ids, alternative_ids, direction_at, performance_at, performances_on};
 ghost use Rattle.ror_table.specs.Draft.{draft_fault, empty_table, has_id, add_criterion, add_alternative, with_criterion, with_alternative, IsDraft};
 
 use crate::direction::Direction;
 use crate::fault::{DraftFault, What};
+use crate::limits::{MOST_ALTERNATIVES, MOST_CRITERIA};
 use indexmap::IndexMap;
 use ror_text::ids::is_id;
 use ror_text::reading::refuse_if;
 use std::alloc::{AllocError, Global};
 use std::marker::Model;
 
-pub(crate) const MOST_CRITERIA: usize = 64;
-
-pub(crate) const MOST_ALTERNATIVES: usize = 200;
-
-pub(crate) const MOST_CLASSES: u32 = 100;
-
-/// A table that is being made: criteria first, then alternatives. Clauses see what it holds so far.
+/// A table that is being made: criteria first, then alternatives. Clauses see what it holds.
 #[derive(Drop)]
 pub struct Draft {
     criteria: IndexMap<String, Direction>,
@@ -60,7 +58,8 @@ impl Draft {
     #[tactic(auto, unfolding(crate::specs::Draft::with_criterion))]
     pub fn criterion(&mut self, id: &str, direction: Direction) -> Result<(), DraftFault>
         requires { self.old.alternatives ≡ [] }
-        ensures exact { Gives (λ _. self.new) draft_fault result (with_criterion self.old id.now direction) }
+        ensures exact { Gives (λ _. self.new) draft_fault result
+            (with_criterion BadId RepeatedId (TooMany Criteria) self.old id.now direction) }
         ensures added { OnOk result (self.new ≡ add_criterion self.old id.now direction) }
         ensures unchanged { OnErr result (self.new ≡ self.old) }
     {
@@ -76,7 +75,7 @@ impl Draft {
 
     /// Sets the number of classes, 100 at most.
     pub fn classes(&mut self, count: u32)
-        requires { count ≤ 100 }
+        requires { count ≤ MOST_CLASSES }
         ensures { self.new ≡ record self.old { classes = count } }
     {
         self.classes = count;
@@ -87,7 +86,9 @@ impl Draft {
     pub fn alternative(&mut self, id: &str, performances: &[i64]) -> Result<(), DraftFault>
         requires width { length performances.now ≡ length self.old.criteria }
         requires bounded { All (λ p. unsigned_abs p < 10 ^ 18) performances.now }
-        ensures exact { Gives (λ _. self.new) draft_fault result (with_alternative self.old id.now performances.now) }
+        ensures exact { Gives (λ _. self.new) draft_fault result
+            (with_alternative BadId RepeatedId
+            (TooMany Alternatives) self.old id.now performances.now) }
         ensures added { OnOk result (self.new ≡ add_alternative self.old id.now performances.now) }
         ensures unchanged { OnErr result (self.new ≡ self.old) }
     {
@@ -105,7 +106,7 @@ impl Draft {
         requires first { self.old.alternatives ≡ [] }
         requires valid { IsId id.now }
         requires absent { has_id (criterion_ids self.old) id.now ≡ false }
-        requires room { length self.old.criteria < 64 }
+        requires room { length self.old.criteria < MOST_CRITERIA }
         ensures added { OnOk result (self.new ≡ add_criterion self.old id.now direction) }
         ensures unchanged { OnErr result (self.new ≡ self.old) }
     {
@@ -123,7 +124,7 @@ impl Draft {
         requires bounded { All (λ p. unsigned_abs p < 10 ^ 18) performances.now }
         requires valid { IsId id.now }
         requires absent { has_id (alternative_ids self.old) id.now ≡ false }
-        requires room { length self.old.alternatives < 200 }
+        requires room { length self.old.alternatives < MOST_ALTERNATIVES }
         ensures added { OnOk result (self.new ≡ add_alternative self.old id.now performances.now) }
         ensures unchanged { OnErr result (self.new ≡ self.old) }
     {
@@ -154,7 +155,8 @@ impl Draft {
         self.criteria.is_empty() || self.alternatives.is_empty()
     }
 
-    /// Whether no criterion and no number of classes may follow, since there are classes or alternatives.
+    /// Whether no criterion and no number of classes may follow, since there are classes or
+    /// alternatives.
     pub(crate) fn is_past_criteria(&self) -> bool
         ensures past { result ≡ is_past_criteria self.now }
         ensures first { result ≡ false → self.now.alternatives ≡ [] }

@@ -1,6 +1,7 @@
 //! What is worked out once of a table: the levels of each criterion, and where its columns begin.
 
 ghost use Rattle.std.specs.Prelude.{◌≡◌, ◌<◌, ◌≤◌, ◌-◌, ℕ, length, IfOk, sum_by, take, slice_index, All};
+ghost use Rattle.ror_table.specs.declared.limits.TheConstants.{MOST_ALTERNATIVES, MOST_CRITERIA};
 ghost use Rattle.ror_table.specs.Table.{columns};
 ghost use Rattle.ror_table.specs.Index.{AreLevels, AreOffsets};
 
@@ -8,8 +9,8 @@ use crate::draft::Draft;
 use crate::levels::levels_of;
 use std::alloc::{AllocError, Global};
 
-/// The levels of each criterion from the worst to the best, how many columns come before each criterion, and how
-/// many there are.
+/// The levels of each criterion from the worst to the best, how many columns come before each
+/// criterion, and how many there are.
 #[derive(Drop)]
 pub(crate) struct Index {
     pub(crate) levels: Vec<Vec<i64>>,
@@ -31,11 +32,15 @@ fn all_levels(draft: &Draft) -> Result<Vec<Vec<i64>>, AllocError>
 
 /// Where the columns of each criterion begin, and how many columns there are.
 fn offsets_of(alloc: Global, levels: &[Vec<i64>]) -> Result<(Vec<usize>, usize), AllocError>
-    requires few { length levels.now ≤ 64 }
-    requires short { All (λ criterion. length criterion.items ≤ 200) levels.now }
+    requires few { length levels.now ≤ MOST_CRITERIA }
+    requires short { All (λ criterion. length criterion.items ≤ MOST_ALTERNATIVES) levels.now }
     ensures number { IfOk result (λ r. length r.0.items ≡ length levels.now) }
-    ensures each { IfOk result (λ r. (i : ℕ) → i < length levels.now → slice_index r.0.items i ≡ sum_by (λ criterion. length criterion.items - 1) (take i levels.now)) }
-    ensures total { IfOk result (λ r. r.1 ≡ sum_by (λ criterion. length criterion.items - 1) levels.now) }
+    ensures each { IfOk result
+        (λ r. (i : ℕ) → i < length levels.now
+        → slice_index r.0.items i
+        ≡ sum_by (λ criterion. length criterion.items - 1) (take i levels.now)) }
+    ensures total { IfOk result
+        (λ r. r.1 ≡ sum_by (λ criterion. length criterion.items - 1) levels.now) }
 {
     let mut offsets = Vec::new(alloc);
     let mut columns = 0;
@@ -49,7 +54,8 @@ fn offsets_of(alloc: Global, levels: &[Vec<i64>]) -> Result<(Vec<usize>, usize),
 /// The index of a draft.
 pub(crate) fn index_of(draft: &Draft) -> Result<Index, AllocError>
     ensures levels { IfOk result (λ index. AreLevels draft.now index.levels.items) }
-    ensures offsets { IfOk result (λ index. AreOffsets draft.now index.offsets.items index.columns) }
+    ensures offsets { IfOk result
+        (λ index. AreOffsets draft.now index.offsets.items index.columns) }
     ensures total { IfOk result (λ index. index.columns ≡ columns draft.now) }
 {
     let few = draft.criteria_count();

@@ -1,9 +1,9 @@
 //! Laws of the definitions, each the clause of a function that does nothing.
 
-ghost use Rattle.ror_table.specs.Laws.{ReadsTheGrammar, GivesTheFirstFault};
+ghost use Rattle.ror_table.specs.Laws.{ReadsTheGrammar, GivesTheFirstFault, LinesFailFirst};
 
-/// A plain table is read exactly where its bytes are in the grammar and within the limits, and as the table that
-/// the grammar gives.
+/// A plain table is read exactly where its bytes are in the grammar and within the limits, and as
+/// the table that the grammar gives.
 pub fn plain_tables_are_the_grammar()
     ensures { ReadsTheGrammar }
 {}
@@ -11,4 +11,10 @@ pub fn plain_tables_are_the_grammar()
 /// A fault is given exactly where it is the first: what comes before it is read.
 pub fn the_first_fault_is_given()
     ensures { GivesTheFirstFault }
+{}
+
+/// A line after the first is refused exactly with the first of the tests that it fails, each of
+/// which is taken alone.
+pub fn lines_fail_first()
+    ensures { LinesFailFirst }
 {}

@@ -23,7 +23,8 @@ pub(crate) fn levels_of(direction: Direction, performances: Vec<i64>) -> Vec<i64
 /// How many of the levels are worse than a performance.
 pub(crate) fn worse_count(direction: Direction, levels: &[i64], performance: i64) -> usize
     requires { Rises direction levels.now }
-    ensures { result ≡ length (filter (λ level. spec.is_worse direction level performance) levels.now) }
+    ensures { result ≡ length
+        (filter (λ level. spec.is_worse direction level performance) levels.now) }
 {
     levels.partition_point(|level| is_worse(direction, *level, performance))
 }

@@ -1,33 +1,28 @@
 //! The plain text of a table.
 
-ghost use Rattle.std.specs.Prelude.{◌≡◌, ◌+◌, ◌<◌, ◌≤◌, ◌^◌, [], ◌∷◌, None, Some, not, length, map, All, unsigned_abs, IfOk, IfSome, MatchOption};
+ghost use Rattle.std.specs.Prelude.{◌≡◌, ◌+◌, ◌*◌, ◌<◌, ◌≤◌, ◌^◌, [], ◌∷◌, None, Some, not, length, map, All, unsigned_abs, IfOk, IfSome, MatchOption};
 ghost use Rattle.std.specs.Str.{is_utf8};
-ghost use Rattle.ror_text.specs.Lines.{numbered_from, numbered_lines, bad_utf8_line};
+ghost use Rattle.ror_text.specs.declared.lines.TheConstants.{MOST_TEXT_BYTES};
+ghost use Rattle.ror_text.specs.Lines.{numbered_lines_from, numbered_lines, bad_utf8_line};
 ghost use Rattle.ror_text.specs.Reading.{Gives, refuse, need, read_all};
-ghost use Rattle.ror_table.specs.declared.fault.TableKind.TheVariants.{NotUtf8, BadNumber};
+ghost use Rattle.ror_table.specs.declared.fault.TableKind.TheVariants.{NotUtf8, BadNumber, Empty, TooMany};
+ghost use Rattle.ror_table.specs.declared.fault.What.TheVariants.{Steps};
+ghost use Rattle.ror_table.specs.Draft.{finished};
 ghost use Rattle.ror_table.specs.Table.{IsTable};
+ghost use Rattle.ror_table.specs.Grammar.{word_at};
 ghost use Rattle.ror_table.specs.Plain as spec;
-ghost use Rattle.ror_table.specs.Plain.{table_fault, at_line, table_line, after_head, plain_table};
+ghost use Rattle.ror_table.specs.Plain.{table_fault, at_line, body_line, after_head, plain_table};
 
 use crate::direction::Direction;
-use crate::draft::{Draft, MOST_ALTERNATIVES, MOST_CLASSES, MOST_CRITERIA};
+use crate::draft::Draft;
 use crate::fault::{DraftFault, TableError, TableFault, TableKind, What};
+use crate::limits::{MOST_ALTERNATIVES, MOST_CLASSES, MOST_CRITERIA};
 use crate::table::Table;
 use ror_text::ids::id_text;
-use ror_text::lines::{bad_utf8_line, first_line, has_control, is_comment, split_words};
+use ror_text::lines::{MOST_TEXT_BYTES, bad_utf8_line, has_control, next_line};
 use ror_text::numbers::{read_count, read_performance};
 use ror_text::reading::{need, refuse_if};
 use std::alloc::{AllocError, Global};
-
-const MOST_BYTES: usize = 16_777_216;
-
-/// A line that is not passed over, and the bytes after it.
-#[derive(Drop)]
-struct Line<'a> {
-    number: u32,
-    words: Vec<&'a [u8]>,
-    rest: &'a [u8],
-}
 
 fn fault(kind: TableKind, line: u32) -> TableError
     ensures { result ≡ TableError.Bad (at_line line kind) }
@@ -35,33 +30,9 @@ fn fault(kind: TableKind, line: u32) -> TableError
     TableError::Bad(TableFault { kind, line })
 }
 
-/// The next line that is not passed over, where the first line of the bytes has this number.
-fn next_line(alloc: Global, first: u32, bytes: &[u8]) -> Result<Option<Line<'_>>, AllocError>
-    requires { first + length bytes.now < 2 ^ 32 }
-    ensures line { IfOk result (λ o. MatchOption o (numbered_from first bytes.now ≡ []) (λ l. numbered_from first bytes.now ≡ (l.number, map (λ word. word.now) l.words.items) ∷ numbered_from (l.number + 1) l.rest.now)) }
-    ensures number { IfOk result (λ o. IfSome o (λ l. l.number + length l.rest.now < first + length bytes.now)) }
-    ensures shorter { IfOk result (λ o. IfSome o (λ l. length l.rest.now < length bytes.now)) }
-{
-    let mut number = first;
-    let mut left = bytes;
-    'lines: while let Some((line, rest)) = first_line(left) {
-        let words = split_words(alloc, line)?;
-        if !is_comment(&words) {
-            return Ok(Some(Line {
-                number,
-                words,
-                rest,
-            }));
-        }
-        left = rest;
-        number += 1;
-    }
-    Ok(None)
-}
-
 /// A word of a line, empty past the last one.
 fn word_at<'a>(words: &[&'a [u8]], i: usize) -> &'a [u8]
-    ensures { result.now ≡ spec.word_at (map (λ word. word.now) words.now) i }
+    ensures { result.now ≡ word_at (map (λ word. word.now) words.now) i }
 {
     match words.get(i) {
         Some(word) => word,
@@ -95,7 +66,9 @@ fn is_head(words: &[&[u8]]) -> bool
 
 /// The performances that words write.
 fn performances_of(alloc: Global, line: u32, words: &[&[u8]]) -> Result<Vec<i64>, TableError>
-    ensures exact { Gives (λ v. v.items) table_fault result (need (at_line line BadNumber) (spec.performances_of (map (λ word. word.now) words.now))) }
+    ensures exact { Gives (λ v. v.items) table_fault result
+        (need (at_line line BadNumber)
+        (spec.performances_of (map (λ word. word.now) words.now))) }
     ensures number { IfOk result (λ v. length v.items ≡ length words.now) }
     ensures bounded { IfOk result (λ v. All (λ p. unsigned_abs p < 10 ^ 18) v.items) }
 {
@@ -108,17 +81,18 @@ fn performances_of(alloc: Global, line: u32, words: &[&[u8]]) -> Result<Vec<i64>
 }
 
 /// A line `criterion ID max` or `criterion ID min`.
-#[tactic(auto, unfolding(crate::specs::Plain::criterion_line))]
+#[tactic(auto, unfolding(crate::specs::Plain::criterion_line, crate::specs::Draft::with_criterion))]
 fn criterion_line(draft: &mut Draft, line: u32, words: &[&[u8]]) -> Result<(), TableError>
-    ensures { Gives (λ _. draft.new) table_fault result (spec.criterion_line line draft.old (map (λ word. word.now) words.now)) }
+    ensures { Gives (λ _. draft.new) table_fault result
+        (spec.criterion_line line draft.old (map (λ word. word.now) words.now)) }
 {
     refuse_if(words.len() != 3, fault(TableKind::BadLine, line))?;
-    let id = need(id_text(word_at(words, 1)), fault(TableKind::BadLine, line))?;
     let direction = need(
         direction_of(word_at(words, 2)),
         fault(TableKind::BadLine, line),
     )?;
     refuse_if(draft.is_past_criteria(), fault(TableKind::BadLine, line))?;
+    let id = need(id_text(word_at(words, 1)), fault(TableKind::BadLine, line))?;
     refuse_if(
         draft.find_criterion(id).is_some(),
         fault(TableKind::RepeatedId, line),
@@ -134,7 +108,8 @@ fn criterion_line(draft: &mut Draft, line: u32, words: &[&[u8]]) -> Result<(), T
 /// A line `classes COUNT`.
 #[tactic(auto, unfolding(crate::specs::Plain::classes_line))]
 fn classes_line(draft: &mut Draft, line: u32, words: &[&[u8]]) -> Result<(), TableError>
-    ensures { Gives (λ _. draft.new) table_fault result (spec.classes_line line draft.old (map (λ word. word.now) words.now)) }
+    ensures { Gives (λ _. draft.new) table_fault result
+        (spec.classes_line line draft.old (map (λ word. word.now) words.now)) }
 {
     refuse_if(words.len() != 2, fault(TableKind::BadLine, line))?;
     refuse_if(draft.is_past_criteria(), fault(TableKind::BadLine, line))?;
@@ -159,7 +134,8 @@ fn alternative_line(
     line: u32,
     words: &[&[u8]],
 ) -> Result<(), TableError>
-    ensures { Gives (λ _. draft.new) table_fault result (spec.alternative_line line draft.old (map (λ word. word.now) words.now)) }
+    ensures { Gives (λ _. draft.new) table_fault result
+        (spec.alternative_line line draft.old (map (λ word. word.now) words.now)) }
 {
     let due = draft.criteria_count() + 2;
     refuse_if(words.len() < 2, fault(TableKind::BadLine, line))?;
@@ -190,7 +166,8 @@ fn known_line(
     line: u32,
     words: &[&[u8]],
 ) -> Result<(), TableError>
-    ensures { Gives (λ _. draft.new) table_fault result (spec.known_line line draft.old (map (λ word. word.now) words.now)) }
+    ensures { Gives (λ _. draft.new) table_fault result
+        (spec.known_line line draft.old (map (λ word. word.now) words.now)) }
 {
     let word = word_at(words, 0);
     if word == b"criterion".as_slice() {
@@ -205,23 +182,21 @@ fn known_line(
 }
 
 /// A line after the first.
-#[tactic(auto, unfolding(crate::specs::Plain::table_line))]
-fn table_line(
-    alloc: Global,
-    draft: &mut Draft,
-    line: u32,
-    words: &[&[u8]],
-) -> Result<(), TableError>
-    ensures { Gives (λ _. draft.new) table_fault result (table_line draft.old (line, map (λ word. word.now) words.now)) }
+#[tactic(auto, unfolding(crate::specs::Plain::body_line))]
+fn body_line(alloc: Global, draft: &mut Draft, line: u32, words: &[&[u8]]) -> Result<(), TableError>
+    ensures { Gives (λ _. draft.new) table_fault result
+        (body_line draft.old (line, map (λ word. word.now) words.now)) }
 {
     refuse_if(has_control(words), fault(TableKind::BadLine, line))?;
     known_line(alloc, draft, line, words)
 }
 
-/// The lines after the first, which has to be `ror-table 1`: the number of the next line, and the bytes from it on.
+/// The lines after the first, which has to be `ror-table 1`: the number of the next line, and the
+/// bytes from it on.
 fn after_head(alloc: Global, bytes: &[u8]) -> Result<(u32, &[u8]), TableError>
-    requires { length bytes.now ≤ 2 ^ 24 }
-    ensures exact { Gives (λ rest. numbered_from rest.0 rest.1.now) table_fault result (after_head (numbered_lines bytes.now)) }
+    requires { length bytes.now ≤ MOST_TEXT_BYTES }
+    ensures exact { Gives (λ rest. numbered_lines_from rest.0 rest.1.now) table_fault result
+        (after_head (numbered_lines bytes.now)) }
     ensures shorter { IfOk result (λ rest. rest.0 + length rest.1.now ≤ 1 + length bytes.now) }
 {
     match next_line(alloc, 1, bytes)? {
@@ -238,13 +213,14 @@ fn after_head(alloc: Global, bytes: &[u8]) -> Result<(u32, &[u8]), TableError>
 
 /// The lines after the first, added to a draft.
 fn read_lines(alloc: Global, draft: &mut Draft, first: u32, bytes: &[u8]) -> Result<(), TableError>
-    requires { first + length bytes.now ≤ 2 ^ 25 }
-    ensures { Gives (λ _. draft.new) table_fault result (read_all table_line draft.old (numbered_from first bytes.now)) }
+    requires { first + length bytes.now ≤ 2 * MOST_TEXT_BYTES }
+    ensures { Gives (λ _. draft.new) table_fault result
+        (read_all body_line draft.old (numbered_lines_from first bytes.now)) }
 {
     let mut number = first;
     let mut left = bytes;
     'lines: while let Some(line) = next_line(alloc, number, left)? {
-        table_line(alloc, draft, line.number, &line.words)?;
+        body_line(alloc, draft, line.number, &line.words)?;
         number = line.number + 1;
         left = line.rest;
     }
@@ -252,9 +228,10 @@ fn read_lines(alloc: Global, draft: &mut Draft, first: u32, bytes: &[u8]) -> Res
 }
 
 /// A table of all lines.
-#[tactic(auto, unfolding(crate::specs::Plain::whole_table, crate::specs::Draft::finished))]
+#[tactic(auto, unfolding(crate::specs::Draft::finished))]
 fn whole_table(draft: Draft) -> Result<Table, TableError>
-    ensures exact { Gives (λ t. t) table_fault result (spec.whole_table draft) }
+    ensures exact { Gives (λ t. t) table_fault result
+        (finished (at_line 0 Empty) (at_line 0 (TooMany Steps)) draft) }
     ensures table { IfOk result IsTable }
 {
     match draft.finish() {
@@ -267,8 +244,9 @@ fn whole_table(draft: Draft) -> Result<Table, TableError>
 
 /// Whether the bytes are UTF-8.
 fn check_utf8(bytes: &[u8]) -> Result<(), TableError>
-    requires { length bytes.now ≤ 2 ^ 24 }
-    ensures { Gives (λ _. tt) table_fault result (refuse (at_line (bad_utf8_line bytes.now) NotUtf8) (not (is_utf8 bytes.now))) }
+    requires { length bytes.now ≤ MOST_TEXT_BYTES }
+    ensures { Gives (λ _. tt) table_fault result
+        (refuse (at_line (bad_utf8_line bytes.now) NotUtf8) (not (is_utf8 bytes.now))) }
 {
     match bad_utf8_line(bytes) {
         None => Ok(()),
@@ -282,7 +260,7 @@ pub fn read_plain(alloc: Global, bytes: &[u8]) -> Result<Table, TableError>
     ensures exact { Gives (λ t. t) table_fault result (plain_table bytes.now) }
     ensures table { IfOk result IsTable }
 {
-    refuse_if(bytes.len() > MOST_BYTES, fault(TableKind::TooLong, 0))?;
+    refuse_if(bytes.len() > MOST_TEXT_BYTES, fault(TableKind::TooLong, 0))?;
     check_utf8(bytes)?;
     let (first, rest) = after_head(alloc, bytes)?;
     let mut draft = Draft::new(alloc);

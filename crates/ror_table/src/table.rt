@@ -2,7 +2,9 @@
 
 ghost use Rattle.std.specs.Prelude.{◌≡◌, ◌<◌, ◌≤◌, length, slice_get, IfOk, Some};
 ghost use Rattle.ror_text.specs.Reading.{Gives};
-ghost use Rattle.ror_table.specs.Table.{DecisionTable, IsTable, HasPlace, direction_at, performance_at, steps, rank, column, columns, alternative_ids, criterion_ids};
+ghost use Rattle.ror_table.specs.declared.fault.DraftFault.TheVariants.{Empty, TooMany};
+ghost use Rattle.ror_table.specs.declared.fault.What.TheVariants.{Steps};
+ghost use Rattle.ror_table.specs.Table.{DecisionTable, IsTable, HasPlace, direction_at, performance_at, steps, rank, column, columns, alternative_ids, criterion_ids, alternative_named, criterion_named};
 ghost use Rattle.ror_table.specs.Draft.{draft_fault, finished};
 
 use crate::direction::Direction;
@@ -10,13 +12,12 @@ use crate::draft::Draft;
 use crate::fault::{DraftFault, What};
 use crate::index::{Index, index_of};
 use crate::levels::worse_count;
+use crate::limits::MOST_STEPS;
 use ror_text::reading::refuse_if;
 use std::marker::Model;
 
-const MOST_STEPS: usize = 2000;
-
-/// A decision table: at least one alternative, evaluated on at least one criterion. Alternatives, criteria and
-/// columns are numbered from 0, steps and classes from 1.
+/// A decision table: at least one alternative, evaluated on at least one criterion. Alternatives,
+/// criteria and columns are numbered from 0, steps and classes from 1.
 #[derive(Drop)]
 pub struct Table {
     draft: Draft,
@@ -133,6 +134,7 @@ impl Table {
     /// The alternative with this id, if there is one.
     pub fn find_alternative(&self, id: &str) -> Option<usize>
         ensures found { HasPlace (alternative_ids self.now) id.now result }
+        ensures named { result ≡ alternative_named self.now id.now }
     {
         self.draft.find_alternative(id)
     }
@@ -140,6 +142,7 @@ impl Table {
     /// The criterion with this id, if there is one.
     pub fn find_criterion(&self, id: &str) -> Option<usize>
         ensures found { HasPlace (criterion_ids self.now) id.now result }
+        ensures named { result ≡ criterion_named self.now id.now }
     {
         self.draft.find_criterion(id)
     }
@@ -149,7 +152,7 @@ impl Draft {
     /// The table of the draft. A draft that is refused is dropped.
     #[tactic(auto, unfolding(crate::specs::Draft::finished))]
     pub fn finish(self) -> Result<Table, DraftFault>
-        ensures exact { Gives (λ t. t) draft_fault result (finished self) }
+        ensures exact { Gives (λ t. t) draft_fault result (finished Empty (TooMany Steps) self) }
         ensures table { IfOk result IsTable }
     {
         refuse_if(self.is_empty(), DraftFault::Empty)?;

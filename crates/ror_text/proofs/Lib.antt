@@ -1,8 +1,9 @@
 pub mod LineLemmas
 pub mod Digits
 pub mod ReadingLemmas
-pub mod PrefixLemmas
+pub mod TextLemmas
 pub mod SpacedLemmas
+pub mod CursorLemmas
 pub mod NumberLemmas
 pub mod IdLemmas
 pub mod ListLemmas

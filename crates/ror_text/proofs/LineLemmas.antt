@@ -1,13 +1,14 @@
 -- The first line of a text, and those after it.
-use Rattle.std.proofs.Common.{◌≡◌, ℕ, zero, suc, ◌<◌, ◌≤◌, Bool, true, false, not, ltb, filter, ◌+◌, List, [], ◌∷◌, length, Some, None, refl, sym, ap, ◌∙◌, arith, inl, inr}
+use Rattle.std.proofs.Common.{◌≡◌, ℕ, zero, suc, ◌<◌, ◌≤◌, Bool, true, false, not, ltb, filter, ◌+◌, List, [], ◌∷◌, length, drop, Some, None, refl, sym, ap, ◌∙◌, arith, inl, inr}
 use Rattle.std.specs.Prelude.{◌⊎◌, ◌==◌, Result, Ok, Err, MatchResult, is_ok, map}
 use Rattle.std.specs.List.{slice_split, enumerate_from, list_any, position_or_len, before_first, after_first}
 use Rattle.std.specs.Str.{IsUtf8, is_utf8}
 use Rattle.std.proofs.lemmas.Str.{IsUtf8-from_is_utf8, is_utf8-from_IsUtf8}
 use Rattle.std.specs.Str.Lines.{lines, lines_of_parts, strip_carriage_return}
 use Rattle.std.proofs.lemmas.Bool.{cases_Bool, ltb-true, ltb-false, ne_eqb, false_from_ne_true, cond-true, cond-false, not_from_true, not_from_false}
+use Rattle.std.proofs.lemmas.List.{drop_all}
 use Rattle.std.proofs.lemmas.List.Splits.{slice_split_first, slice_split-cons_no, length-slice_split}
-use Rattle.ror_text.specs.Lines.{is_line_end, is_comment, words, numbered_from}
+use Rattle.ror_text.specs.Lines.{is_line_end, first_line_end, is_passed_over, words, numbered_lines_from}
 use Rattle.ror_text.specs.SpacedLines.{split_line}
 
 parts_cons : (x : List ℕ) (parts : List (List ℕ)) → 0 < length parts → lines_of_parts (x ∷ parts) ≡ strip_carriage_return x ∷ lines_of_parts parts
@@ -15,7 +16,7 @@ parts_cons x [] h = absurd (omega arith)
 parts_cons x (y ∷ more) h = refl
 
 -- where no element passes, the list is the one part
-unsplit : (p : ℕ → Bool) (xs : List ℕ) → length xs ≤ position_or_len p xs → slice_split p xs ≡ xs ∷ []
+pub unsplit : (p : ℕ → Bool) (xs : List ℕ) → length xs ≤ position_or_len p xs → slice_split p xs ≡ xs ∷ []
 unsplit p [] h = refl
 unsplit p (x ∷ xs) h =
     elim (cases_Bool (p x)) [
@@ -54,6 +55,23 @@ lines-unsplit (b ∷ bs) e h =
       | inr none ↦ ap lines_of_parts (unsplit is_line_end (b ∷ bs) none.0) ∙ rw (ne_eqb (suc (length bs)) 0 (λ z. absurd (omega arith))) refl
     ]
 
+-- what stands after the first line
+pub rest-split : (bytes line rest : List ℕ) → split_line bytes ≡ Some (line, rest) → rest ≡ drop (first_line_end bytes) bytes
+rest-split bytes line rest e =
+    elim (split_cases bytes) [
+      | inl found ↦
+          let pair : (before_first is_line_end bytes, after_first is_line_end bytes) ≡ (line, rest) = cc in
+          sym (ap (λ (p : List ℕ × List ℕ). p.1) pair)
+      | inr none ↦ absurd cc
+    ]
+
+pub rest-unsplit : (bytes : List ℕ) → split_line bytes ≡ None → [] ≡ drop (first_line_end bytes) bytes
+rest-unsplit bytes e =
+    elim (split_cases bytes) [
+      | inl found ↦ absurd cc
+      | inr none ↦ sym (drop_all (first_line_end bytes) bytes (omega (arith, none.0)))
+    ]
+
 pub positive : (n : ℕ) → false ≡ (n == 0) → 0 < n
 positive zero h = absurd cc
 positive (suc n) h = omega arith
@@ -68,16 +86,16 @@ is_utf8-from_cases (Err e) bytes P Q h = sym (false_from_ne_true (is_utf8 bytes)
 
 -- ---- numbered lines, as a loop over `first_line` meets them
 
-pub numbered_from-end : (n : ℕ) (bytes : List ℕ) → lines bytes ≡ [] → numbered_from n bytes ≡ []
-numbered_from-end n bytes e = ap (λ (ls : List (List ℕ)). filter (λ line. not (is_comment line.1)) (enumerate_from n (map words ls))) e
+pub numbered_lines_from-end : (n : ℕ) (bytes : List ℕ) → lines bytes ≡ [] → numbered_lines_from n bytes ≡ []
+numbered_lines_from-end n bytes e = ap (λ (ls : List (List ℕ)). filter (λ line. not (is_passed_over line.1)) (enumerate_from n (map words ls))) e
 
 -- a line that is passed over is counted
-pub numbered_from-pass : (n : ℕ) (bytes line rest : List ℕ) → lines bytes ≡ line ∷ lines rest → is_comment (words line) ≡ true → numbered_from n bytes ≡ numbered_from (n + 1) rest
-numbered_from-pass n bytes line rest e comment =
-    ap (λ (ls : List (List ℕ)). filter (λ (l : ℕ × List (List ℕ)). not (is_comment l.1)) (enumerate_from n (map words ls))) e
-    ∙ cond-false (not (is_comment (words line))) ((n, words line) ∷ numbered_from (n + 1) rest) (numbered_from (n + 1) rest) (not_from_true _ comment)
+pub numbered_lines_from-pass : (n : ℕ) (bytes line rest : List ℕ) → lines bytes ≡ line ∷ lines rest → is_passed_over (words line) ≡ true → numbered_lines_from n bytes ≡ numbered_lines_from (n + 1) rest
+numbered_lines_from-pass n bytes line rest e comment =
+    ap (λ (ls : List (List ℕ)). filter (λ (l : ℕ × List (List ℕ)). not (is_passed_over l.1)) (enumerate_from n (map words ls))) e
+    ∙ cond-false (not (is_passed_over (words line))) ((n, words line) ∷ numbered_lines_from (n + 1) rest) (numbered_lines_from (n + 1) rest) (not_from_true _ comment)
 
-pub numbered_from-line : (n : ℕ) (bytes line rest : List ℕ) → lines bytes ≡ line ∷ lines rest → is_comment (words line) ≡ false → numbered_from n bytes ≡ (n, words line) ∷ numbered_from (n + 1) rest
-numbered_from-line n bytes line rest e kept =
-    ap (λ (ls : List (List ℕ)). filter (λ (l : ℕ × List (List ℕ)). not (is_comment l.1)) (enumerate_from n (map words ls))) e
-    ∙ cond-true (not (is_comment (words line))) ((n, words line) ∷ numbered_from (n + 1) rest) (numbered_from (n + 1) rest) (not_from_false _ kept)
+pub numbered_lines_from-line : (n : ℕ) (bytes line rest : List ℕ) → lines bytes ≡ line ∷ lines rest → is_passed_over (words line) ≡ false → numbered_lines_from n bytes ≡ (n, words line) ∷ numbered_lines_from (n + 1) rest
+numbered_lines_from-line n bytes line rest e kept =
+    ap (λ (ls : List (List ℕ)). filter (λ (l : ℕ × List (List ℕ)). not (is_passed_over l.1)) (enumerate_from n (map words ls))) e
+    ∙ cond-true (not (is_passed_over (words line))) ((n, words line) ∷ numbered_lines_from (n + 1) rest) (numbered_lines_from (n + 1) rest) (not_from_false _ kept)

@@ -13,7 +13,7 @@ use Rattle.std.proofs.Math.ListN.{get_or-append}
 use Rattle.std.proofs.lemmas.Str.{digit_value_digit}
 use Rattle.std.proofs.lemmas.Str.Parse.{digit_from_value, digit_at}
 use Rattle.std.proofs.lemmas.Fmt.{decimal_is_IsNumeral_wide, decimal_digit, decimal_step_wide, decimal_by_steps_wide}
-use Rattle.ror_text.specs.Numbers.{digits_number, is_digits, digits_up_to, plain_below, negative, performance_of, count_of, number_of, small_number_of}
+use Rattle.ror_text.specs.Numbers.{digits_number, is_digits, digits_up_to, plain_below, negative, read_performance, count_of, number_of, small_number_of}
 use Rattle.ror_text.specs.SpacedLines.{is_word}
 use Rattle.ror_text.proofs.Digits.{own, is_digits_true, up_to_small}
 
@@ -188,10 +188,10 @@ positive_small word z e = let m = mapped pos (digits_up_to 18 word) z e in subst
 negative_small : (word : List ℕ) (z : ℤ) → option_map negative (digits_up_to 18 word) ≡ Some z → unsigned_abs z < 10 ^ 18
 negative_small word z e = let m = mapped negative (digits_up_to 18 word) z e in subst (λ y. unsigned_abs y < 10 ^ 18) m.2 (rw (negative_abs m.0) (digits_up_to-small 18 word m.0 m.1))
 
-pub performance_of-small : (word : List ℕ) (z : ℤ) → performance_of word ≡ Some z → unsigned_abs z < 10 ^ 18
-unfolding performance_of
-performance_of-small [] z e = absurd cc
-performance_of-small (c ∷ cs) z e =
+pub read_performance-small : (word : List ℕ) (z : ℤ) → read_performance word ≡ Some z → unsigned_abs z < 10 ^ 18
+unfolding read_performance
+read_performance-small [] z e = absurd cc
+read_performance-small (c ∷ cs) z e =
     elim (cases_Bool (eqb c 43)) [
       | inl plus ↦ positive_small cs z (sym (cond-true _ _ _ plus) ∙ e)
       | inr other ↦

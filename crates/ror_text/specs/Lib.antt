@@ -3,6 +3,6 @@ pub mod FirstFault
 pub mod Lines
 pub mod Numbers
 pub mod Ids
-pub mod Prefix
 pub mod SpacedLines
+pub mod Cursor
 pub mod Laws

@@ -1,12 +1,17 @@
 -- The lines of a text, and the words of a line.
 use Rattle.std.specs.Prelude.{ℕ, ◌+◌, Bool, true, not, ◌||◌, List, [], ◌∷◌, length, take, map, filter, slice_index, count_by, nat_lt, ◌==◌}
-use Rattle.std.specs.List.{slice_split, list_any, enumerate_from}
+use Rattle.std.specs.List.{slice_split, list_any, enumerate_from, position_or_len}
 use Rattle.std.specs.Str.Lines.{lines}
 use Rattle.std.specs.Str.Lossy.{utf8_valid_len}
 
 -- a line feed
 abbrev pub is_line_end : ℕ → Bool
 is_line_end byte = byte == 10
+
+-- where the line after the first begins: one past the first line feed, or past the end where there
+-- is none
+abbrev pub first_line_end : List ℕ → ℕ
+first_line_end bytes = position_or_len is_line_end bytes + 1
 
 -- a space or a tab
 abbrev pub is_blank : ℕ → Bool
@@ -17,9 +22,9 @@ abbrev pub words : List ℕ → List (List ℕ)
 words line = filter (λ word. not (length word == 0)) (slice_split is_blank line)
 
 -- the line is passed over: it has no words, or its first word begins with `#`
-abbrev pub is_comment : List (List ℕ) → Bool
-is_comment [] = true
-is_comment (word ∷ more) = slice_index word 0 == 35
+abbrev pub is_passed_over : List (List ℕ) → Bool
+is_passed_over [] = true
+is_passed_over (word ∷ more) = slice_index word 0 == 35
 
 -- a byte below 0x21, or 0x7F
 abbrev pub is_control : ℕ → Bool
@@ -29,13 +34,15 @@ is_control byte = nat_lt byte 0x21 || byte == 0x7F
 abbrev pub has_control : List (List ℕ) → Bool
 has_control ws = list_any (list_any is_control) ws
 
--- the words of each line that is not passed over, with the line's number among all lines, of which the first is n
-abbrev pub numbered_from : ℕ → List ℕ → List (ℕ × List (List ℕ))
-numbered_from n bytes = filter (λ line. not (is_comment line.1)) (enumerate_from n (map words (lines bytes)))
+-- the words of each line that is not passed over, with the line's number among all lines, of which
+-- the first is n
+abbrev pub numbered_lines_from : ℕ → List ℕ → List (ℕ × List (List ℕ))
+numbered_lines_from n bytes =
+    filter (λ line. not (is_passed_over line.1)) (enumerate_from n (map words (lines bytes)))
 
 -- the same, where lines are numbered from 1
 abbrev pub numbered_lines : List ℕ → List (ℕ × List (List ℕ))
-numbered_lines bytes = numbered_from 1 bytes
+numbered_lines bytes = numbered_lines_from 1 bytes
 
 -- how many lines there are, those that are passed over among them
 abbrev pub line_count : List ℕ → ℕ

@@ -29,7 +29,8 @@ read_all step state [] = Ok state
 read_all step state (line ∷ lines) = step state line >>= λ next. read_all step next lines
 
 -- a line has the fault, and the lines before it are read
-pub record IsFirstFault {S L F : Type 0} (step : S → L → Result S F) (state : S) (lines : List L) (fault : F) : Type 0 where
+pub record IsFirstFault {S L F : Type 0} (step : S → L → Result S F) (state : S) (lines : List L)
+    (fault : F) : Type 0 where
   pub before : List L
   pub line : L
   pub after : List L

@@ -50,7 +50,8 @@ impl<T> Items<T> {
 
     /// The element at a place, if there is one.
     pub fn get(&self, index: usize) -> Option<&T>
-        ensures { MatchOption result (slice_get self.now index ≡ None) (λ x. slice_get self.now index ≡ Some x.now) }
+        ensures { MatchOption result (slice_get self.now index ≡ None)
+            (λ x. slice_get self.now index ≡ Some x.now) }
     {
         self.as_slice().get(index)
     }

@@ -23,7 +23,10 @@ pub fn lines_read_back()
     ensures cut { CutLinesGiveTheBytes }
 {}
 
-/// Reading lines in order fails with the fault of the first line that has one, and where a line has one.
+/// Reading lines in order fails with the fault of the first line that has one, and where a line has
+/// one.
 pub fn first_fault<State, Line, Fault>()
-    ensures { (step : State → Line → Result State Fault) (state : State) (lines : List Line) (fault : Fault) → (read_all step state lines ≡ Err fault) ↔ IsFirstFault step state lines fault }
+    ensures { (step : State → Line → Result State Fault) (state : State) (lines : List Line)
+        (fault : Fault)
+        → (read_all step state lines ≡ Err fault) ↔ IsFirstFault step state lines fault }
 {}

@@ -1,5 +1,5 @@
-//! Lists and texts, lines and words, numbers and ids, and what a reader answers: the words on which the readers
-//! and writers of texts stand.
+//! Lists and texts, lines and words, numbers and ids, and what a reader answers: the words on which
+//! the readers and writers of texts stand.
 #![tactic(auto)]
 
 pub mod ids;

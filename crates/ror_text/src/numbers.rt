@@ -1,16 +1,16 @@
 //! Numbers in decimal digits, read from words and written.
 
-ghost use Rattle.std.specs.Prelude.{◌≡◌, ◌^◌, ◌<◌, ◌≤◌, ◌++◌, true, is_ok, IfSome, MatchOption, unsigned_abs, if◌then◌else◌};
-ghost use Rattle.std.specs.Fmt.{decimal, signed_decimal};
+ghost use Rattle.std.specs.Prelude.{◌≡◌, ◌^◌, ◌<◌, ◌≤◌, true, IfSome, MatchOption, unsigned_abs};
 ghost use Rattle.std.specs.Str.{all_ascii_digits};
 ghost use Rattle.ror_text.specs.Numbers as spec;
 
-use itoa::Buffer;
-use std::alloc::AllocError;
+/// Numbers of a report are of absolute value below this one: at most `i128::MAX`.
+pub const NUMBER_LIMIT: u128 = 1 << 127;
 
 /// The number of one or more digits, if it fits.
 fn digits(word: &[u8]) -> Option<u128>
-    ensures { MatchOption result (spec.is_digits word.now ≡ true → 2 ^ 128 ≤ spec.digits_number word.now) (λ n. (spec.is_digits word.now ≡ true) × (n ≡ spec.digits_number word.now)) }
+    ensures { MatchOption result (spec.is_digits word.now ≡ true → 2 ^ 128 ≤ spec.digits_number word.now)
+        (λ n. (spec.is_digits word.now ≡ true) × (n ≡ spec.digits_number word.now)) }
 {
     if word.is_empty() || !all_digits(word) {
         return None;
@@ -53,9 +53,9 @@ fn plain_below(limit: u128, word: &[u8]) -> Option<u128>
 }
 
 /// A performance: an optional `+` or `-` and 1 to 18 digits, of which the first may be zeros.
-#[tactic(auto, unfolding(crate::specs::Numbers::performance_of))]
+#[tactic(auto, unfolding(crate::specs::Numbers::read_performance))]
 pub fn read_performance(word: &[u8]) -> Option<i64>
-    ensures value { result ≡ spec.performance_of word.now }
+    ensures value { result ≡ spec.read_performance word.now }
     ensures small { IfSome result (λ z. unsigned_abs z < 10 ^ 18) }
 {
     match word {
@@ -75,18 +75,18 @@ pub fn read_count(word: &[u8]) -> Option<u32>
     Some(digits_up_to(9, word)? as u32)
 }
 
-/// A number of a report: digits without a leading zero, with `-` before them where it is below 0, of absolute value
-/// at most `i128::MAX`.
+/// A number of a report: digits without a leading zero, with `-` before them where it is below 0,
+/// of absolute value below [`NUMBER_LIMIT`].
 #[tactic(auto, unfolding(crate::specs::Numbers::number_of))]
 pub fn read_number(word: &[u8]) -> Option<i128>
     ensures value { result ≡ spec.number_of word.now }
-    ensures small { IfSome result (λ z. unsigned_abs z < 2 ^ 127) }
+    ensures small { IfSome result (λ z. unsigned_abs z < NUMBER_LIMIT) }
 {
     match word {
         [] => None,
         [b'-', b'0', ..] => None,
-        [b'-', digits @ ..] => Some(-(plain_below(1 << 127, digits)? as i128)),
-        _ => Some(plain_below(1 << 127, word)? as i128),
+        [b'-', digits @ ..] => Some(-(plain_below(NUMBER_LIMIT, digits)? as i128)),
+        _ => Some(plain_below(NUMBER_LIMIT, word)? as i128),
     }
 }
 
@@ -96,20 +96,4 @@ pub fn read_small_number(word: &[u8]) -> Option<u32>
     ensures { result ≡ spec.small_number_of word.now }
 {
     Some(plain_below(1 << 32, word)? as u32)
-}
-
-/// Appends a number in decimal digits, with `-` before them where it is below 0.
-pub fn push_number(out: &mut Vec<u8>, number: i128) -> Result<(), AllocError>
-    ensures { out.new.items ≡ (if is_ok result then out.old.items ++ signed_decimal number else out.old.items) }
-{
-    let mut buffer = Buffer::new();
-    out.extend_from_slice(buffer.format(number).as_bytes())
-}
-
-/// Appends a number in decimal digits.
-pub fn push_small_number(out: &mut Vec<u8>, number: u32) -> Result<(), AllocError>
-    ensures { out.new.items ≡ (if is_ok result then out.old.items ++ decimal number else out.old.items) }
-{
-    let mut buffer = Buffer::new();
-    out.extend_from_slice(buffer.format(number).as_bytes())
 }

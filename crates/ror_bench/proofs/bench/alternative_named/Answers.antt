@@ -1,6 +1,6 @@
 use Rattle.std.proofs.Common.{ap, ◌∙◌}
-use Rattle.ror_proof.specs.Reading.{alternative_named}
-use Rattle.ror_proof.proofs.TableIds.{alternative_named-from_place}
+use Rattle.ror_table.specs.Table.{alternative_named}
+use Rattle.ror_table.proofs.NameLemmas.{alternative_named-from_place}
 use Rattle.ror_bench.proofs.Asking.{named_within}
 use Rattle.ror_bench.proofs.bench.alternative_named.Goals as goal
 

@@ -1,9 +1,9 @@
 use Rattle.std.proofs.Common.{◌≡◌, ◌-◌, ◌+◌, ◌<◌, suc, true, length, drop, length-drop, arith, sym, ap, ◌∙◌}
 use Rattle.std.proofs.lemmas.Result.{err_from_is_err_and}
 use Rattle.std.proofs.lemmas.List.{length_push}
-use Rattle.ror_proof.specs.Cursor.{cursor_at}
+use Rattle.ror_text.specs.Cursor.{cursor_at}
 use Rattle.ror_proof.specs.Reading.{begins_part, part_lines}
-use Rattle.ror_proof.proofs.Cuts.{to_end}
+use Rattle.ror_text.proofs.CursorLemmas.{to_end}
 use Rattle.ror_proof.proofs.Loops.{with_front, parts_go_on, parts_exit, parts_end, begins_some}
 use Rattle.ror_proof.proofs.read.part_lines.Goals as goal
 

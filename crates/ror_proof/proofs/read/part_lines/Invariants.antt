@@ -1,5 +1,5 @@
 use Rattle.std.proofs.Common.{◌≡◌, ◌≤◌, ◌+◌, ◌-◌, length}
-use Rattle.ror_proof.specs.Cursor.{cursor_at}
+use Rattle.ror_text.specs.Cursor.{cursor_at}
 use Rattle.ror_proof.specs.Reading.{part_lines}
 use Rattle.ror_proof.proofs.Loops.{with_front}
 use Rattle.ror_proof.proofs.read.part_lines.Given as goal

@@ -1,7 +1,7 @@
 use Rattle.std.proofs.Common.{◌≡◌, ◌-◌, ◌+◌, ◌<◌, suc, false, length, drop, length-drop, arith, sym, ap, ◌∙◌}
 use Rattle.std.proofs.lemmas.Result.{err_from_is_err_and}
 use Rattle.std.proofs.lemmas.List.{length_push}
-use Rattle.ror_proof.specs.Cursor.{cursor_at}
+use Rattle.ror_text.specs.Cursor.{cursor_at}
 use Rattle.ror_proof.proofs.Loops.{with_front}
 use Rattle.ror_report.specs.Reading.{ends_body, body_answers}
 use Rattle.ror_report.proofs.Bodies.{answer_placed, answers_go_on, answers_exit, answers_end, goes_on_some}

@@ -1,5 +1,5 @@
 use Rattle.std.proofs.Common.{◌≡◌, ◌≤◌, ◌+◌, ◌-◌, length}
-use Rattle.ror_proof.specs.Cursor.{cursor_at}
+use Rattle.ror_text.specs.Cursor.{cursor_at}
 use Rattle.ror_proof.proofs.Loops.{with_front}
 use Rattle.ror_report.specs.Reading.{body_answers}
 use Rattle.ror_report.proofs.read.body_answers.Given as goal

@@ -1,0 +1,151 @@
+-- What a line of an answer may be, word by word, and the first word at fault.
+use Rattle.std.specs.Prelude.{◌≡◌, ◌⊎◌, ℕ, ◌<◌, ◌^◌, ℤ, List, [], ◌∷◌, drop, codes, Contains, decimal, true, None, Some, if◌then◌else◌}
+use Rattle.std.specs.Fmt.{signed_decimal}
+use Rattle.std.specs.Str.{bytes_eq}
+use Rattle.ror_text.specs.Cursor.{Cursor, line_words, line_after}
+use Rattle.ror_system.specs.System.{IsNarrow}
+use Rattle.ror_table.specs.Table.{DecisionTable, alternative_ids}
+use Rattle.ror_proof.specs.declared.read.ProofFault.{ProofFault}
+use Rattle.ror_proof.specs.declared.read.ProofFault.TheVariants.{BadLine, BadNumber}
+use Rattle.ror_proof.specs.Reading.{begins_part}
+
+-- what is expected at a place of a line
+pub data Expected : Type 0 where
+  -- this word
+  the_word : List ℕ → Expected
+  -- the id of an alternative
+  an_id : Expected
+  -- `yes`, `no` or `contradiction`
+  a_verdict : Expected
+  -- `solution` or `multipliers`
+  a_certificate : Expected
+  -- the number of a system or the like
+  a_small_number : Expected
+  -- a number, or the line's end
+  a_number : Expected
+  -- a number or `|`
+  a_number_or_bar : Expected
+  -- the line's end
+  the_end : Expected
+
+-- a number of a report, as it is written
+abbrev pub IsNumber : List ℕ → Type 0
+IsNumber word = (z : ℤ) × IsNarrow z × (word ≡ signed_decimal z)
+
+-- the word may stand where this is expected
+abbrev pub MayStand : DecisionTable → Expected → List ℕ → Type 0
+MayStand t (the_word expected) word = word ≡ expected
+MayStand t an_id word = Contains (alternative_ids t) word
+MayStand t a_verdict word =
+    (word ≡ codes "yes") ⊎ ((word ≡ codes "no") ⊎ (word ≡ codes "contradiction"))
+MayStand t a_certificate word = (word ≡ codes "solution") ⊎ (word ≡ codes "multipliers")
+MayStand t a_small_number word = (n : ℕ) × (n < 2 ^ 32) × (word ≡ decimal n)
+MayStand t a_number word = IsNumber word
+MayStand t a_number_or_bar word = (word ≡ codes "|") ⊎ IsNumber word
+MayStand t the_end word = ⊥
+
+-- the line may end where this is expected
+abbrev pub MayEnd : Expected → Type 0
+MayEnd a_number = Unit {0}
+MayEnd the_end = Unit {0}
+MayEnd _ = ⊥
+
+-- an empty word is a bad line, any other that says no number a bad number
+abbrev pub number_fault : List ℕ → ℕ → ProofFault
+number_fault [] place = BadLine place
+number_fault (byte ∷ bytes) place = BadNumber place
+
+-- the fault of a word that may not stand where this is expected, in the line that begins at the
+-- place
+abbrev pub fault_of_word : Expected → List ℕ → ℕ → ProofFault
+fault_of_word a_small_number word place = number_fault word place
+fault_of_word a_number word place = number_fault word place
+fault_of_word a_number_or_bar word place = number_fault word place
+fault_of_word _ word place = BadLine place
+
+-- each word may stand where it stands, and the line may end where it ends
+abbrev pub AllStand : DecisionTable → List Expected → List (List ℕ) → Type 0
+AllStand t [] words = Unit {0}
+AllStand t (expected ∷ more) [] = MayEnd expected
+AllStand t (expected ∷ more) (word ∷ words) = MayStand t expected word × AllStand t more words
+
+-- the fault of the first word that may not stand where it stands, or of the line's end, if it may
+-- not end there
+abbrev pub IsFirstFaultyWord : DecisionTable → List Expected → List (List ℕ) → ℕ → ProofFault
+    → Type 0
+IsFirstFaultyWord t [] words place fault = ⊥
+IsFirstFaultyWord t (expected ∷ more) [] place fault =
+    (MayEnd expected → ⊥) × (fault ≡ BadLine place)
+IsFirstFaultyWord t (expected ∷ more) (word ∷ words) place fault =
+    ((MayStand t expected word → ⊥) × (fault ≡ fault_of_word expected word place))
+    ⊎ (MayStand t expected word × IsFirstFaultyWord t more words place fault)
+
+-- ---- what is expected in the lines of an answer: one thing for each word and one for the end,
+-- where the line goes on
+
+-- numbers up to the end
+abbrev pub expected_numbers : List (List ℕ) → List Expected
+expected_numbers [] = a_number ∷ []
+expected_numbers (word ∷ words) = a_number ∷ expected_numbers words
+
+-- numbers up to the first bar, and numbers up to the end
+abbrev pub expected_multipliers : List (List ℕ) → List Expected
+expected_multipliers [] = a_number_or_bar ∷ []
+expected_multipliers (word ∷ words) =
+    a_number_or_bar
+    ∷ (if bytes_eq word (codes "|") then expected_numbers words else expected_multipliers words)
+
+-- the word of a certificate, and its numbers
+abbrev pub expected_certificate : List (List ℕ) → List Expected
+expected_certificate [] = a_certificate ∷ []
+expected_certificate (word ∷ words) =
+    a_certificate
+    ∷ (if bytes_eq word (codes "multipliers") then expected_multipliers words
+    else expected_numbers words)
+
+-- `answer necessary ID ID VERDICT`
+abbrev pub expected_answer : List (List ℕ) → List Expected
+expected_answer words =
+    the_word (codes "answer") ∷ the_word (codes "necessary") ∷ an_id ∷ an_id ∷ a_verdict ∷ the_end
+    ∷ []
+
+-- `base CERTIFICATE`
+abbrev pub expected_base : List (List ℕ) → List Expected
+expected_base words = the_word (codes "base") ∷ expected_certificate (drop 1 words)
+
+-- `part NUMBER CERTIFICATE`
+abbrev pub expected_part : List (List ℕ) → List Expected
+expected_part words = the_word (codes "part") ∷ a_small_number ∷ expected_certificate (drop 2 words)
+
+-- ---- lines
+
+-- the line that begins here is as expected, and a line feed ends it, after which the next one
+-- begins
+pub record IsLine (t : DecisionTable) (expected : List (List ℕ) → List Expected)
+    (c after : Cursor) : Type 0 where
+  pub words : AllStand t (expected (line_words c)) (line_words c)
+  pub ended : line_after c ≡ Some after
+
+-- the fault of the line that begins here: that of its first faulty word, or no line feed after
+-- words that may all stand
+pub data IsFaultOfLine (t : DecisionTable) (expected : List (List ℕ) → List Expected) (c : Cursor)
+    (fault : ProofFault) : Type 0 where
+  in_word : IsFirstFaultyWord t (expected (line_words c)) (line_words c) c.place fault
+      → IsFaultOfLine t expected c fault
+  no_line_feed : AllStand t (expected (line_words c)) (line_words c) → line_after c ≡ None
+      → fault ≡ BadLine c.place → IsFaultOfLine t expected c fault
+
+-- the fault of the first faulty line among those of parts, of which each begins as a part does
+pub data IsFaultOfParts (t : DecisionTable) (fault : ProofFault) : Cursor → Type 0 where
+  this_part : (c : Cursor) → begins_part c.rest ≡ true → IsFaultOfLine t expected_part c fault
+      → IsFaultOfParts t fault c
+  later_part : (c after : Cursor) → begins_part c.rest ≡ true → IsLine t expected_part c after
+      → IsFaultOfParts t fault after → IsFaultOfParts t fault c
+
+-- the fault of the first faulty line of the answer that begins here
+pub data IsFaultOfAnswer (t : DecisionTable) (c : Cursor) (fault : ProofFault) : Type 0 where
+  in_question : IsFaultOfLine t expected_answer c fault → IsFaultOfAnswer t c fault
+  in_base : (base : Cursor) → IsLine t expected_answer c base
+      → IsFaultOfLine t expected_base base fault → IsFaultOfAnswer t c fault
+  in_parts : (base parts : Cursor) → IsLine t expected_answer c base
+      → IsLine t expected_base base parts → IsFaultOfParts t fault parts → IsFaultOfAnswer t c fault

@@ -1,9 +1,0 @@
-use Rattle.std.proofs.Common.{◌≡◌, ◌+◌, ◌≤◌, length}
-use Rattle.ror_text.specs.Lines.{numbered_from}
-use Rattle.ror_table.proofs.plain.next_line.Given as goal
-
-abbrev pub invariant-lines : goal.invariant-lines
-invariant-lines l = (numbered_from l.first l.bytes ≡ numbered_from l.number l.left) × (l.number + length l.left ≤ l.first + length l.bytes) × (length l.left ≤ length l.bytes)
-
-abbrev pub decreases-lines : goal.decreases-lines
-decreases-lines l = length l.left
