@@ -63,9 +63,9 @@ sums : (b : Block) (bs : List Block) → sum_by answer_count (b ∷ bs) ≡ answ
 sums b bs = sum_by-append answer_count (b ∷ []) bs ∙ ap (λ n. n + sum_by answer_count bs) (zero-add (answer_count b))
 
 -- a block that holds of a line, and what is left behind it
-pub rest_with : (start : Workbench) (Holds : Revisions → Line → Block → Type 0) (before : List (Line × Block)) (line : Line) (lines : List Line) (total : ℕ) (bytes after : List ℕ) (b : Block) (n : ℕ)
-    → bytes ≡ block_text start.table b ++ after → IsPrintableBlock start.table b → Holds (revisions_then start before line.desk) line b → IsRest start Holds (before ++ (line, b) ∷ []) lines total after n → IsRest start Holds before (line ∷ lines) total bytes (answer_count b + n)
-rest_with start Holds before line lines total bytes after b n text printable holds rest = record {
+pub rest_with : (start : Workbench) (P : Revisions → Line → Block → Type 0) (before : List (Line × Block)) (line : Line) (lines : List Line) (total : ℕ) (bytes after : List ℕ) (b : Block) (n : ℕ)
+    → bytes ≡ block_text start.table b ++ after → IsPrintableBlock start.table b → P (revisions_then start before line.desk) line b → IsRest start P (before ++ (line, b) ∷ []) lines total after n → IsRest start P before (line ∷ lines) total bytes (answer_count b + n)
+rest_with start P before line lines total bytes after b n text printable holds rest = record {
   blocks = b ∷ rest.blocks;
   text = text ∙ ap (λ (l : List ℕ). block_text start.table b ++ l) rest.text ∙ sym (append_assoc (block_text start.table b) (flat_map (block_text start.table) rest.blocks) (end_text total));
   printable = (printable, rest.printable);
@@ -74,20 +74,20 @@ rest_with start Holds before line lines total bytes after b n text printable hol
 }
 
 -- the first block of what is left for a line and more
-pub record HasFirst (start : Workbench) (Holds : Revisions → Line → Block → Type 0) (before : List (Line × Block)) (line : Line) (lines : List Line) (total : ℕ) (bytes : List ℕ) : Type 0 where
+pub record HasFirst (start : Workbench) (P : Revisions → Line → Block → Type 0) (before : List (Line × Block)) (line : Line) (lines : List Line) (total : ℕ) (bytes : List ℕ) : Type 0 where
   pub block : Block
   pub after : List ℕ
   pub answers : ℕ
   pub text : bytes ≡ block_text start.table block ++ after
   pub ended : ends_body after ≡ true
   pub printable : IsPrintableBlock start.table block
-  pub holds : Holds (revisions_then start before line.desk) line block
-  pub rest : IsRest start Holds (before ++ (line, block) ∷ []) lines total after answers
+  pub holds : P (revisions_then start before line.desk) line block
+  pub rest : IsRest start P (before ++ (line, block) ∷ []) lines total after answers
 
-first_of_blocks : (start : Workbench) (Holds : Revisions → Line → Block → Type 0) (before : List (Line × Block)) (line : Line) (lines : List Line) (total : ℕ) (bytes : List ℕ) (blocks : List Block)
-    → bytes ≡ flat_map (block_text start.table) blocks ++ end_text total → AllByRecursion (IsPrintableBlock start.table) blocks → EachHolds Holds start before (line ∷ lines) blocks → HasFirst start Holds before line lines total bytes
-first_of_blocks start Holds before line lines total bytes [] text printable held = absurd held
-first_of_blocks start Holds before line lines total bytes (b ∷ bs) text printable held = record {
+first_of_blocks : (start : Workbench) (P : Revisions → Line → Block → Type 0) (before : List (Line × Block)) (line : Line) (lines : List Line) (total : ℕ) (bytes : List ℕ) (blocks : List Block)
+    → bytes ≡ flat_map (block_text start.table) blocks ++ end_text total → AllByRecursion (IsPrintableBlock start.table) blocks → EachHolds P start before (line ∷ lines) blocks → HasFirst start P before line lines total bytes
+first_of_blocks start P before line lines total bytes [] text printable held = absurd held
+first_of_blocks start P before line lines total bytes (b ∷ bs) text printable held = record {
   block = b;
   after = flat_map (block_text start.table) bs ++ end_text total;
   answers = sum_by answer_count bs;
@@ -98,19 +98,19 @@ first_of_blocks start Holds before line lines total bytes (b ∷ bs) text printa
   rest = record { blocks = bs; text = refl; printable = printable.1; held = held.1; counted = refl };
 }
 
-pub first_of_rest : (start : Workbench) (Holds : Revisions → Line → Block → Type 0) (before : List (Line × Block)) (line : Line) (lines : List Line) (total : ℕ) (bytes : List ℕ) (n : ℕ) → IsRest start Holds before (line ∷ lines) total bytes n → HasFirst start Holds before line lines total bytes
-first_of_rest start Holds before line lines total bytes n rest = first_of_blocks start Holds before line lines total bytes rest.blocks rest.text rest.printable rest.held
+pub first_of_rest : (start : Workbench) (P : Revisions → Line → Block → Type 0) (before : List (Line × Block)) (line : Line) (lines : List Line) (total : ℕ) (bytes : List ℕ) (n : ℕ) → IsRest start P before (line ∷ lines) total bytes n → HasFirst start P before line lines total bytes
+first_of_rest start P before line lines total bytes n rest = first_of_blocks start P before line lines total bytes rest.blocks rest.text rest.printable rest.held
 
 -- where no line is left, the last line is
-last_of_blocks : (start : Workbench) (Holds : Revisions → Line → Block → Type 0) (before : List (Line × Block)) (total : ℕ) (bytes : List ℕ) (blocks : List Block) → bytes ≡ flat_map (block_text start.table) blocks ++ end_text total → EachHolds Holds start before [] blocks → bytes ≡ end_text total
-last_of_blocks start Holds before total bytes [] text held = text
-last_of_blocks start Holds before total bytes (b ∷ bs) text held = absurd held
+last_of_blocks : (start : Workbench) (P : Revisions → Line → Block → Type 0) (before : List (Line × Block)) (total : ℕ) (bytes : List ℕ) (blocks : List Block) → bytes ≡ flat_map (block_text start.table) blocks ++ end_text total → EachHolds P start before [] blocks → bytes ≡ end_text total
+last_of_blocks start P before total bytes [] text held = text
+last_of_blocks start P before total bytes (b ∷ bs) text held = absurd held
 
-pub last_of_rest : (start : Workbench) (Holds : Revisions → Line → Block → Type 0) (before : List (Line × Block)) (total : ℕ) (bytes : List ℕ) (n : ℕ) → IsRest start Holds before [] total bytes n → bytes ≡ end_text total
-last_of_rest start Holds before total bytes n rest = last_of_blocks start Holds before total bytes rest.blocks rest.text rest.held
+pub last_of_rest : (start : Workbench) (P : Revisions → Line → Block → Type 0) (before : List (Line × Block)) (total : ℕ) (bytes : List ℕ) (n : ℕ) → IsRest start P before [] total bytes n → bytes ≡ end_text total
+last_of_rest start P before total bytes n rest = last_of_blocks start P before total bytes rest.blocks rest.text rest.held
 
-pub no_rest : (start : Workbench) (Holds : Revisions → Line → Block → Type 0) (before : List (Line × Block)) (total : ℕ) (bytes : List ℕ) → bytes ≡ end_text total → IsRest start Holds before [] total bytes 0
-no_rest start Holds before total bytes text = record { blocks = []; text = text; printable = tt; held = tt; counted = refl }
+pub no_rest : (start : Workbench) (P : Revisions → Line → Block → Type 0) (before : List (Line × Block)) (total : ℕ) (bytes : List ℕ) → bytes ≡ end_text total → IsRest start P before [] total bytes 0
+no_rest start P before total bytes text = record { blocks = []; text = text; printable = tt; held = tt; counted = refl }
 
 -- ---- what the desks hold
 
@@ -177,11 +177,11 @@ pub record IsWay (start : Workbench) (lines : List Line) (bytes : List ℕ) (ben
   pub completes : (n : ℕ) → IsRest start (IsCheckedBlock start.table) before left (length lines) (drop from bytes) n → IsProvedReport start lines bytes (answers + n) × IsTrueReport start lines bytes
   pub goes_on : (m : ℕ) → IsProvedReport start lines bytes m → (n : ℕ) × IsRest start (IsProvedBlock start.table) before left (length lines) (drop from bytes) n
 
-lengths : (Holds : Revisions → Line → Block → Type 0) (start : Workbench) (before : List (Line × Block)) (xs : List Line) (ys : List Block) → EachHolds Holds start before xs ys → length xs ≡ length ys
-lengths Holds start before [] [] h = refl
-lengths Holds start before [] (y ∷ ys) h = absurd h
-lengths Holds start before (x ∷ xs) [] h = absurd h
-lengths Holds start before (x ∷ xs) (y ∷ ys) h = let others = lengths Holds start (before ++ (x, y) ∷ []) xs ys h.1 in omega arith
+lengths : (P : Revisions → Line → Block → Type 0) (start : Workbench) (before : List (Line × Block)) (xs : List Line) (ys : List Block) → EachHolds P start before xs ys → length xs ≡ length ys
+lengths P start before [] [] h = refl
+lengths P start before [] (y ∷ ys) h = absurd h
+lengths P start before (x ∷ xs) [] h = absurd h
+lengths P start before (x ∷ xs) (y ∷ ys) h = let others = lengths P start (before ++ (x, y) ∷ []) xs ys h.1 in omega arith
 
 each : (R S : Revisions → Line → Block → Type 0) → ((r : Revisions) (x : Line) (y : Block) → R r x y → S r x y) → (start : Workbench) (before : List (Line × Block)) (xs : List Line) (ys : List Block) → EachHolds R start before xs ys → EachHolds S start before xs ys
 each R S f start before [] [] h = tt

@@ -51,9 +51,8 @@ questions_of t asked = option_map (λ q. q ∷ []) (question_of t asked)
 -- answers to what is asked, in order.
 abbrev pub IsOfCommand : DecisionTable → Revisions → Command → Body → Type 0
 IsOfCommand t r (State named) (Added n) = (s : Statement) × (statement_of t named ≡ Some s) × CanBeAdded r s × (n ≡ next_number r)
-IsOfCommand t r (State named) (Answers xs) = ⊥
-IsOfCommand t r (Ask asked) (Added n) = ⊥
 IsOfCommand t r (Ask asked) (Answers xs) = questions_of t asked ≡ Some (map (λ x. x.question) xs)
+IsOfCommand t r _ _ = ⊥
 
 -- the block has the line's number, and a body of its command's form
 abbrev pub IsForLine : DecisionTable → Revisions → Line → Block → Type 0
@@ -71,9 +70,7 @@ with_statement r n (Some s) = with_revision r (addition n s)
 
 abbrev pub revisions_with : DecisionTable → Revisions → Command → Body → Revisions
 revisions_with t r (State named) (Added n) = with_statement r n (statement_of t named)
-revisions_with t r (State named) (Answers xs) = r
-revisions_with t r (Ask asked) (Added n) = r
-revisions_with t r (Ask asked) (Answers xs) = r
+revisions_with t r _ _ = r
 
 -- the bench after a command at a desk and its body: the desk has its revisions with them, and all else is as before
 abbrev pub with_body : Workbench → ℕ → Command → Body → Workbench
@@ -105,16 +102,11 @@ FailsBlock t r line block faults.Memory = ⊥
 
 abbrev pub block_stage : BlockFault → ℕ
 block_stage faults.WrongBlock = 0
-block_stage (faults.Answer k fault) = 1
-block_stage faults.Memory = 2
+block_stage _ = 1
 
 abbrev pub block_place : BlockFault → ℕ
-block_place faults.WrongBlock = 0
 block_place (faults.Answer k fault) = k
-block_place faults.Memory = 0
+block_place _ = 0
 
--- the fault is the first that the block has; want of memory says nothing
-abbrev pub IsBlockRefusedBy : DecisionTable → Revisions → Line → Block → BlockFault → Type 0
-IsBlockRefusedBy t r line block faults.WrongBlock = IsFirst (FailsBlock t r line block) (IsEarlier block_stage block_place) faults.WrongBlock
-IsBlockRefusedBy t r line block (faults.Answer k fault) = IsFirst (FailsBlock t r line block) (IsEarlier block_stage block_place) (faults.Answer k fault)
-IsBlockRefusedBy t r line block faults.Memory = Unit {0}
+abbrev pub IsEarlierBlockFault : BlockFault → BlockFault → Type 0
+IsEarlierBlockFault = IsEarlier block_stage block_place

@@ -2,4 +2,3 @@ pub mod Bench
 pub mod Blocks
 pub mod Reports
 pub mod Steps
-pub mod ReportSteps

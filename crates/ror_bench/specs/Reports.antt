@@ -31,10 +31,9 @@ revisions_then bench before desk = revisions_after bench.table (revisions_at ben
 
 -- one block for each line, in order; each holds over what the line's desk holds then
 abbrev pub EachHolds : (Revisions → Line → Block → Type 0) → Workbench → List (Line × Block) → List Line → List Block → Type 0
-EachHolds Holds bench before [] [] = Unit {0}
-EachHolds Holds bench before [] (block ∷ blocks) = ⊥
-EachHolds Holds bench before (line ∷ lines) [] = ⊥
-EachHolds Holds bench before (line ∷ lines) (block ∷ blocks) = Holds (revisions_then bench before line.desk) line block × EachHolds Holds bench (before ++ (line, block) ∷ []) lines blocks
+EachHolds P bench before [] [] = Unit {0}
+EachHolds P bench before (line ∷ lines) (block ∷ blocks) = P (revisions_then bench before line.desk) line block × EachHolds P bench (before ++ (line, block) ∷ []) lines blocks
+EachHolds P bench before _ _ = ⊥
 
 -- the bytes are the text of a report that is proved for the session's lines, with so many answers
 pub record IsProvedReport (bench : Workbench) (lines : List Line) (bytes : List ℕ) (answers : ℕ) : Type 0 where
@@ -53,13 +52,9 @@ pub record IsTrueReport (bench : Workbench) (lines : List Line) (bytes : List �
 
 -- want of memory is an answer of its own, and stands inside no reason
 abbrev pub IsFreeOfMemory : Reason → Type 0
-IsFreeOfMemory reasons.TooLong = Unit {0}
-IsFreeOfMemory reasons.NotUtf8 = Unit {0}
-IsFreeOfMemory (reasons.BadLine line) = Unit {0}
-IsFreeOfMemory (reasons.BadNumber line) = Unit {0}
-IsFreeOfMemory reasons.WrongBlock = Unit {0}
 IsFreeOfMemory (reasons.Answer k fault) = fault ≢ checks.Memory
+IsFreeOfMemory _ = Unit {0}
 
 abbrev pub HoldsNoMemory : ReportError → Type 0
 HoldsNoMemory (errors.Rejected rejection) = IsFreeOfMemory rejection.reason
-HoldsNoMemory errors.Memory = Unit {0}
+HoldsNoMemory _ = Unit {0}

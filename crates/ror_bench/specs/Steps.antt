@@ -1,6 +1,8 @@
--- What each step of a check leaves to the next: the answers that passed, the block that was read, and what is left.
-use Rattle.std.specs.Prelude.{◌≡◌, ℕ, ◌+◌, ◌<◌, true, List, ◌++◌, drop, map, slice_get, Some}
+-- What each step of a check leaves to the next: the answers that passed, the block that was read, what is left, and the
+-- error that a fault is.
+use Rattle.std.specs.Prelude.{◌≡◌, ℕ, ◌+◌, ◌<◌, min, true, List, length, ◌++◌, drop, map, slice_get, Some}
 use Rattle.std.specs.List.{AllByRecursion, flat_map, sum_by}
+use Rattle.ror_text.specs.Lines.{line_of}
 use Rattle.ror_statement.specs.declared.statement.Statement.{Statement}
 use Rattle.ror_statement.specs.Statement.{IsValidQuestion}
 use Rattle.ror_table.specs.Table.{DecisionTable}
@@ -15,10 +17,16 @@ use Rattle.ror_check.specs.declared.fault.CheckFault.TheVariants as checks
 use Rattle.ror_check.specs.Proof.{IsProvedAnswer}
 use Rattle.ror_report.specs.declared.block.Block.{Block}
 use Rattle.ror_report.specs.declared.block.Body.TheVariants.{Added}
+use Rattle.ror_report.specs.declared.read.ReportFault.{ReportFault}
+use Rattle.ror_report.specs.declared.read.ReportFault.TheVariants as forms
 use Rattle.ror_report.specs.Text.{block_text, end_text, IsPrintableBlock}
 use Rattle.ror_report.specs.Reading.{ends_body}
 use Rattle.ror_bench.specs.declared.bench.BlockFault.{BlockFault}
 use Rattle.ror_bench.specs.declared.bench.BlockFault.TheVariants as faults
+use Rattle.ror_bench.specs.declared.report.Reason.{Reason}
+use Rattle.ror_bench.specs.declared.report.Reason.TheVariants as reasons
+use Rattle.ror_bench.specs.declared.report.ReportError.{ReportError}
+use Rattle.ror_bench.specs.declared.report.ReportError.TheVariants as errors
 use Rattle.ror_bench.specs.Bench.{Workbench, revisions_at}
 use Rattle.ror_bench.specs.Blocks.{IsProvedBlock, IsOfCommand, AreTrue, FailsAnswerAt, answer_count, questions_of, with_block}
 use Rattle.ror_bench.specs.Reports.{EachHolds}
@@ -37,12 +45,8 @@ AreOfTheTable alternatives answers = (j : ℕ) (x : Answer) → slice_get answer
 
 -- the fault of a block of which the answer at a place is refused
 abbrev pub refused_answer : ℕ → CheckFault → BlockFault
-refused_answer k checks.WrongQuestion = faults.Answer k checks.WrongQuestion
-refused_answer k checks.WrongVerdict = faults.Answer k checks.WrongVerdict
-refused_answer k checks.PartCount = faults.Answer k checks.PartCount
-refused_answer k (checks.Base r) = faults.Answer k (checks.Base r)
-refused_answer k (checks.Part j r) = faults.Answer k (checks.Part j r)
 refused_answer k checks.Memory = faults.Memory
+refused_answer k fault = faults.Answer k fault
 
 -- an answer is refused, and those before it are proved; or memory ran out
 abbrev pub RefusesAnswers : DecisionTable → List Statement → List Answer → BlockFault → Type 0
@@ -88,9 +92,28 @@ pub record BeginsProved (bench : Workbench) (line : Line) (bytes : List ℕ) : T
 
 -- the bytes are the texts of blocks that hold of the lines, after those before, and the last line of a report of so many
 -- blocks
-pub record IsRest (start : Workbench) (Holds : Revisions → Line → Block → Type 0) (before : List (Line × Block)) (lines : List Line) (total : ℕ) (bytes : List ℕ) (answers : ℕ) : Type 0 where
+pub record IsRest (start : Workbench) (P : Revisions → Line → Block → Type 0) (before : List (Line × Block)) (lines : List Line) (total : ℕ) (bytes : List ℕ) (answers : ℕ) : Type 0 where
   pub blocks : List Block
   pub text : bytes ≡ flat_map (block_text start.table) blocks ++ end_text total
   pub printable : AllByRecursion (IsPrintableBlock start.table) blocks
-  pub held : EachHolds Holds start before lines blocks
+  pub held : EachHolds P start before lines blocks
   pub counted : answers ≡ sum_by answer_count blocks
+
+-- ---- which error a fault of a block is
+
+abbrev pub rejected : ℕ → Reason → ReportError
+rejected block reason = errors.Rejected (record { block = block; reason = reason })
+
+abbrev pub wrong_block_error : ℕ → ReportError
+wrong_block_error block = rejected block reasons.WrongBlock
+
+abbrev pub refused_block_error : ℕ → BlockFault → ReportError
+refused_block_error block faults.WrongBlock = rejected block reasons.WrongBlock
+refused_block_error block (faults.Answer k fault) = rejected block (reasons.Answer k fault)
+refused_block_error block faults.Memory = errors.Memory
+
+-- the line of a fault within the bytes, or the one that their end is in
+abbrev pub misread_error : List ℕ → ℕ → ReportFault → ReportError
+misread_error bytes block (forms.BadLine place) = rejected block (reasons.BadLine (line_of bytes (min place (length bytes))))
+misread_error bytes block (forms.BadNumber place) = rejected block (reasons.BadNumber (line_of bytes (min place (length bytes))))
+misread_error bytes block forms.Memory = errors.Memory

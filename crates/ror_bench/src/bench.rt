@@ -3,6 +3,7 @@
 ghost use Rattle.std.specs.Prelude.{◌≡◌, ◌≢◌, ◌<◌, ◌≤◌, ◌^◌, ◌-◌, length, map, [], replicate, OnOk, IfOk, IfErr, IfSome, ◌↔◌, IsTrue};
 ghost use Rattle.std.specs.List.{AllByRecursion};
 ghost use Rattle.std.specs.Option.{option_map};
+ghost use Rattle.ror_text.specs.FirstFault.{IsRefusedBy};
 ghost use Rattle.ror_statement.specs.Statement.{row_count, IsLawful, IsValid, IsValidQuestion};
 ghost use Rattle.ror_history.specs.History.{statements_of};
 ghost use Rattle.ror_proof.specs.Reading as reading;
@@ -10,7 +11,7 @@ ghost use Rattle.ror_session.specs.declared.session.Command.TheVariants.{State};
 ghost use Rattle.ror_report.specs.declared.block.Body.TheVariants.{Added};
 ghost use Rattle.ror_bench.specs.Bench.{Workbench, revisions_at, bench_of};
 ghost use Rattle.ror_bench.specs.Blocks as blocks;
-ghost use Rattle.ror_bench.specs.Blocks.{IsProvedBlock, IsOfCommand, answer_count, AreTrue, IsBlockRefusedBy, with_body, with_block};
+ghost use Rattle.ror_bench.specs.Blocks.{IsProvedBlock, IsOfCommand, answer_count, AreTrue, FailsBlock, IsEarlierBlockFault, with_body, with_block};
 ghost use Rattle.ror_bench.specs.Steps as steps;
 ghost use Rattle.ror_bench.specs.Steps.{AreAsked, AreProvedBefore, AreOfTheTable, RefusesAnswers, RefusesAsked, RefusesAdded};
 ghost use Rattle.ror_bench.specs.declared.bench.BlockFault.TheVariants.{Memory};
@@ -20,7 +21,7 @@ use ror_history::{History, HistoryFault};
 use ror_proof::Answer;
 use ror_report::{Block, Body};
 use ror_session::{Asked, Command, Line, Named};
-use ror_statement::{Numbered, Question, Statement};
+use ror_statement::{MOST_ROWS, MOST_STATEMENTS, Numbered, Question, Statement};
 use ror_table::Table;
 use ror_text::Text;
 use ror_value::Input;
@@ -122,7 +123,7 @@ impl Bench {
         ensures counted { IfOk result (λ passed. passed ≡ record { answers = answer_count block.now; wide = 0 }) }
         ensures true_answers { OnOk result (AreTrue self.old.table (statements_of (revisions_at self.old line.now.desk)) block.now) }
         ensures not_proved { IfErr result (λ e. e ≢ BlockFault.Memory → IsProvedBlock self.old.table (revisions_at self.old line.now.desk) line.now block.now → ⊥) }
-        ensures refused { IfErr result (IsBlockRefusedBy self.old.table (revisions_at self.old line.now.desk) line.now block.now) }
+        ensures refused { IfErr result (IsRefusedBy (FailsBlock self.old.table (revisions_at self.old line.now.desk) line.now block.now) IsEarlierBlockFault BlockFault.Memory) }
         ensures moved { OnOk result (self.new ≡ with_block self.old line.now block.now) }
         ensures kept { IfErr result (λ _. self.new ≡ self.old) }
     {
@@ -207,8 +208,8 @@ impl Bench {
 
 /// So many histories, each of which begins with the opening statements.
 fn histories(alloc: Global, opening: &[Statement], count: u32) -> Result<Vec<History>, AllocError>
-    requires few { length opening.now ≤ 200 }
-    requires rows { row_count opening.now ≤ 2000 }
+    requires few { length opening.now ≤ MOST_STATEMENTS }
+    requires rows { row_count opening.now ≤ MOST_ROWS }
     ensures { IfOk result (λ desks. map (λ h. h.state) desks.items ≡ replicate count (record { opening = opening.now; surviving = [] })) }
 {
     let mut desks = Vec::new(alloc);

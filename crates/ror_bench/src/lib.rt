@@ -5,7 +5,7 @@ mod bench;
 mod report;
 
 pub use bench::{Bench, BlockFault, Passed};
-pub use report::{Reason, Rejection, ReportError, check_report};
+pub use report::{MOST_REPORT_BYTES, Reason, Rejection, ReportError, check_report};
 
 #[cfg(test)]
 mod tests;

@@ -1,4 +1,4 @@
-use crate::{Bench, Reason, Rejection, ReportError, check_report};
+use crate::{Bench, MOST_REPORT_BYTES, Reason, Rejection, ReportError, check_report};
 use ror_check::CheckFault;
 use ror_session::read_session;
 use ror_system::Reject;
@@ -45,7 +45,7 @@ fn rejected(rejection: Rejection) -> Outcome {
 
 /// What comes of a report on the session over the table.
 fn outcome_of(alloc: Global, session: &[u8], report: &[u8]) -> Outcome {
-    if report.len() > 268_435_456 {
+    if report.len() > MOST_REPORT_BYTES {
         return Outcome::Other;
     }
     let Ok(table) = read_plain(alloc, TABLE) else {

@@ -37,22 +37,19 @@ question_systems_of t list q = map (system_for t list) (systems_of_question q)
 -- the certificate is accepted for the system, and shows this side of it: a solution the one, multipliers the other
 abbrev pub Shows : Side → LinearSystem → Certificate → Type 0
 Shows Solvable s (certificates.Solution x) = IsAcceptedSolution s x.steps
-Shows Solvable s (certificates.Multipliers m) = ⊥
-Shows NotSolvable s (certificates.Solution x) = ⊥
 Shows NotSolvable s (certificates.Multipliers m) = AreAcceptedMultipliers s m.weak m.strict
+Shows _ s _ = ⊥
 
 -- what the base shows of the system of the statements alone
 abbrev pub base_side : Conclusion → Side
-base_side conclusions.Yes = Solvable
-base_side conclusions.No = Solvable
 base_side conclusions.Contradiction = NotSolvable
+base_side _ = Solvable
 
 -- What each part shows of its system. The systems of a question on every compatible function are of those at which it
 -- fails: none of them is solvable where the answer is yes, one is where it is no. A contradiction has no parts.
 abbrev pub part_side : Kind → Conclusion → Side
-part_side every conclusions.Yes = NotSolvable
 part_side every conclusions.No = Solvable
-part_side every conclusions.Contradiction = NotSolvable
+part_side every _ = NotSolvable
 
 -- the numbers of the parts, where the question has so many systems: all of them in order, one of them, or none
 abbrev pub AreNumbersFor : Kind → Conclusion → ℕ → List ℕ → Type 0

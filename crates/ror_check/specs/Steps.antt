@@ -37,28 +37,21 @@ NameSystems count parts = AllByRecursion (λ p. (1 ≤ p.at) × (p.at ≤ count)
 
 -- the base is refused, or memory ran out
 abbrev pub RefusesBase : LinearSystem → Certificate → CheckFault → Type 0
-RefusesBase s base faults.WrongQuestion = ⊥
-RefusesBase s base faults.WrongVerdict = ⊥
-RefusesBase s base faults.PartCount = ⊥
 RefusesBase s base (faults.Base r) = IsRejectedFor s base r
-RefusesBase s base (faults.Part k r) = ⊥
 RefusesBase s base faults.Memory = Unit {0}
+RefusesBase s base _ = ⊥
 
 -- a part is refused, and those before it were not; or memory ran out
 abbrev pub RefusesParts : List LinearSystem → List Part → CheckFault → Type 0
-RefusesParts systems parts faults.WrongQuestion = ⊥
-RefusesParts systems parts faults.WrongVerdict = ⊥
-RefusesParts systems parts faults.PartCount = ⊥
-RefusesParts systems parts (faults.Base r) = ⊥
 RefusesParts systems parts (faults.Part k r) = FailsPart systems parts k r × ((before : ℕ) → k ≡ before + 1 → AreShownBefore systems parts before)
 RefusesParts systems parts faults.Memory = Unit {0}
+RefusesParts systems parts _ = ⊥
 
 -- a proof whose certificates are of the right kinds is refused, each earlier test having been passed; or memory ran out
 abbrev pub RefusesProof : DecisionTable → List Statement → Question → Conclusion → Proof → CheckFault → Type 0
-RefusesProof t list q c proof faults.WrongQuestion = ⊥
-RefusesProof t list q c proof faults.WrongVerdict = ⊥
 RefusesProof t list q c proof faults.PartCount = AreNumberedFor q c proof.parts → ⊥
 RefusesProof t list q c proof (faults.Base r) = AreNumberedFor q c proof.parts × IsRejectedFor (base_system t list) proof.base r
 RefusesProof t list q c proof (faults.Part k r) = AreNumberedFor q c proof.parts × Shows (base_side c) (base_system t list) proof.base
     × FailsPart (question_systems_of t list q) proof.parts k r × ((before : ℕ) → k ≡ before + 1 → AreShownBefore (question_systems_of t list q) proof.parts before)
 RefusesProof t list q c proof faults.Memory = Unit {0}
+RefusesProof t list q c proof _ = ⊥

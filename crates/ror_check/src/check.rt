@@ -1,5 +1,8 @@
+//! The check of an answer, test by test.
+
 ghost use Rattle.std.specs.Prelude.{◌≡◌, ◌≢◌, ℕ, [], ◌∷◌, ◌≤◌, ◌<◌, ◌+◌, ◌-◌, ◌^◌, ◌↔◌, length, map, true, IsTrue, OnOk, IfErr};
 ghost use Rattle.std.specs.List.{AllByRecursion, range_with_len};
+ghost use Rattle.ror_text.specs.FirstFault.{IsRefusedBy};
 ghost use Rattle.ror_statement.specs.Statement.{IsLawful, IsValidQuestion, asked_of};
 ghost use Rattle.ror_value.specs.Meaning.{Answers};
 ghost use Rattle.ror_proof.specs.Text as text;
@@ -7,7 +10,7 @@ ghost use Rattle.ror_check.specs.declared.side.Side.{Side};
 ghost use Rattle.ror_check.specs.Proof as spec;
 ghost use Rattle.ror_check.specs.Proof.{IsProvedAnswer, Proves, Shows, AreNumbersFor, base_system};
 ghost use Rattle.ror_check.specs.Faults as kinds;
-ghost use Rattle.ror_check.specs.Faults.{IsRefusedBy, IsRejectedFor};
+ghost use Rattle.ror_check.specs.Faults.{FailsAnswer, IsEarlierFault, IsRejectedFor};
 ghost use Rattle.ror_check.specs.Steps.{AreUsable, AreShownBefore, NameSystems, RefusesBase, RefusesParts, RefusesProof, systems_with};
 
 use crate::fault::CheckFault;
@@ -45,7 +48,7 @@ pub fn check_answer(
     // Nothing that is proved is refused, and a refusal names the first test that fails.
     ensures not_proved { IfErr result (λ e. e ≢ CheckFault.Memory
         → IsProvedAnswer table.now list.now asked.now x.now → ⊥) }
-    ensures refused { IfErr result (IsRefusedBy table.now list.now asked.now x.now) }
+    ensures refused { IfErr result (IsRefusedBy (FailsAnswer table.now list.now asked.now x.now) IsEarlierFault CheckFault.Memory) }
 {
     if x.question != *asked {
         return Err(CheckFault::WrongQuestion);

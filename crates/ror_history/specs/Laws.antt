@@ -2,11 +2,11 @@
 use Rattle.std.specs.Prelude.{◌≡◌, ℕ, ◌+◌, ◌<◌, List, [], ◌∷◌, ◌++◌, ◌↔◌}
 use Rattle.std.specs.List.{All}
 use Rattle.std.specs.List.Sorted.{IsStrictlyIncreasing}
-use Rattle.ror_text.specs.FirstFault.{IsFirst, IsEarlier}
+use Rattle.ror_text.specs.FirstFault.{IsFirst}
 use Rattle.ror_statement.specs.declared.statement.Statement.{Statement}
 use Rattle.ror_history.specs.declared.history.HistoryFault.{HistoryFault}
 use Rattle.ror_history.specs.History.{Revision, addition, Revisions, standing, numbers, next_number, with_revision}
-use Rattle.ror_history.specs.Faults.{CanBeAdded, FailsAddition, fault_stage, fault_place}
+use Rattle.ror_history.specs.Faults.{CanBeAdded, FailsAddition, IsEarlierFault}
 
 -- an added statement stands last, with its number, after all that stood
 abbrev pub AddedStandsLast : Type 0
@@ -30,4 +30,4 @@ pub record NextNumberRises : Type 0 where
 -- a statement can be added exactly where neither test fails, and two first faults are equal
 pub record OneFirstFault : Type 0 where
   pub no_test_fails : (r : Revisions) (s : Statement) → CanBeAdded r s ↔ ((fault : HistoryFault) → ¬ (FailsAddition r s fault))
-  pub one : (r : Revisions) (s : Statement) (f g : HistoryFault) → IsFirst (FailsAddition r s) (IsEarlier fault_stage fault_place) f → IsFirst (FailsAddition r s) (IsEarlier fault_stage fault_place) g → f ≡ g
+  pub one : (r : Revisions) (s : Statement) (f g : HistoryFault) → IsFirst (FailsAddition r s) IsEarlierFault f → IsFirst (FailsAddition r s) IsEarlierFault g → f ≡ g

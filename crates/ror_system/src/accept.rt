@@ -1,13 +1,13 @@
 ghost use Rattle.std.specs.Prelude.{◌≡◌, ◌+◌, ◌<◌, ◌≤◌, ◌^◌, ◌++◌, ◌<ℤ◌, pos, length, unsigned_abs, IsTrue, IsOk, ◌↔◌, IfErr, OnOk, MatchOption, MatchResult};
 ghost use Rattle.ror_integers.specs.Vectors.{dot, absolute_dot, total, column, NoneNegative, SomePositive};
 ghost use Rattle.ror_text.specs.FirstFault.{IsFirst};
-ghost use Rattle.ror_system.specs.System.{IsSolvable, IsNarrow};
+ghost use Rattle.ror_system.specs.System.{IsSolvable, sum_limit, IsNarrow};
 ghost use Rattle.ror_system.specs.Acceptance.{rows_of, IsAcceptedSolution, AreAcceptedMultipliers, FailsSolution, FailsMultipliers, IsEarlierTest, PassesBoth, IsFirstOfTwo};
 ghost use Rattle.ror_system.specs.Signs.{IsFirstNegative};
 
 use crate::reject::Reject;
 use crate::steps::{first_negative, positive_total};
-use crate::sum::{Sum, row_sum};
+use crate::sum::{Sum, row_at_steps};
 use crate::system::System;
 use ror_text::Items;
 
@@ -67,7 +67,7 @@ fn check_steps(s: &System, steps: &[i128]) -> Result<(), Reject>
     if positive_total(steps).is_none() {
         return Err(Reject::Total);
     }
-    for place in 0..s.row_count() {
+    for place in 0..s.number_of_rows() {
         check_row(s, steps, place)?;
     }
     Ok(())
@@ -120,7 +120,7 @@ fn check_row(s: &System, steps: &[i128], place: usize) -> Result<(), Reject>
         (λ _. PassesBoth (FailsSolution s.now steps.now) (Reject.RowWide place) (Reject.Row place))
         (IsFirstOfTwo (FailsSolution s.now steps.now) (Reject.RowWide place) (Reject.Row place)) }
 {
-    let sum = row_sum(s.row(place), steps).ok_or(Reject::RowWide(place))?;
+    let sum = row_at_steps(s.row(place), steps).ok_or(Reject::RowWide(place))?;
     let holds = if place < s.weak().len() {
         sum >= 0
     } else {
@@ -155,9 +155,9 @@ fn column_sum(s: &System, weak: &[i128], strict: &[i128], j: usize) -> Option<i1
     requires weak_lengths { length weak.now ≡ length s.now.weak }
     requires strict_lengths { length strict.now ≡ length s.now.strict }
     requires within { j < s.now.columns }
-    ensures { MatchOption result (2 ^ 127 ≤ absolute_dot (weak.now ++ strict.now) (column (rows_of s.now) j))
+    ensures { MatchOption result (sum_limit ≤ absolute_dot (weak.now ++ strict.now) (column (rows_of s.now) j))
         (λ sum. (sum ≡ dot (weak.now ++ strict.now) (column (rows_of s.now) j))
-        × (absolute_dot (weak.now ++ strict.now) (column (rows_of s.now) j) < 2 ^ 127)) }
+        × (absolute_dot (weak.now ++ strict.now) (column (rows_of s.now) j) < sum_limit)) }
 {
     let sum = Sum::zero().plus_column(s.weak(), weak, j)?;
     let sum = sum.plus_column(s.strict(), strict, j)?;

@@ -1,5 +1,6 @@
 pub mod LineLemmas
 pub mod Digits
+pub mod FirstFaultLemmas
 pub mod ReadingLemmas
 pub mod PrefixLemmas
 pub mod SpacedLemmas

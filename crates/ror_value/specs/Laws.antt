@@ -8,7 +8,7 @@ use Rattle.ror_statement.specs.declared.statement.Conclusion.{Conclusion}
 use Rattle.ror_statement.specs.Statement.{at_least, values, every}
 use Rattle.ror_table.specs.Table.{DecisionTable, steps}
 use Rattle.ror_value.specs.Value.{IsValueFunction, steps_on, marginal, value, block}
-use Rattle.ror_value.specs.Meaning.{IsSo, Answers}
+use Rattle.ror_value.specs.Meaning.{HoldsOfCompatible, Answers}
 
 -- marginal values start at 0 and never fall, those at the best levels sum to the total, and so each value lies
 -- between 0 and the total
@@ -32,7 +32,7 @@ OneConclusion = (t : DecisionTable) (list : List Statement) (q : Question) (c d 
 
 -- a is worth at least b for every compatible function
 abbrev pub IsNecessarilyPreferred : DecisionTable → List Statement → ℕ → ℕ → Type 0
-IsNecessarilyPreferred t list a b = IsSo t list every (record { relation = at_least; difference = values a b })
+IsNecessarilyPreferred t list a b = HoldsOfCompatible t list every (record { relation = at_least; difference = values a b })
 
 pub record NecessaryPreference : Type 0 where
   pub reflexive : (t : DecisionTable) (list : List Statement) (a : ℕ) → IsNecessarilyPreferred t list a a

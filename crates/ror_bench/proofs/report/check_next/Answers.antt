@@ -2,7 +2,7 @@ use Rattle.std.proofs.Common.{◌≡◌, ◌≢◌, true, sym, ap, ◌∙◌}
 use Rattle.std.specs.Prelude.{drop}
 use Rattle.ror_bench.specs.declared.bench.BlockFault.TheVariants as faults
 use Rattle.ror_report.specs.declared.read.ReportFault.TheVariants as forms
-use Rattle.ror_bench.specs.ReportSteps.{misread_error, refused_block_error}
+use Rattle.ror_bench.specs.Steps.{misread_error, refused_block_error}
 use Rattle.ror_bench.proofs.ReportProofs.{read_next, read_not_proved, not_read, no_begin_at_end}
 use Rattle.ror_bench.proofs.report.check_next.Goals as goal
 
