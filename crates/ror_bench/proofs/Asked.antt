@@ -22,8 +22,9 @@ use Rattle.ror_bench.specs.declared.bench.Passed.{Passed}
 use Rattle.ror_bench.specs.declared.bench.BlockFault.{BlockFault}
 use Rattle.ror_bench.specs.declared.bench.BlockFault.TheVariants as faults
 use Rattle.ror_bench.specs.Blocks.{IsForLine, IsOfCommand, IsProvedBlock, AreTrue, FailsBlock, IsEarlierBlockFault}
-use Rattle.ror_bench.specs.Steps.{AreAsked, AreProvedBefore, AreOfTheTable, RefusesAnswers, RefusesAsked, RefusesAdded}
-use Rattle.ror_bench.proofs.Refusals.{block_proved, block_true, none_proved, wrong_refused, answers_refused}
+use Rattle.ror_bench.specs.Steps.{AreAsked, AreProvedBefore, RefusesAnswers, RefusesAsked, RefusesAdded}
+use Rattle.ror_bench.proofs.Refusals.{block_proved, none_proved, wrong_refused, answers_refused}
+use Rattle.ror_bench.proofs.Truth.{block_true}
 
 -- the form of a block, by the command and the body that are at hand
 for_line : (t : DecisionTable) (r : Revisions) (line : Line) (block : Block) (command : Command) (body : Body) → block.line ≡ line.number → line.command ≡ command → block.body ≡ body → IsOfCommand t r command body → IsForLine t r line block
@@ -45,14 +46,9 @@ asked_proved t r line block asked xs ys (Ok x) number e f same are proved =
     (subst (λ (zs : List Answer). AreProvedBefore t (statements_of r) zs (length zs)) (answers_are block xs ys f same) proved)
 asked_proved t r line block asked xs ys (Err g) number e f same are proved = tt
 
-pub asked_true : (t : DecisionTable) (r : Revisions) (block : Block) (xs ys : List Answer) (result : Result Passed BlockFault) → block.body ≡ Answers xs → ys ≡ xs
-    → OnOk result (IsLawful (length t.alternatives) (statements_of r)) → OnOk result (AreOfTheTable (length t.alternatives) ys) → OnOk result (AreProvedBefore t (statements_of r) ys (length ys)) → OnOk result (AreTrue t (statements_of r) block)
-asked_true t r block xs ys (Ok x) f same lawful valid proved =
-    let is = answers_are block xs ys f same in
-    block_true t (statements_of r) block lawful
-    (subst (AreOfTheTable (length t.alternatives)) is valid)
-    (subst (λ (zs : List Answer). AreProvedBefore t (statements_of r) zs (length zs)) is proved)
-asked_true t r block xs ys (Err g) f same lawful valid proved = tt
+pub asked_true : (t : DecisionTable) (r : Revisions) (line : Line) (block : Block) (result : Result Passed BlockFault) → OnOk result (IsLawful (length t.alternatives) (statements_of r)) → OnOk result (IsProvedBlock t r line block) → OnOk result (AreTrue t (statements_of r) block)
+asked_true t r line block (Ok x) lawful proved = block_true t r line block lawful proved
+asked_true t r line block (Err g) lawful proved = tt
 
 refused_as : (t : DecisionTable) (r : Revisions) (line : Line) (block : Block) (asked : Asked) (xs : List Answer) (fault : BlockFault) → block.line ≡ line.number → line.command ≡ Ask asked → block.body ≡ Answers xs → RefusesAsked t (statements_of r) asked xs fault → IsRefusedBy (FailsBlock t r line block) IsEarlierBlockFault faults.Memory fault
 refused_as t r line block asked xs faults.WrongBlock number e f h = wrong_refused t r line block (not_for_line t r line block (Ask asked) (Answers xs) e f h)

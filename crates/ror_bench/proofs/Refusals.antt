@@ -51,13 +51,6 @@ all_proved t list (x ∷ xs) h = (h 0 x (omega arith) refl, all_proved t list xs
 pub block_proved : (t : DecisionTable) (r : Revisions) (line : Line) (block : Block) → IsForLine t r line block → AreProvedBefore t (statements_of r) (answers_of block.body) (length (answers_of block.body)) → IsProvedBlock t r line block
 block_proved t r line block for h = record { for_line = for; answers = all_proved t (statements_of r) (answers_of block.body) h }
 
-true_from : (t : DecisionTable) (list : List Statement) (xs : List Answer) → IsLawful (length t.alternatives) list → AreOfTheTable (length t.alternatives) xs → AreProvedBefore t list xs (length xs) → AllByRecursion (λ x. Answers t list x.question (conclusion_of x.verdict)) xs
-true_from t list [] lawful valid h = tt
-true_from t list (x ∷ xs) lawful valid h = (answer_is_true t list x.question x lawful (valid 0 x refl) (h 0 x (omega arith) refl), true_from t list xs lawful (λ j y there. valid (suc j) y there) (λ j y lt there. h (suc j) y (omega arith) there))
-
-pub block_true : (t : DecisionTable) (list : List Statement) (block : Block) → IsLawful (length t.alternatives) list → AreOfTheTable (length t.alternatives) (answers_of block.body) → AreProvedBefore t list (answers_of block.body) (length (answers_of block.body)) → AreTrue t list block
-block_true t list block = true_from t list (answers_of block.body)
-
 -- a block that is proved passes each test
 block_passes : (t : DecisionTable) (r : Revisions) (line : Line) (block : Block) (fault : BlockFault) → IsProvedBlock t r line block → FailsBlock t r line block fault → ⊥
 block_passes t r line block faults.WrongBlock p h = h p.for_line

@@ -51,6 +51,11 @@ all-begin alternatives opening (h ∷ hs) (suc count) e lawful =
     let others : map (λ (h : HistoryView). h.state) hs ≡ replicate count (record { opening = opening; surviving = [] }) = cc in
     (subst (λ (r : Revisions). IsLawful alternatives (statements_of r)) (sym first) (subst (IsLawful alternatives) (sym (with_numbers_from-statements 1 opening)) lawful), all-begin alternatives opening hs count others lawful)
 
+-- and what they hold is what stands at the desks
+pub lawful_states : (alternatives : ℕ) (views : List HistoryView) → AllByRecursion (λ (h : HistoryView). IsLawful alternatives (statements_of h.state)) views → AllByRecursion (λ (r : Revisions). IsLawful alternatives (statements_of r)) (map (λ (h : HistoryView). h.state) views)
+lawful_states alternatives [] h = tt
+lawful_states alternatives (v ∷ vs) h = (h.0, lawful_states alternatives vs h.1)
+
 -- a history that is changed at its place changes the desk there
 pub history-set : (views : List HistoryView) (desk : ℕ) (old new : HistoryView) (r : Revisions) → desk < length views → old ≡ get_or views desk old → (old.state ≡ get_or (map (λ (h : HistoryView). h.state) views) desk r) × (map (λ (h : HistoryView). h.state) (slice_set views desk new) ≡ slice_set (map (λ (h : HistoryView). h.state) views) desk new.state)
 history-set views desk old new r within is = (ap (λ (h : HistoryView). h.state) is ∙ sym (get_or-map (λ (h : HistoryView). h.state) views desk old r within), map-set (λ (h : HistoryView). h.state) views desk new)

@@ -37,11 +37,13 @@ AreAsked t asked answers = questions_of t asked ≡ Some (map (λ x. x.question)
 
 -- each answer before the place is proved, to the question that it names
 abbrev pub AreProvedBefore : DecisionTable → List Statement → List Answer → ℕ → Type 0
-AreProvedBefore t list answers n = (j : ℕ) (x : Answer) → j < n → slice_get answers j ≡ Some x → IsProvedAnswer t list x.question x
+AreProvedBefore t list answers n = (j : ℕ) (x : Answer) → j < n → slice_get answers j ≡ Some x
+    → IsProvedAnswer t list x.question x
 
 -- each answer is to a question on a table of so many alternatives
 abbrev pub AreOfTheTable : ℕ → List Answer → Type 0
-AreOfTheTable alternatives answers = (j : ℕ) (x : Answer) → slice_get answers j ≡ Some x → IsValidQuestion alternatives x.question
+AreOfTheTable alternatives answers = (j : ℕ) (x : Answer) → slice_get answers j ≡ Some x
+    → IsValidQuestion alternatives x.question
 
 -- the fault of a block of which the answer at a place is refused
 abbrev pub refused_answer : ℕ → CheckFault → BlockFault
@@ -51,13 +53,15 @@ refused_answer k fault = faults.Answer k fault
 -- an answer is refused, and those before it are proved; or memory ran out
 abbrev pub RefusesAnswers : DecisionTable → List Statement → List Answer → BlockFault → Type 0
 RefusesAnswers t list answers faults.WrongBlock = ⊥
-RefusesAnswers t list answers (faults.Answer k fault) = FailsAnswerAt t list answers k fault × ((before : ℕ) → k ≡ before + 1 → AreProvedBefore t list answers before)
+RefusesAnswers t list answers (faults.Answer k fault) = FailsAnswerAt t list answers k fault
+    × ((before : ℕ) → k ≡ before + 1 → AreProvedBefore t list answers before)
 RefusesAnswers t list answers faults.Memory = Unit {0}
 
 -- the answers are not to what is asked, or one is refused, those before it being proved; or memory ran out
 abbrev pub RefusesAsked : DecisionTable → List Statement → Asked → List Answer → BlockFault → Type 0
 RefusesAsked t list asked answers faults.WrongBlock = AreAsked t asked answers → ⊥
-RefusesAsked t list asked answers (faults.Answer k fault) = AreAsked t asked answers × RefusesAnswers t list answers (faults.Answer k fault)
+RefusesAsked t list asked answers (faults.Answer k fault) = AreAsked t asked answers
+    × RefusesAnswers t list answers (faults.Answer k fault)
 RefusesAsked t list asked answers faults.Memory = Unit {0}
 
 -- the statement can't be added with this number; or memory ran out
@@ -66,18 +70,15 @@ RefusesAdded t r named n faults.WrongBlock = IsOfCommand t r (State named) (Adde
 RefusesAdded t r named n (faults.Answer k fault) = ⊥
 RefusesAdded t r named n faults.Memory = Unit {0}
 
--- the block is proved for the line over what its desk holds, and so each answer is true
-abbrev pub IsCheckedBlock : DecisionTable → Revisions → Line → Block → Type 0
-IsCheckedBlock t r line block = IsProvedBlock t r line block × AreTrue t (statements_of r) block
-
 -- a block of the line stands at the place and ends at the other, it is proved with so many answers, and the bench is moved
 -- on by it
-pub record IsNextBlock (bench moved : Workbench) (line : Line) (bytes : List ℕ) (from : ℕ) (answers after : ℕ) : Type 0 where
+pub record IsNextBlock (bench moved : Workbench) (line : Line) (bytes : List ℕ) (from : ℕ)
+    (answers after : ℕ) : Type 0 where
   pub block : Block
   pub text : drop from bytes ≡ block_text bench.table block ++ drop after bytes
   pub ended : ends_body (drop after bytes) ≡ true
   pub printable : IsPrintableBlock bench.table block
-  pub checked : IsCheckedBlock bench.table (revisions_at bench line.desk) line block
+  pub proved : IsProvedBlock bench.table (revisions_at bench line.desk) line block
   pub counted : answers ≡ answer_count block
   pub moved_on : moved ≡ with_block bench line block
 
@@ -90,13 +91,14 @@ pub record BeginsProved (bench : Workbench) (line : Line) (bytes : List ℕ) : T
   pub printable : IsPrintableBlock bench.table block
   pub proved : IsProvedBlock bench.table (revisions_at bench line.desk) line block
 
--- the bytes are the texts of blocks that hold of the lines, after those before, and the last line of a report of so many
--- blocks
-pub record IsRest (start : Workbench) (P : Revisions → Line → Block → Type 0) (before : List (Line × Block)) (lines : List Line) (total : ℕ) (bytes : List ℕ) (answers : ℕ) : Type 0 where
+-- the bytes are the texts of blocks that are proved for the lines, after those before, and the last line of a report of so
+-- many blocks
+pub record IsRest (start : Workbench) (before : List (Line × Block)) (lines : List Line) (total : ℕ)
+    (bytes : List ℕ) (answers : ℕ) : Type 0 where
   pub blocks : List Block
   pub text : bytes ≡ flat_map (block_text start.table) blocks ++ end_text total
   pub printable : AllByRecursion (IsPrintableBlock start.table) blocks
-  pub held : EachHolds P start before lines blocks
+  pub proved : EachHolds (IsProvedBlock start.table) start before lines blocks
   pub counted : answers ≡ sum_by answer_count blocks
 
 -- ---- which error a fault of a block is
@@ -114,6 +116,8 @@ refused_block_error block faults.Memory = errors.Memory
 
 -- the line of a fault within the bytes, or the one that their end is in
 abbrev pub misread_error : List ℕ → ℕ → ReportFault → ReportError
-misread_error bytes block (forms.BadLine place) = rejected block (reasons.BadLine (line_of bytes (min place (length bytes))))
-misread_error bytes block (forms.BadNumber place) = rejected block (reasons.BadNumber (line_of bytes (min place (length bytes))))
+misread_error bytes block (forms.BadLine place) =
+    rejected block (reasons.BadLine (line_of bytes (min place (length bytes))))
+misread_error bytes block (forms.BadNumber place) =
+    rejected block (reasons.BadNumber (line_of bytes (min place (length bytes))))
 misread_error bytes block forms.Memory = errors.Memory

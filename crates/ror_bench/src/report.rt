@@ -8,7 +8,7 @@ ghost use Rattle.ror_text.specs.Lines.{line_of};
 ghost use Rattle.ror_table.specs.Table.{IsTable};
 ghost use Rattle.ror_report.specs.Text.{end_text};
 ghost use Rattle.ror_bench.specs.Bench.{Workbench};
-ghost use Rattle.ror_bench.specs.Reports.{IsProvedReport, IsTrueReport, NamesADesk, HoldsNoMemory};
+ghost use Rattle.ror_bench.specs.Reports.{IsProvedReport, IsAcceptedReport, NamesADesk, HoldsNoMemory};
 ghost use Rattle.ror_bench.specs.Steps.{IsNextBlock, BeginsProved};
 ghost use Rattle.ror_bench.specs.Steps.{misread_error, refused_block_error, wrong_block_error};
 
@@ -57,7 +57,8 @@ pub enum ReportError {
 }
 
 /// Checks a report against the session's lines, block by block, each over what the blocks before it left at its desk, and
-/// gives the number of its answers. The report has at most `MOST_REPORT_BYTES`.
+/// gives the number of its answers. The report has at most `MOST_REPORT_BYTES`. What is accepted is the text of a proved
+/// report, and its answers are true of all compatible value functions.
 ///
 /// # Errors
 ///
@@ -71,9 +72,9 @@ pub fn check_report(
 ) -> Result<u64, ReportError>
     requires desks { AllByRecursion (NamesADesk (length bench.state)) lines.now }
     requires length { length bytes.now ≤ MOST_REPORT_BYTES }
-    ensures accepted { IfOk result (IsProvedReport bench lines.now bytes.now) }
-    ensures true_answers { IfOk result (λ n. IsTrueReport bench lines.now bytes.now) }
-    ensures not_proved { IfErr result (λ e. e ≢ ReportError.Memory → (n : ℕ) → IsProvedReport bench lines.now bytes.now n → ⊥) }
+    ensures accepted { IfOk result (IsAcceptedReport bench lines.now bytes.now) }
+    ensures not_proved { IfErr result (λ e. e ≢ ReportError.Memory
+        → (n : ℕ) → IsProvedReport bench lines.now bytes.now n → ⊥) }
     ensures pure { IfErr result HoldsNoMemory }
 {
     // What is read back is what was written only over a table, and each table has alternatives.
@@ -106,8 +107,8 @@ fn check_blocks(
     requires desks { AllByRecursion (NamesADesk (length bench.state)) lines.now }
     requires length { length bytes.now ≤ MOST_REPORT_BYTES }
     ensures accepted { IfOk result (IsProvedReport bench lines.now bytes.now) }
-    ensures true_answers { IfOk result (λ n. IsTrueReport bench lines.now bytes.now) }
-    ensures not_proved { IfErr result (λ e. e ≢ ReportError.Memory → (n : ℕ) → IsProvedReport bench lines.now bytes.now n → ⊥) }
+    ensures not_proved { IfErr result (λ e. e ≢ ReportError.Memory
+        → (n : ℕ) → IsProvedReport bench lines.now bytes.now n → ⊥) }
     ensures pure { IfErr result HoldsNoMemory }
 {
     let Some(start) = read_header(bytes) else {
@@ -145,10 +146,12 @@ fn check_next(
     requires desk { NamesADesk (length bench.old.state) line.now }
     requires within { from ≤ length bytes.now }
     requires length { length bytes.now ≤ MOST_REPORT_BYTES }
-    ensures next { IfOk result (λ x. IsNextBlock bench.old bench.new line.now bytes.now from x.0 x.1) }
+    ensures next { IfOk result
+        (λ x. IsNextBlock bench.old bench.new line.now bytes.now from x.0 x.1) }
     ensures onward { IfOk result (λ x. from < x.1) }
     ensures within { IfOk result (λ x. x.1 ≤ length bytes.now) }
-    ensures none { IfErr result (λ e. e ≢ ReportError.Memory → BeginsProved bench.old line.now (drop from bytes.now) → ⊥) }
+    ensures none { IfErr result (λ e. e ≢ ReportError.Memory
+        → BeginsProved bench.old line.now (drop from bytes.now) → ⊥) }
     ensures pure { IfErr result HoldsNoMemory }
     ensures kept { IfErr result (λ _. bench.new ≡ bench.old) }
 {
@@ -176,7 +179,8 @@ fn check_end(
     requires length { length bytes.now ≤ MOST_REPORT_BYTES }
     requires block { 0 < block }
     ensures last { OnOk result (drop from bytes.now ≡ end_text (block - 1)) }
-    ensures not_last { IfErr result (λ e. e ≢ ReportError.Memory → drop from bytes.now ≡ end_text (block - 1) → ⊥) }
+    ensures not_last { IfErr result (λ e. e ≢ ReportError.Memory
+        → drop from bytes.now ≡ end_text (block - 1) → ⊥) }
     ensures pure { IfErr result HoldsNoMemory }
 {
     if !begins_end(bytes, from) {

@@ -41,10 +41,12 @@ has_kinds q c proof = is_side (base_side c) proof.base && have_kind (asked_of q)
 -- the first reason for which a system does not accept a certificate
 abbrev pub IsRejectedFor : LinearSystem → Certificate → Reject → Type 0
 IsRejectedFor s (certificates.Solution x) r = IsFirst (FailsSolution s x.steps) IsEarlierTest r
-IsRejectedFor s (certificates.Multipliers m) r = IsFirst (FailsMultipliers s m.weak m.strict) IsEarlierTest r
+IsRejectedFor s (certificates.Multipliers m) r =
+    IsFirst (FailsMultipliers s m.weak m.strict) IsEarlierTest r
 
 -- the part at a place, counted from 1, is not accepted for the system that has its number, for this reason
-pub record FailsPart (systems : List LinearSystem) (parts : List Part) (k : ℕ) (r : Reject) : Type 0 where
+pub record FailsPart (systems : List LinearSystem) (parts : List Part) (k : ℕ)
+    (r : Reject) : Type 0 where
   pub part : Part
   pub before : ℕ
   pub counted : k ≡ before + 1
@@ -58,10 +60,14 @@ pub record FailsPart (systems : List LinearSystem) (parts : List Part) (k : ℕ)
 -- what each test finds at fault, each taken alone
 abbrev pub FailsAnswer : DecisionTable → List Statement → Question → Answer → CheckFault → Type 0
 FailsAnswer t list q x faults.WrongQuestion = x.question ≢ q
-FailsAnswer t list q x faults.WrongVerdict = has_kinds q (conclusion_of x.verdict) (proof_of x.verdict) ≡ false
-FailsAnswer t list q x faults.PartCount = AreNumberedFor q (conclusion_of x.verdict) (proof_of x.verdict).parts → ⊥
-FailsAnswer t list q x (faults.Base r) = IsRejectedFor (base_system t list) (proof_of x.verdict).base r
-FailsAnswer t list q x (faults.Part k r) = FailsPart (question_systems_of t list q) (proof_of x.verdict).parts k r
+FailsAnswer t list q x faults.WrongVerdict =
+    has_kinds q (conclusion_of x.verdict) (proof_of x.verdict) ≡ false
+FailsAnswer t list q x faults.PartCount =
+    AreNumberedFor q (conclusion_of x.verdict) (proof_of x.verdict).parts → ⊥
+FailsAnswer t list q x (faults.Base r) =
+    IsRejectedFor (base_system t list) (proof_of x.verdict).base r
+FailsAnswer t list q x (faults.Part k r) =
+    FailsPart (question_systems_of t list q) (proof_of x.verdict).parts k r
 FailsAnswer t list q x faults.Memory = ⊥
 
 abbrev pub fault_stage : CheckFault → ℕ

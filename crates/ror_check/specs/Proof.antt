@@ -54,11 +54,13 @@ part_side every _ = NotSolvable
 -- the numbers of the parts, where the question has so many systems: all of them in order, one of them, or none
 abbrev pub AreNumbersFor : Kind → Conclusion → ℕ → List ℕ → Type 0
 AreNumbersFor every conclusions.Yes count numbers = numbers ≡ range_with_len 1 count
-AreNumbersFor every conclusions.No count numbers = (n : ℕ) × (1 ≤ n) × (n ≤ count) × (numbers ≡ n ∷ [])
+AreNumbersFor every conclusions.No count numbers = (n : ℕ) × (1 ≤ n) × (n ≤ count)
+    × (numbers ≡ n ∷ [])
 AreNumbersFor every conclusions.Contradiction count numbers = numbers ≡ []
 
 abbrev pub AreNumberedFor : Question → Conclusion → List Part → Type 0
-AreNumberedFor q c parts = AreNumbersFor (asked_of q).kind c (length (systems_of_question q)) (map (λ p. p.at) parts)
+AreNumberedFor q c parts =
+    AreNumbersFor (asked_of q).kind c (length (systems_of_question q)) (map (λ p. p.at) parts)
 
 -- the part shows this side of the system that has its number
 pub record ShowsOfItsSystem (side : Side) (systems : List LinearSystem) (p : Part) : Type 0 where
@@ -70,12 +72,15 @@ pub record ShowsOfItsSystem (side : Side) (systems : List LinearSystem) (p : Par
 
 -- the base and the parts show what the conclusion wants, over the system of the statements and the systems of the
 -- question
-pub record Proves (t : DecisionTable) (list : List Statement) (q : Question) (c : Conclusion) (proof : Proof) : Type 0 where
+pub record Proves (t : DecisionTable) (list : List Statement) (q : Question) (c : Conclusion)
+    (proof : Proof) : Type 0 where
   pub base : Shows (base_side c) (base_system t list) proof.base
   pub numbered : AreNumberedFor q c proof.parts
-  pub parts : AllByRecursion (ShowsOfItsSystem (part_side (asked_of q).kind c) (question_systems_of t list q)) proof.parts
+  pub parts : AllByRecursion (ShowsOfItsSystem (part_side (asked_of q).kind c)
+      (question_systems_of t list q)) proof.parts
 
 -- the answer is to this question, and its proof proves its verdict
-pub record IsProvedAnswer (t : DecisionTable) (list : List Statement) (q : Question) (x : Answer) : Type 0 where
+pub record IsProvedAnswer (t : DecisionTable) (list : List Statement) (q : Question)
+    (x : Answer) : Type 0 where
   pub question : x.question ≡ q
   pub proof : Proves t list q (conclusion_of x.verdict) (proof_of x.verdict)

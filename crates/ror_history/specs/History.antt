@@ -29,7 +29,8 @@ with_numbers_from n (s ∷ ss) = record { number = n; statement = s } ∷ with_n
 abbrev pub revised : List Numbered → Revision → List Numbered
 revised list (addition n s) = list ++ record { number = n; statement = s } ∷ []
 revised list (withdrawal ns) = filter (λ x. not (is_member nat_eq ns x.number)) list
-revised list (replacement n s) = map (λ x. if x.number == n then record { number = n; statement = s } else x) list
+revised list (replacement n s) =
+    map (λ x. if x.number == n then record { number = n; statement = s } else x) list
 
 -- the standing list: the opening one, numbered from 1, after each surviving revision in order
 abbrev pub standing : Revisions → List Numbered
@@ -51,7 +52,8 @@ added_numbers (replacement n s ∷ more) = added_numbers more
 -- one past the greatest number of the opening list and of the surviving additions, whether or not it still stands; 1 if
 -- there is none
 abbrev pub next_number : Revisions → ℕ
-next_number r = 1 + fold max 0 (numbers (with_numbers_from 1 r.opening) ++ added_numbers r.surviving)
+next_number r =
+    1 + fold max 0 (numbers (with_numbers_from 1 r.opening) ++ added_numbers r.surviving)
 
 -- the revisions with one more
 abbrev pub with_revision : Revisions → Revision → Revisions

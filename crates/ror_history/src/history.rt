@@ -89,9 +89,11 @@ impl History {
     /// `MOST_ROWS`. A refusal changes nothing.
     pub fn add(&mut self, s: Statement) -> Result<u32, HistoryFault>
         ensures numbered { IfOk result (λ n. n ≡ next_number self.old.state) }
-        ensures added { IfOk result (λ n. self.new.state ≡ with_revision self.old.state (addition n s)) }
+        ensures added { IfOk result (λ n. self.new.state
+            ≡ with_revision self.old.state (addition n s)) }
         ensures allowed { OnOk result (CanBeAdded self.old.state s) }
-        ensures refused { IfErr result (IsRefusedBy (FailsAddition self.old.state s) IsEarlierFault HistoryFault.Memory) }
+        ensures refused { IfErr result (IsRefusedBy (FailsAddition self.old.state s)
+            IsEarlierFault HistoryFault.Memory) }
         ensures unchanged { IfErr result (λ _. self.new.state ≡ self.old.state) }
     {
         if self.opening.len() + self.added.len() >= MOST_STATEMENTS {
@@ -157,7 +159,8 @@ fn statements_with(
     added: &[Numbered],
     s: Statement,
 ) -> Result<Vec<Statement>, AllocError>
-    ensures { IfOk result (λ list. list.items ≡ (opening.now ++ map (λ x. x.statement) added.now) ++ s ∷ []) }
+    ensures { IfOk result (λ list. list.items
+        ≡ (opening.now ++ map (λ x. x.statement) added.now) ++ s ∷ []) }
 {
     let mut list = Vec::from_slice(alloc, opening)?;
     for numbered in added {

@@ -35,7 +35,8 @@ pub record Inquiry : Type 0 where
 
 -- what a question asks
 abbrev pub asked_of : Question → Inquiry
-asked_of (Necessary a b) = record { kind = every; comparison = record { relation = at_least; difference = values a b } }
+asked_of (Necessary a b) =
+    record { kind = every; comparison = record { relation = at_least; difference = values a b } }
 
 -- the quantities are named within a table of so many alternatives
 abbrev pub NamesWithin : ℕ → Difference → Type 0

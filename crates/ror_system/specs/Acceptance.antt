@@ -32,17 +32,23 @@ abbrev pub FailsSolution : LinearSystem → List ℤ → Reject → Type 0
 FailsSolution s d rejects.Length = length d ≢ s.columns
 FailsSolution s d (rejects.Negative k) = (k < length d) × (entry d k <ℤ pos 0)
 FailsSolution s d rejects.Total = ((pos 0 <ℤ total d) × IsNarrow (total d)) → ⊥
-FailsSolution s d (rejects.RowWide i) = (i < length (rows_of s)) × (sum_limit ≤ absolute_dot (row_at s i) d)
-FailsSolution s d (rejects.Row i) = ((i < length s.weak) × (dot (row_at s i) d <ℤ pos 0)) ⊎ ((length s.weak ≤ i) × (i < length (rows_of s)) × (dot (row_at s i) d ≤ℤ pos 0))
+FailsSolution s d (rejects.RowWide i) = (i < length (rows_of s))
+    × (sum_limit ≤ absolute_dot (row_at s i) d)
+FailsSolution s d (rejects.Row i) = ((i < length s.weak) × (dot (row_at s i) d <ℤ pos 0))
+    ⊎ ((length s.weak ≤ i) × (i < length (rows_of s)) × (dot (row_at s i) d ≤ℤ pos 0))
 FailsSolution s d _ = ⊥
 
 -- the same of multipliers
 abbrev pub FailsMultipliers : LinearSystem → List ℤ → List ℤ → Reject → Type 0
-FailsMultipliers s weak strict rejects.Length = (length weak ≢ length s.weak) ⊎ (length strict ≢ length s.strict)
-FailsMultipliers s weak strict (rejects.Negative k) = (k < length (weak ++ strict)) × (entry (weak ++ strict) k <ℤ pos 0)
+FailsMultipliers s weak strict rejects.Length = (length weak ≢ length s.weak)
+    ⊎ (length strict ≢ length s.strict)
+FailsMultipliers s weak strict (rejects.Negative k) = (k < length (weak ++ strict))
+    × (entry (weak ++ strict) k <ℤ pos 0)
 FailsMultipliers s weak strict rejects.NoStrict = SomePositive strict → ⊥
-FailsMultipliers s weak strict (rejects.ColumnWide j) = sum_limit ≤ absolute_dot (weak ++ strict) (column (rows_of s) j)
-FailsMultipliers s weak strict (rejects.Column j) = pos 0 <ℤ dot (weak ++ strict) (column (rows_of s) j)
+FailsMultipliers s weak strict (rejects.ColumnWide j) =
+    sum_limit ≤ absolute_dot (weak ++ strict) (column (rows_of s) j)
+FailsMultipliers s weak strict (rejects.Column j) =
+    pos 0 <ℤ dot (weak ++ strict) (column (rows_of s) j)
 FailsMultipliers s weak strict _ = ⊥
 
 -- the tests in their order: length, signs, total or strict multipliers, then row by row or column by column
@@ -71,4 +77,5 @@ PassesBoth Fails first second = (Fails first → ⊥) × (Fails second → ⊥)
 
 -- this is the first of the two that fails
 abbrev pub IsFirstOfTwo : (Reject → Type 0) → Reject → Reject → Reject → Type 0
-IsFirstOfTwo Fails first second r = ((r ≡ first) × Fails first) ⊎ ((r ≡ second) × (Fails first → ⊥) × Fails second)
+IsFirstOfTwo Fails first second r = ((r ≡ first) × Fails first)
+    ⊎ ((r ≡ second) × (Fails first → ⊥) × Fails second)

@@ -11,10 +11,16 @@ NeverBoth = (s : LinearSystem) (weak strict : List ℤ) → Refutes s weak stric
 
 -- a certificate is accepted exactly where none of its tests fails
 pub record NoTestFails : Type 0 where
-  pub of_solutions : (s : LinearSystem) (d : List ℤ) → IsAcceptedSolution s d ↔ ((r : Reject) → ¬ (FailsSolution s d r))
-  pub of_multipliers : (s : LinearSystem) (weak strict : List ℤ) → AreAcceptedMultipliers s weak strict ↔ ((r : Reject) → ¬ (FailsMultipliers s weak strict r))
+  pub of_solutions : (s : LinearSystem) (d : List ℤ) → IsAcceptedSolution s d
+      ↔ ((r : Reject) → ¬ (FailsSolution s d r))
+  pub of_multipliers : (s : LinearSystem) (weak strict : List ℤ)
+      → AreAcceptedMultipliers s weak strict ↔ ((r : Reject) → ¬ (FailsMultipliers s weak strict r))
 
 -- two first reasons are equal
 pub record OneFirstReason : Type 0 where
-  pub of_solutions : (s : LinearSystem) (d : List ℤ) (q r : Reject) → IsFirst (FailsSolution s d) IsEarlierTest q → IsFirst (FailsSolution s d) IsEarlierTest r → q ≡ r
-  pub of_multipliers : (s : LinearSystem) (weak strict : List ℤ) (q r : Reject) → IsFirst (FailsMultipliers s weak strict) IsEarlierTest q → IsFirst (FailsMultipliers s weak strict) IsEarlierTest r → q ≡ r
+  pub of_solutions : (s : LinearSystem) (d : List ℤ) (q r : Reject)
+      → IsFirst (FailsSolution s d) IsEarlierTest q → IsFirst (FailsSolution s d) IsEarlierTest r
+      → q ≡ r
+  pub of_multipliers : (s : LinearSystem) (weak strict : List ℤ) (q r : Reject)
+      → IsFirst (FailsMultipliers s weak strict) IsEarlierTest q
+      → IsFirst (FailsMultipliers s weak strict) IsEarlierTest r → q ≡ r

@@ -47,7 +47,8 @@ pub fn accept_solution(s: &System, x: &Solution) -> Result<(), Reject>
 /// `ColumnWide` before `Column`.
 pub fn accept_multipliers(s: &System, m: &Multipliers) -> Result<(), Reject>
     ensures accepted { IsOk result ↔ AreAcceptedMultipliers s.now m.now.weak m.now.strict }
-    ensures rejected { IfErr result (IsFirst (FailsMultipliers s.now m.now.weak m.now.strict) IsEarlierTest) }
+    ensures rejected { IfErr result
+        (IsFirst (FailsMultipliers s.now m.now.weak m.now.strict) IsEarlierTest) }
     ensures not_solvable { OnOk result (IsSolvable s.now → ⊥) }
 {
     check_weights(s, m.weak.as_slice(), m.strict.as_slice())
@@ -96,7 +97,8 @@ fn check_weights(s: &System, weak: &[i128], strict: &[i128]) -> Result<(), Rejec
 /// The place of the first number below 0 in two lists, one after the other, if there is one.
 fn first_negative_of_both(first: &[i128], second: &[i128]) -> Option<usize>
     requires { length first.now + length second.now < 2 ^ 64 }
-    ensures { MatchOption result (NoneNegative (first.now ++ second.now)) (IsFirstNegative (first.now ++ second.now)) }
+    ensures { MatchOption result (NoneNegative (first.now ++ second.now))
+        (IsFirstNegative (first.now ++ second.now)) }
 {
     if let Some(place) = first_negative(first) {
         return Some(place);
@@ -139,8 +141,10 @@ fn check_column(s: &System, weak: &[i128], strict: &[i128], j: usize) -> Result<
     requires strict_lengths { length strict.now ≡ length s.now.strict }
     requires within { j < s.now.columns }
     ensures { MatchResult result
-        (λ _. PassesBoth (FailsMultipliers s.now weak.now strict.now) (Reject.ColumnWide j) (Reject.Column j))
-        (IsFirstOfTwo (FailsMultipliers s.now weak.now strict.now) (Reject.ColumnWide j) (Reject.Column j)) }
+        (λ _. PassesBoth (FailsMultipliers s.now weak.now strict.now) (Reject.ColumnWide j)
+        (Reject.Column j))
+        (IsFirstOfTwo (FailsMultipliers s.now weak.now strict.now) (Reject.ColumnWide j)
+        (Reject.Column j)) }
 {
     let sum = column_sum(s, weak, strict, j).ok_or(Reject::ColumnWide(j))?;
     if sum > 0 {
@@ -155,7 +159,8 @@ fn column_sum(s: &System, weak: &[i128], strict: &[i128], j: usize) -> Option<i1
     requires weak_lengths { length weak.now ≡ length s.now.weak }
     requires strict_lengths { length strict.now ≡ length s.now.strict }
     requires within { j < s.now.columns }
-    ensures { MatchOption result (sum_limit ≤ absolute_dot (weak.now ++ strict.now) (column (rows_of s.now) j))
+    ensures { MatchOption result (sum_limit ≤ absolute_dot (weak.now ++ strict.now)
+        (column (rows_of s.now) j))
         (λ sum. (sum ≡ dot (weak.now ++ strict.now) (column (rows_of s.now) j))
         × (absolute_dot (weak.now ++ strict.now) (column (rows_of s.now) j) < sum_limit)) }
 {

@@ -28,7 +28,8 @@ impl Sum {
     /// The sum with one product more, unless the absolute values then sum past 2^127 - 1.
     fn plus(self, a: i128, b: i128) -> Option<Sum>
         ensures { MatchOption result (sum_limit ≤ self.width + unsigned_abs (a *ℤ b))
-            (λ sum. (sum.value ≡ self.value +ℤ a *ℤ b) × (sum.width ≡ self.width + unsigned_abs (a *ℤ b))) }
+            (λ sum. (sum.value ≡ self.value +ℤ a *ℤ b)
+            × (sum.width ≡ self.width + unsigned_abs (a *ℤ b))) }
     {
         // Most entries and most multipliers are 0, and a product of 128 bits is slow.
         if a == 0 || b == 0 {
@@ -49,7 +50,8 @@ impl Sum {
     pub(crate) fn plus_column(self, rows: &[Row], multipliers: &[i128], j: usize) -> Option<Sum>
         requires lengths { length rows.now ≡ length multipliers.now }
         requires widths { AllByRecursion (λ row. j < length row) rows.now }
-        ensures { MatchOption result (sum_limit ≤ self.width + absolute_dot multipliers.now (column rows.now j))
+        ensures { MatchOption result (sum_limit
+            ≤ self.width + absolute_dot multipliers.now (column rows.now j))
             (λ sum. (sum.value ≡ self.value +ℤ dot multipliers.now (column rows.now j))
             × (sum.width ≡ self.width + absolute_dot multipliers.now (column rows.now j))) }
     {

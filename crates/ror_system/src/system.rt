@@ -24,7 +24,11 @@ impl Model for System {
 
     ghost view = { λ s. record { columns = s.columns; weak = s.weak.items; strict = s.strict.items } };
 
-    ghost invariant = { λ s. IsWellFormed (record { columns = s.columns; weak = s.weak.items; strict = s.strict.items }) };
+    ghost invariant = { λ s. IsWellFormed (record {
+      columns = s.columns;
+      weak = s.weak.items;
+      strict = s.strict.items;
+    }) };
 }
 
 impl System {

@@ -47,6 +47,8 @@ HoldsOfCompatible t list every c = (w : List ℤ) → IsCompatible t list w → 
 
 -- the conclusion answers the question over the list
 abbrev pub Answers : DecisionTable → List Statement → Question → Conclusion → Type 0
-Answers t list q Yes = IsConsistent t list × HoldsOfCompatible t list (asked_of q).kind (asked_of q).comparison
-Answers t list q No = IsConsistent t list × (HoldsOfCompatible t list (asked_of q).kind (asked_of q).comparison → ⊥)
+Answers t list q Yes = IsConsistent t list
+    × HoldsOfCompatible t list (asked_of q).kind (asked_of q).comparison
+Answers t list q No = IsConsistent t list
+    × (HoldsOfCompatible t list (asked_of q).kind (asked_of q).comparison → ⊥)
 Answers t list q Contradiction = IsContradictory t list

@@ -77,8 +77,10 @@ impl ValueFunction {
         ensures steps { IfOk result (λ f. f ≡ steps.now) }
         ensures accepted { IfOk result (IsAcceptedFunction table.now) }
         // No value function whose total fits is refused, and a refusal names the first test that fails.
-        ensures not_accepted { IfErr result (λ e. e ≢ Memory → IsAcceptedFunction table.now steps.now → ⊥) }
-        ensures refused { IfErr result (IsRefusedBy (FailsValue table.now steps.now) IsEarlierFault ValueFault.Memory) }
+        ensures not_accepted { IfErr result (λ e. e ≢ Memory
+            → IsAcceptedFunction table.now steps.now → ⊥) }
+        ensures refused { IfErr result (IsRefusedBy (FailsValue table.now steps.now)
+            IsEarlierFault ValueFault.Memory) }
     {
         if steps.len() != table.columns() {
             return Err(ValueFault::Length);
