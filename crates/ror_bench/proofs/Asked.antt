@@ -1,28 +1,25 @@
 -- The block of a line that asks, and of one that states.
-use Rattle.std.proofs.Common.{◌≡◌, ◌≢◌, ℕ, List, length, Result, Ok, Err, sym, subst, ap, ◌∙◌}
+use Rattle.std.proofs.Common.{◌≡◌, ◌≢◌, List, length, Result, Ok, Err, sym, subst, ap, ◌∙◌}
 use Rattle.std.specs.Prelude.{OnOk, IfErr}
-use Rattle.std.specs.List.{AllByRecursion}
 use Rattle.ror_text.specs.FirstFault.{IsRefusedBy}
 use Rattle.ror_text.proofs.FirstFaultLemmas.{refused_by_memory}
 use Rattle.ror_statement.specs.Statement.{IsLawful}
 use Rattle.ror_table.specs.Table.{DecisionTable}
 use Rattle.ror_session.specs.declared.session.Line.{Line}
 use Rattle.ror_session.specs.declared.session.Command.{Command}
-use Rattle.ror_session.specs.declared.session.Command.TheVariants.{State, Ask}
-use Rattle.ror_session.specs.declared.session.Named.{Named}
+use Rattle.ror_session.specs.declared.session.Command.TheVariants.{Ask}
 use Rattle.ror_session.specs.declared.session.Asked.{Asked}
 use Rattle.ror_proof.specs.declared.answer.Answer.{Answer}
-use Rattle.ror_check.specs.Proof.{IsProvedAnswer}
 use Rattle.ror_report.specs.declared.block.Block.{Block}
 use Rattle.ror_report.specs.declared.block.Body.{Body}
-use Rattle.ror_report.specs.declared.block.Body.TheVariants.{Added, Answers}
+use Rattle.ror_report.specs.declared.block.Body.TheVariants.{Answers}
 use Rattle.ror_report.specs.Text.{answers_of}
 use Rattle.ror_history.specs.History.{Revisions, statements_of}
 use Rattle.ror_bench.specs.declared.bench.Passed.{Passed}
 use Rattle.ror_bench.specs.declared.bench.BlockFault.{BlockFault}
 use Rattle.ror_bench.specs.declared.bench.BlockFault.TheVariants as faults
 use Rattle.ror_bench.specs.Blocks.{IsForLine, IsOfCommand, IsProvedBlock, AreTrue, FailsBlock, IsEarlierBlockFault}
-use Rattle.ror_bench.specs.Steps.{AreAsked, AreProvedBefore, RefusesAnswers, RefusesAsked, RefusesAdded}
+use Rattle.ror_bench.specs.Steps.{AreAsked, AreProvedBefore, RefusesAnswers, RefusesAsked}
 use Rattle.ror_bench.proofs.Refusals.{block_proved, none_proved, wrong_refused, answers_refused}
 use Rattle.ror_bench.proofs.Truth.{block_true}
 
@@ -64,19 +61,3 @@ asked_refused t r line block asked xs ys (Err g) number e f same h = refused_as 
 
 pub none_asked : (t : DecisionTable) (r : Revisions) (line : Line) (block : Block) (result : Result Passed BlockFault) → IfErr result (IsRefusedBy (FailsBlock t r line block) IsEarlierBlockFault faults.Memory) → IfErr result (λ e. e ≢ faults.Memory → IsProvedBlock t r line block → ⊥)
 none_asked t r line block result h = none_proved t r line block result h
-
--- ---- a line that states
-
-pub added_proved : (t : DecisionTable) (r : Revisions) (line : Line) (block : Block) (named : Named) (n : ℕ) (result : Result Passed BlockFault) → block.line ≡ line.number → line.command ≡ State named → block.body ≡ Added n → OnOk result (IsOfCommand t r (State named) (Added n)) → OnOk result (IsProvedBlock t r line block)
-added_proved t r line block named n (Ok x) number e f h =
-    record { for_line = for_line t r line block (State named) (Added n) number e f h; answers = subst (λ (b : Body). AllByRecursion (λ x. IsProvedAnswer t (statements_of r) x.question x) (answers_of b)) (sym f) tt }
-added_proved t r line block named n (Err g) number e f h = tt
-
-added_refused_as : (t : DecisionTable) (r : Revisions) (line : Line) (block : Block) (named : Named) (n : ℕ) (fault : BlockFault) → line.command ≡ State named → block.body ≡ Added n → RefusesAdded t r named n fault → IsRefusedBy (FailsBlock t r line block) IsEarlierBlockFault faults.Memory fault
-added_refused_as t r line block named n faults.WrongBlock e f h = wrong_refused t r line block (not_for_line t r line block (State named) (Added n) e f h)
-added_refused_as t r line block named n (faults.Answer k g) e f h = absurd h
-added_refused_as t r line block named n faults.Memory e f h = refused_by_memory (FailsBlock t r line block) IsEarlierBlockFault faults.Memory
-
-pub added_refused : (t : DecisionTable) (r : Revisions) (line : Line) (block : Block) (named : Named) (n : ℕ) (result : Result Passed BlockFault) → line.command ≡ State named → block.body ≡ Added n → IfErr result (RefusesAdded t r named n) → IfErr result (IsRefusedBy (FailsBlock t r line block) IsEarlierBlockFault faults.Memory)
-added_refused t r line block named n (Ok x) e f h = tt
-added_refused t r line block named n (Err g) e f h = added_refused_as t r line block named n g e f h

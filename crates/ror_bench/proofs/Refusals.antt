@@ -1,29 +1,27 @@
 -- That a block is refused for the first of its faults, and that what is refused is not proved.
-use Rattle.std.proofs.Common.{◌≡◌, ◌≢◌, ℕ, suc, ◌+◌, List, [], ◌∷◌, length, Some, Result, Ok, Err, refl, sym, ◌∙◌, subst, arith, inl, inr}
+use Rattle.std.proofs.Common.{◌≡◌, ◌≢◌, ℕ, suc, ◌+◌, List, [], ◌∷◌, length, Some, Result, refl, sym, ◌∙◌, subst, arith, inl, inr}
 use Rattle.std.specs.Prelude.{slice_get, IfErr}
 use Rattle.std.proofs.lemmas.Bool.{cases_lt}
 use Rattle.std.specs.List.{AllByRecursion}
 use Rattle.ror_text.specs.FirstFault.{IsRefusedBy}
 use Rattle.ror_text.proofs.FirstFaultLemmas.{not_earlier, refused_not_passed}
 use Rattle.ror_statement.specs.declared.statement.Statement.{Statement}
-use Rattle.ror_statement.specs.Statement.{IsLawful}
 use Rattle.ror_table.specs.Table.{DecisionTable}
-use Rattle.ror_value.specs.Meaning.{Answers}
 use Rattle.ror_session.specs.declared.session.Line.{Line}
 use Rattle.ror_proof.specs.declared.answer.Answer.{Answer}
 use Rattle.ror_check.specs.declared.fault.CheckFault.{CheckFault}
 use Rattle.ror_check.specs.declared.fault.CheckFault.TheVariants as checks
-use Rattle.ror_check.specs.Proof.{IsProvedAnswer, conclusion_of}
+use Rattle.ror_check.specs.Proof.{IsProvedAnswer}
 use Rattle.ror_check.specs.Faults.{FailsAnswer, IsEarlierFault}
-use Rattle.ror_check.proofs.Checking.{answer_is_true, all_at, some_same}
+use Rattle.ror_check.proofs.Checking.{all_at, some_same}
 use Rattle.ror_check.proofs.FirstFaults.{passes_each_test}
 use Rattle.ror_report.specs.declared.block.Block.{Block}
 use Rattle.ror_report.specs.Text.{answers_of}
 use Rattle.ror_history.specs.History.{Revisions, statements_of}
 use Rattle.ror_bench.specs.declared.bench.BlockFault.{BlockFault}
 use Rattle.ror_bench.specs.declared.bench.BlockFault.TheVariants as faults
-use Rattle.ror_bench.specs.Blocks.{IsForLine, IsProvedBlock, AreTrue, FailsBlock, IsEarlierBlockFault, block_stage, block_place}
-use Rattle.ror_bench.specs.Steps.{AreProvedBefore, AreOfTheTable, RefusesAnswers, refused_answer}
+use Rattle.ror_bench.specs.Blocks.{IsForLine, IsProvedBlock, FailsBlock, IsEarlierBlockFault, block_stage, block_place}
+use Rattle.ror_bench.specs.Steps.{AreProvedBefore, RefusesAnswers, refused_answer}
 
 -- ---- one answer after the other
 

@@ -12,14 +12,14 @@ use Rattle.ror_table.specs.Table.{DecisionTable, IsTable}
 use Rattle.ror_proof.specs.Cursor.{Cursor, cursor_at}
 use Rattle.ror_report.specs.declared.block.Block.{Block}
 use Rattle.ror_report.specs.declared.read.ReportFault.{ReportFault}
-use Rattle.ror_report.specs.Text.{block_text, header_text, end_text, report_text, IsPrintableBlock}
+use Rattle.ror_report.specs.Text.{block_text, header_text, end_text, IsPrintableBlock}
 use Rattle.ror_report.specs.declared.read.ReportFault.TheVariants as forms
 use Rattle.ror_report.specs.Reading.{report_fault, ends_body, begins_end, block_at, end_at, header_at}
 use Rattle.ror_report.proofs.BlockLemmas.{block_reads_back, is_read_iff_text}
 use Rattle.ror_report.proofs.ReportLemmas.{ends_at_rest, header_is_text, header_reads_back, end_is_text, end_reads_back}
 use Rattle.ror_report.proofs.LineForms.{block_begins, end_begins}
 use Rattle.ror_bench.specs.declared.bench.Passed.{Passed}
-use Rattle.ror_history.specs.History.{Revisions, statements_of}
+use Rattle.ror_history.specs.History.{Revisions}
 use Rattle.ror_bench.specs.Bench.{Workbench, revisions_at}
 use Rattle.ror_bench.specs.Blocks.{IsProvedBlock, answer_count, revisions_with, with_block}
 use Rattle.ror_bench.specs.Reports.{IsProvedReport, NamesADesk, EachHolds, at_desk, revisions_after, revisions_then}

@@ -29,9 +29,9 @@ use Rattle.ror_report.specs.declared.block.Body.TheVariants.{Added, Answers}
 use Rattle.ror_report.specs.Text.{answers_of}
 use Rattle.ror_history.specs.History.{Revisions, statements_of}
 use Rattle.ror_bench.specs.declared.report.ReportError.{ReportError}
-use Rattle.ror_bench.specs.Bench.{Workbench, revisions_at, IsLawfulBench}
+use Rattle.ror_bench.specs.Bench.{Workbench, IsLawfulBench}
 use Rattle.ror_bench.specs.Blocks.{pair_named, statement_of, question_of, questions_of, IsOfCommand, IsProvedBlock, AreTrue, with_statement, revisions_with}
-use Rattle.ror_bench.specs.Reports.{EachHolds, revisions_then, IsProvedReport, AreTrueBlocks, IsAcceptedReport}
+use Rattle.ror_bench.specs.Reports.{EachHolds, revisions_then, IsProvedReport, IsAcceptedReport}
 use Rattle.ror_bench.specs.Laws.{ProvedBlocksAreTrue, ProvedReportsAreTrue}
 use Rattle.ror_bench.proofs.Standing.{added-lawful}
 use Rattle.ror_bench.proofs.ReportProofs.{number_cases, then_at_own, then_at_other}

@@ -10,7 +10,7 @@ use Rattle.ror_session.specs.declared.session.Line.{Line}
 use Rattle.ror_session.specs.declared.session.Command.TheVariants.{State}
 use Rattle.ror_session.specs.declared.session.Named.{Named}
 use Rattle.ror_session.specs.declared.session.Asked.{Asked}
-use Rattle.ror_history.specs.History.{Revisions, statements_of}
+use Rattle.ror_history.specs.History.{Revisions}
 use Rattle.ror_proof.specs.declared.answer.Answer.{Answer}
 use Rattle.ror_check.specs.declared.fault.CheckFault.{CheckFault}
 use Rattle.ror_check.specs.declared.fault.CheckFault.TheVariants as checks
@@ -28,7 +28,7 @@ use Rattle.ror_bench.specs.declared.report.Reason.TheVariants as reasons
 use Rattle.ror_bench.specs.declared.report.ReportError.{ReportError}
 use Rattle.ror_bench.specs.declared.report.ReportError.TheVariants as errors
 use Rattle.ror_bench.specs.Bench.{Workbench, revisions_at}
-use Rattle.ror_bench.specs.Blocks.{IsProvedBlock, IsOfCommand, AreTrue, FailsAnswerAt, answer_count, questions_of, with_block}
+use Rattle.ror_bench.specs.Blocks.{IsProvedBlock, IsOfCommand, FailsAnswerAt, answer_count, questions_of, with_block}
 use Rattle.ror_bench.specs.Reports.{EachHolds}
 
 -- the answers are to what is asked, in order

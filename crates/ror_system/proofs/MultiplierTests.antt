@@ -1,5 +1,5 @@
 -- What follows from the tests of multipliers: acceptance, or a first reason.
-use Rattle.std.proofs.Common.{◌≡◌, ◌≢◌, ◌⊎◌, inl, inr, ℕ, ◌+◌, ◌<◌, ◌≤◌, ◌^◌, List, [], ◌∷◌, ◌++◌, length, ℤ, pos, ◌*ℤ◌, ◌≤ℤ◌, unsigned_abs, refl, ap, ◌∙◌, sym, subst, arith}
+use Rattle.std.proofs.Common.{◌≡◌, ◌≢◌, ◌⊎◌, inl, inr, ℕ, ◌+◌, ◌<◌, ◌≤◌, List, [], ◌∷◌, ◌++◌, length, ℤ, pos, ◌*ℤ◌, ◌≤ℤ◌, unsigned_abs, refl, ap, ◌∙◌, sym, subst, arith}
 use Rattle.std.specs.List.{AllByRecursion}
 use Rattle.std.proofs.lemmas.Bool.{cases_lt}
 use Rattle.std.proofs.lemmas.Int.{ints, by_lt_z}
@@ -11,7 +11,8 @@ use Rattle.ror_text.specs.FirstFault.{IsFirst}
 use Rattle.ror_system.specs.declared.reject.Reject.{Reject}
 use Rattle.ror_system.specs.declared.reject.Reject.TheVariants as rejects
 use Rattle.ror_system.specs.System.{LinearSystem, IsWellFormed, Refutes, sum_limit}
-use Rattle.ror_system.specs.Acceptance.{rows_of, AreAcceptedMultipliers, FailsMultipliers, IsEarlierTest, PassesBoth, IsFirstOfTwo}
+use Rattle.ror_system.specs.Acceptance.{rows_of, AreAcceptedMultipliers, FailsMultipliers, IsEarlierTest}
+use Rattle.ror_system.specs.Steps.{PassesBoth, IsFirstOfTwo}
 use Rattle.ror_system.specs.Signs.{IsFirstNegative}
 use Rattle.ror_system.proofs.Totals.{dot-column_of_both, absolute_dot-column_of_both}
 

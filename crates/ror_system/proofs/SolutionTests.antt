@@ -9,7 +9,8 @@ use Rattle.ror_text.specs.FirstFault.{IsFirst}
 use Rattle.ror_system.specs.declared.reject.Reject.{Reject}
 use Rattle.ror_system.specs.declared.reject.Reject.TheVariants as rejects
 use Rattle.ror_system.specs.System.{LinearSystem, IsNarrow}
-use Rattle.ror_system.specs.Acceptance.{rows_of, row_at, IsAcceptedSolution, FailsSolution, IsEarlierTest, PassesBoth, IsFirstOfTwo}
+use Rattle.ror_system.specs.Acceptance.{rows_of, row_at, IsAcceptedSolution, FailsSolution, IsEarlierTest}
+use Rattle.ror_system.specs.Steps.{PassesBoth, IsFirstOfTwo}
 use Rattle.ror_system.specs.Signs.{IsFirstNegative}
 
 -- the first three tests pass, and those of the rows below i

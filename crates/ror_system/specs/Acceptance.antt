@@ -1,5 +1,5 @@
 -- Which certificates are accepted, and each test that one may fail.
-use Rattle.std.specs.Prelude.{◌≡◌, ◌≢◌, ℕ, ◌+◌, ◌*◌, ◌<◌, ◌≤◌, List, [], ◌++◌, length, ℤ, pos, ◌≤ℤ◌, ◌<ℤ◌, slice_index_or, ◌⊎◌}
+use Rattle.std.specs.Prelude.{◌≢◌, ℕ, ◌+◌, ◌*◌, ◌<◌, ◌≤◌, List, [], ◌++◌, length, ℤ, pos, ◌≤ℤ◌, ◌<ℤ◌, slice_index_or, ◌⊎◌}
 use Rattle.std.specs.List.{AllByRecursion}
 use Rattle.ror_integers.specs.Vectors.{dot, absolute_dot, total, entry, column, SomePositive}
 use Rattle.ror_text.specs.FirstFault.{IsEarlier}
@@ -70,12 +70,3 @@ place _ = 0
 
 abbrev pub IsEarlierTest : Reject → Reject → Type 0
 IsEarlierTest = IsEarlier stage place
-
--- neither of two tests fails
-abbrev pub PassesBoth : (Reject → Type 0) → Reject → Reject → Type 0
-PassesBoth Fails first second = (Fails first → ⊥) × (Fails second → ⊥)
-
--- this is the first of the two that fails
-abbrev pub IsFirstOfTwo : (Reject → Type 0) → Reject → Reject → Reject → Type 0
-IsFirstOfTwo Fails first second r = ((r ≡ first) × Fails first)
-    ⊎ ((r ≡ second) × (Fails first → ⊥) × Fails second)

@@ -2,7 +2,8 @@ ghost use Rattle.std.specs.Prelude.{◌≡◌, ◌+◌, ◌<◌, ◌≤◌, ◌^
 ghost use Rattle.ror_integers.specs.Vectors.{dot, absolute_dot, total, column, NoneNegative, SomePositive};
 ghost use Rattle.ror_text.specs.FirstFault.{IsFirst};
 ghost use Rattle.ror_system.specs.System.{IsSolvable, sum_limit, IsNarrow};
-ghost use Rattle.ror_system.specs.Acceptance.{rows_of, IsAcceptedSolution, AreAcceptedMultipliers, FailsSolution, FailsMultipliers, IsEarlierTest, PassesBoth, IsFirstOfTwo};
+ghost use Rattle.ror_system.specs.Acceptance.{rows_of, IsAcceptedSolution, AreAcceptedMultipliers, FailsSolution, FailsMultipliers, IsEarlierTest};
+ghost use Rattle.ror_system.specs.Steps.{PassesBoth, IsFirstOfTwo};
 ghost use Rattle.ror_system.specs.Signs.{IsFirstNegative};
 
 use crate::reject::Reject;
