@@ -58,7 +58,7 @@ session_shown files names t bytes (Err stops.Memory) table found reads = tt
 
 pub work_shown : (files : Files) (names : CheckNames) (t : DecisionTable) (s : Session) (bytes : List ℕ) (result : Result ℕ Stop) → ReadsSession files names t s → file files names.report ≡ Some bytes → Judges t s bytes result → ShowsWork names result files
 work_shown files names t s bytes (Ok n) session found judges =
-    (record { table = t; session = s; session_read = session; bytes = bytes; there = found; short = judges.0; proved = judges.1 }, record { table = t; session = s; session_read = session; bytes = bytes; there = found; answers_true = judges.2 })
+    (record { table = t; session = s; session_read = session; bytes = bytes; there = found; short = judges.0; proved = judges.1.proved }, record { table = t; session = s; session_read = session; bytes = bytes; there = found; answers = n; accepted = judges.1 })
 work_shown files names t s bytes (Err (stops.BadTable fault)) session found judges = absurd judges
 work_shown files names t s bytes (Err (stops.BadSession fault)) session found judges = absurd judges
 work_shown files names t s bytes (Err (stops.Rejected rejection)) session found judges =

@@ -15,7 +15,7 @@ use Rattle.ror_session.specs.declared.session.SessionFault.TheVariants as sessio
 use Rattle.ror_bench.specs.declared.report.ReportError.{ReportError}
 use Rattle.ror_bench.specs.declared.report.ReportError.TheVariants as report_errors
 use Rattle.ror_bench.specs.declared.report.Reason.TheVariants.{TooLong}
-use Rattle.ror_bench.specs.Reports.{IsProvedReport, IsTrueReport, IsFreeOfMemory}
+use Rattle.ror_bench.specs.Reports.{IsProvedReport, IsAcceptedReport, IsFreeOfMemory}
 use Rattle.ror.specs.declared.status.Status.{Status}
 use Rattle.ror.specs.declared.status.Status.TheVariants as statuses
 use Rattle.ror.specs.declared.work.Stop.{Stop}
@@ -106,7 +106,7 @@ ReadsSessionAs reading (Err stops.Memory) = Unit {0}
 
 -- what a step answered of a report's bytes: the number of answers, of which each is true, or that none is proved
 abbrev pub Judges : DecisionTable → Session → List ℕ → Result ℕ Stop → Type 0
-Judges t s bytes (Ok n) = (length bytes ≤ 268435456) × IsProvedReport (bench_for t s) s.lines bytes n × IsTrueReport (bench_for t s) s.lines bytes
+Judges t s bytes (Ok n) = (length bytes ≤ 268435456) × IsAcceptedReport (bench_for t s) s.lines bytes n
 Judges t s bytes (Err (stops.BadTable fault)) = ⊥
 Judges t s bytes (Err (stops.BadSession fault)) = ⊥
 Judges t s bytes (Err (stops.Rejected rejection)) = ((n : ℕ) → length bytes ≤ 268435456 → IsProvedReport (bench_for t s) s.lines bytes n → ⊥) × (268435456 < length bytes → rejection ≡ record { block = 0; reason = TooLong })

@@ -17,7 +17,7 @@ use Rattle.ror_bench.specs.declared.report.Rejection.{Rejection}
 use Rattle.ror_bench.specs.declared.report.Reason.TheVariants.{TooLong}
 use Rattle.ror_bench.specs.Bench.{Workbench, bench_of}
 use Rattle.ror_bench.specs.Blocks.{statement_of, questions_of}
-use Rattle.ror_bench.specs.Reports.{IsProvedReport, IsTrueReport}
+use Rattle.ror_bench.specs.Reports.{IsProvedReport, IsAcceptedReport}
 use Rattle.ror.specs.Words.{CheckNames}
 
 -- a name of the command is none of the table
@@ -121,7 +121,8 @@ pub record IsTrue (files : Files) (names : CheckNames) : Type 0 where
   pub session_read : ReadsSession files names table session
   pub bytes : List ℕ
   pub there : file files names.report ≡ Some bytes
-  pub answers_true : IsTrueReport (bench_for table session) session.lines bytes
+  pub answers : ℕ
+  pub accepted : IsAcceptedReport (bench_for table session) session.lines bytes answers
 
 -- the first file that is due and not there, the files before it having been read
 pub data Misses (files : Files) (names : CheckNames) : Type 0 where

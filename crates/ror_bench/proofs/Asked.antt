@@ -1,27 +1,27 @@
 -- The block of a line that asks, and of one that states.
-use Rattle.std.proofs.Common.{◌≡◌, ◌≢◌, ℕ, List, length, Result, Ok, Err, sym, subst, ap, ◌∙◌}
+use Rattle.std.proofs.Common.{◌≡◌, ◌≢◌, List, length, Result, Ok, Err, sym, subst, ap, ◌∙◌}
 use Rattle.std.specs.Prelude.{OnOk, IfErr}
-use Rattle.std.specs.List.{AllByRecursion}
+use Rattle.ror_text.specs.FirstFault.{IsRefusedBy}
+use Rattle.ror_text.proofs.FirstFaultLemmas.{refused_by_memory}
 use Rattle.ror_statement.specs.Statement.{IsLawful}
 use Rattle.ror_table.specs.Table.{DecisionTable}
 use Rattle.ror_session.specs.declared.session.Line.{Line}
 use Rattle.ror_session.specs.declared.session.Command.{Command}
-use Rattle.ror_session.specs.declared.session.Command.TheVariants.{State, Ask}
-use Rattle.ror_session.specs.declared.session.Named.{Named}
+use Rattle.ror_session.specs.declared.session.Command.TheVariants.{Ask}
 use Rattle.ror_session.specs.declared.session.Asked.{Asked}
 use Rattle.ror_proof.specs.declared.answer.Answer.{Answer}
-use Rattle.ror_check.specs.Proof.{IsProvedAnswer}
 use Rattle.ror_report.specs.declared.block.Block.{Block}
 use Rattle.ror_report.specs.declared.block.Body.{Body}
-use Rattle.ror_report.specs.declared.block.Body.TheVariants.{Added, Answers}
+use Rattle.ror_report.specs.declared.block.Body.TheVariants.{Answers}
 use Rattle.ror_report.specs.Text.{answers_of}
 use Rattle.ror_history.specs.History.{Revisions, statements_of}
 use Rattle.ror_bench.specs.declared.bench.Passed.{Passed}
 use Rattle.ror_bench.specs.declared.bench.BlockFault.{BlockFault}
 use Rattle.ror_bench.specs.declared.bench.BlockFault.TheVariants as faults
-use Rattle.ror_bench.specs.Blocks.{IsForLine, IsOfCommand, IsProvedBlock, AreTrue, IsBlockRefusedBy}
-use Rattle.ror_bench.specs.Steps.{AreAsked, AreProvedBefore, AreOfTheTable, RefusesAnswers, RefusesAsked, RefusesAdded}
-use Rattle.ror_bench.proofs.Refusals.{block_proved, block_true, none_proved, wrong_refused, answers_refused}
+use Rattle.ror_bench.specs.Blocks.{IsForLine, IsOfCommand, IsProvedBlock, AreTrue, FailsBlock, IsEarlierBlockFault}
+use Rattle.ror_bench.specs.Steps.{AreAsked, AreProvedBefore, RefusesAnswers, RefusesAsked}
+use Rattle.ror_bench.proofs.Refusals.{block_proved, none_proved, wrong_refused, answers_refused}
+use Rattle.ror_bench.proofs.Truth.{block_true}
 
 -- the form of a block, by the command and the body that are at hand
 for_line : (t : DecisionTable) (r : Revisions) (line : Line) (block : Block) (command : Command) (body : Body) → block.line ≡ line.number → line.command ≡ command → block.body ≡ body → IsOfCommand t r command body → IsForLine t r line block
@@ -43,42 +43,21 @@ asked_proved t r line block asked xs ys (Ok x) number e f same are proved =
     (subst (λ (zs : List Answer). AreProvedBefore t (statements_of r) zs (length zs)) (answers_are block xs ys f same) proved)
 asked_proved t r line block asked xs ys (Err g) number e f same are proved = tt
 
-pub asked_true : (t : DecisionTable) (r : Revisions) (block : Block) (xs ys : List Answer) (result : Result Passed BlockFault) → block.body ≡ Answers xs → ys ≡ xs
-    → OnOk result (IsLawful (length t.alternatives) (statements_of r)) → OnOk result (AreOfTheTable (length t.alternatives) ys) → OnOk result (AreProvedBefore t (statements_of r) ys (length ys)) → OnOk result (AreTrue t (statements_of r) block)
-asked_true t r block xs ys (Ok x) f same lawful valid proved =
-    let is = answers_are block xs ys f same in
-    block_true t (statements_of r) block lawful
-    (subst (AreOfTheTable (length t.alternatives)) is valid)
-    (subst (λ (zs : List Answer). AreProvedBefore t (statements_of r) zs (length zs)) is proved)
-asked_true t r block xs ys (Err g) f same lawful valid proved = tt
+pub asked_true : (t : DecisionTable) (r : Revisions) (line : Line) (block : Block) (result : Result Passed BlockFault) → OnOk result (IsLawful (length t.alternatives) (statements_of r)) → OnOk result (IsProvedBlock t r line block) → OnOk result (AreTrue t (statements_of r) block)
+asked_true t r line block (Ok x) lawful proved = block_true t r line block lawful proved
+asked_true t r line block (Err g) lawful proved = tt
 
-refused_as : (t : DecisionTable) (r : Revisions) (line : Line) (block : Block) (asked : Asked) (xs : List Answer) (fault : BlockFault) → block.line ≡ line.number → line.command ≡ Ask asked → block.body ≡ Answers xs → RefusesAsked t (statements_of r) asked xs fault → IsBlockRefusedBy t r line block fault
+refused_as : (t : DecisionTable) (r : Revisions) (line : Line) (block : Block) (asked : Asked) (xs : List Answer) (fault : BlockFault) → block.line ≡ line.number → line.command ≡ Ask asked → block.body ≡ Answers xs → RefusesAsked t (statements_of r) asked xs fault → IsRefusedBy (FailsBlock t r line block) IsEarlierBlockFault faults.Memory fault
 refused_as t r line block asked xs faults.WrongBlock number e f h = wrong_refused t r line block (not_for_line t r line block (Ask asked) (Answers xs) e f h)
 refused_as t r line block asked xs (faults.Answer k g) number e f h =
     answers_refused t r line block (faults.Answer k g) (for_line t r line block (Ask asked) (Answers xs) number e f h.0)
     (subst (λ (zs : List Answer). RefusesAnswers t (statements_of r) zs (faults.Answer k g)) (ap answers_of (sym f)) h.1)
-refused_as t r line block asked xs faults.Memory number e f h = tt
+refused_as t r line block asked xs faults.Memory number e f h = refused_by_memory (FailsBlock t r line block) IsEarlierBlockFault faults.Memory
 
 pub asked_refused : (t : DecisionTable) (r : Revisions) (line : Line) (block : Block) (asked : Asked) (xs ys : List Answer) (result : Result Passed BlockFault) → block.line ≡ line.number → line.command ≡ Ask asked → block.body ≡ Answers xs → ys ≡ xs
-    → IfErr result (RefusesAsked t (statements_of r) asked ys) → IfErr result (IsBlockRefusedBy t r line block)
+    → IfErr result (RefusesAsked t (statements_of r) asked ys) → IfErr result (IsRefusedBy (FailsBlock t r line block) IsEarlierBlockFault faults.Memory)
 asked_refused t r line block asked xs ys (Ok x) number e f same h = tt
 asked_refused t r line block asked xs ys (Err g) number e f same h = refused_as t r line block asked xs g number e f (subst (λ (zs : List Answer). RefusesAsked t (statements_of r) asked zs g) same h)
 
-pub none_asked : (t : DecisionTable) (r : Revisions) (line : Line) (block : Block) (result : Result Passed BlockFault) → IfErr result (IsBlockRefusedBy t r line block) → IfErr result (λ e. e ≢ faults.Memory → IsProvedBlock t r line block → ⊥)
+pub none_asked : (t : DecisionTable) (r : Revisions) (line : Line) (block : Block) (result : Result Passed BlockFault) → IfErr result (IsRefusedBy (FailsBlock t r line block) IsEarlierBlockFault faults.Memory) → IfErr result (λ e. e ≢ faults.Memory → IsProvedBlock t r line block → ⊥)
 none_asked t r line block result h = none_proved t r line block result h
-
--- ---- a line that states
-
-pub added_proved : (t : DecisionTable) (r : Revisions) (line : Line) (block : Block) (named : Named) (n : ℕ) (result : Result Passed BlockFault) → block.line ≡ line.number → line.command ≡ State named → block.body ≡ Added n → OnOk result (IsOfCommand t r (State named) (Added n)) → OnOk result (IsProvedBlock t r line block)
-added_proved t r line block named n (Ok x) number e f h =
-    record { for_line = for_line t r line block (State named) (Added n) number e f h; answers = subst (λ (b : Body). AllByRecursion (λ x. IsProvedAnswer t (statements_of r) x.question x) (answers_of b)) (sym f) tt }
-added_proved t r line block named n (Err g) number e f h = tt
-
-added_refused_as : (t : DecisionTable) (r : Revisions) (line : Line) (block : Block) (named : Named) (n : ℕ) (fault : BlockFault) → line.command ≡ State named → block.body ≡ Added n → RefusesAdded t r named n fault → IsBlockRefusedBy t r line block fault
-added_refused_as t r line block named n faults.WrongBlock e f h = wrong_refused t r line block (not_for_line t r line block (State named) (Added n) e f h)
-added_refused_as t r line block named n (faults.Answer k g) e f h = absurd h
-added_refused_as t r line block named n faults.Memory e f h = tt
-
-pub added_refused : (t : DecisionTable) (r : Revisions) (line : Line) (block : Block) (named : Named) (n : ℕ) (result : Result Passed BlockFault) → line.command ≡ State named → block.body ≡ Added n → IfErr result (RefusesAdded t r named n) → IfErr result (IsBlockRefusedBy t r line block)
-added_refused t r line block named n (Ok x) e f h = tt
-added_refused t r line block named n (Err g) e f h = added_refused_as t r line block named n g e f h

@@ -4,3 +4,4 @@ pub mod Standing
 pub mod ReportProofs
 pub mod Utf8Proofs
 pub mod Asked
+pub mod Truth

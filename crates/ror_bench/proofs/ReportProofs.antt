@@ -12,18 +12,18 @@ use Rattle.ror_table.specs.Table.{DecisionTable, IsTable}
 use Rattle.ror_text.specs.Cursor.{Cursor, cursor_at}
 use Rattle.ror_report.specs.declared.block.Block.{Block}
 use Rattle.ror_report.specs.declared.read.ReportFault.{ReportFault}
-use Rattle.ror_report.specs.Text.{block_text, header_text, end_text, report_text, IsPrintableBlock}
+use Rattle.ror_report.specs.Text.{block_text, header_text, end_text, IsPrintableBlock}
 use Rattle.ror_report.specs.declared.read.ReportFault.TheVariants as forms
 use Rattle.ror_report.specs.Reading.{report_fault, ends_body, begins_end, block_at, end_at, header_at}
 use Rattle.ror_report.proofs.BlockLemmas.{block_reads_back, is_read_iff_text}
 use Rattle.ror_report.proofs.ReportLemmas.{ends_at_rest, header_is_text, header_reads_back, end_is_text, end_reads_back}
 use Rattle.ror_report.proofs.LineForms.{block_begins, end_begins}
 use Rattle.ror_bench.specs.declared.bench.Passed.{Passed}
-use Rattle.ror_history.specs.History.{Revisions, statements_of}
+use Rattle.ror_history.specs.History.{Revisions}
 use Rattle.ror_bench.specs.Bench.{Workbench, revisions_at}
-use Rattle.ror_bench.specs.Blocks.{IsProvedBlock, answer_count, AreTrue, revisions_with, with_block}
-use Rattle.ror_bench.specs.Reports.{IsProvedReport, IsTrueReport, NamesADesk, EachHolds, at_desk, revisions_after, revisions_then}
-use Rattle.ror_bench.specs.Steps.{IsCheckedBlock, IsNextBlock, BeginsProved, IsRest}
+use Rattle.ror_bench.specs.Blocks.{IsProvedBlock, answer_count, revisions_with, with_block}
+use Rattle.ror_bench.specs.Reports.{IsProvedReport, NamesADesk, EachHolds, at_desk, revisions_after, revisions_then}
+use Rattle.ror_bench.specs.Steps.{IsNextBlock, BeginsProved, IsRest}
 
 -- ---- reading is a function
 
@@ -63,54 +63,54 @@ sums : (b : Block) (bs : List Block) → sum_by answer_count (b ∷ bs) ≡ answ
 sums b bs = sum_by-append answer_count (b ∷ []) bs ∙ ap (λ n. n + sum_by answer_count bs) (zero-add (answer_count b))
 
 -- a block that holds of a line, and what is left behind it
-pub rest_with : (start : Workbench) (Holds : Revisions → Line → Block → Type 0) (before : List (Line × Block)) (line : Line) (lines : List Line) (total : ℕ) (bytes after : List ℕ) (b : Block) (n : ℕ)
-    → bytes ≡ block_text start.table b ++ after → IsPrintableBlock start.table b → Holds (revisions_then start before line.desk) line b → IsRest start Holds (before ++ (line, b) ∷ []) lines total after n → IsRest start Holds before (line ∷ lines) total bytes (answer_count b + n)
-rest_with start Holds before line lines total bytes after b n text printable holds rest = record {
+pub rest_with : (start : Workbench) (before : List (Line × Block)) (line : Line) (lines : List Line) (total : ℕ) (bytes after : List ℕ) (b : Block) (n : ℕ)
+    → bytes ≡ block_text start.table b ++ after → IsPrintableBlock start.table b → IsProvedBlock start.table (revisions_then start before line.desk) line b → IsRest start (before ++ (line, b) ∷ []) lines total after n → IsRest start before (line ∷ lines) total bytes (answer_count b + n)
+rest_with start before line lines total bytes after b n text printable proved rest = record {
   blocks = b ∷ rest.blocks;
   text = text ∙ ap (λ (l : List ℕ). block_text start.table b ++ l) rest.text ∙ sym (append_assoc (block_text start.table b) (flat_map (block_text start.table) rest.blocks) (end_text total));
   printable = (printable, rest.printable);
-  held = (holds, rest.held);
+  proved = (proved, rest.proved);
   counted = ap (λ m. answer_count b + m) rest.counted ∙ sym (sums b rest.blocks);
 }
 
 -- the first block of what is left for a line and more
-pub record HasFirst (start : Workbench) (Holds : Revisions → Line → Block → Type 0) (before : List (Line × Block)) (line : Line) (lines : List Line) (total : ℕ) (bytes : List ℕ) : Type 0 where
+pub record HasFirst (start : Workbench) (before : List (Line × Block)) (line : Line) (lines : List Line) (total : ℕ) (bytes : List ℕ) : Type 0 where
   pub block : Block
   pub after : List ℕ
   pub answers : ℕ
   pub text : bytes ≡ block_text start.table block ++ after
   pub ended : ends_body after ≡ true
   pub printable : IsPrintableBlock start.table block
-  pub holds : Holds (revisions_then start before line.desk) line block
-  pub rest : IsRest start Holds (before ++ (line, block) ∷ []) lines total after answers
+  pub proved : IsProvedBlock start.table (revisions_then start before line.desk) line block
+  pub rest : IsRest start (before ++ (line, block) ∷ []) lines total after answers
 
-first_of_blocks : (start : Workbench) (Holds : Revisions → Line → Block → Type 0) (before : List (Line × Block)) (line : Line) (lines : List Line) (total : ℕ) (bytes : List ℕ) (blocks : List Block)
-    → bytes ≡ flat_map (block_text start.table) blocks ++ end_text total → AllByRecursion (IsPrintableBlock start.table) blocks → EachHolds Holds start before (line ∷ lines) blocks → HasFirst start Holds before line lines total bytes
-first_of_blocks start Holds before line lines total bytes [] text printable held = absurd held
-first_of_blocks start Holds before line lines total bytes (b ∷ bs) text printable held = record {
+first_of_blocks : (start : Workbench) (before : List (Line × Block)) (line : Line) (lines : List Line) (total : ℕ) (bytes : List ℕ) (blocks : List Block)
+    → bytes ≡ flat_map (block_text start.table) blocks ++ end_text total → AllByRecursion (IsPrintableBlock start.table) blocks → EachHolds (IsProvedBlock start.table) start before (line ∷ lines) blocks → HasFirst start before line lines total bytes
+first_of_blocks start before line lines total bytes [] text printable held = absurd held
+first_of_blocks start before line lines total bytes (b ∷ bs) text printable held = record {
   block = b;
   after = flat_map (block_text start.table) bs ++ end_text total;
   answers = sum_by answer_count bs;
   text = text ∙ append_assoc (block_text start.table b) (flat_map (block_text start.table) bs) (end_text total);
   ended = ends_at_rest start.table bs total;
   printable = printable.0;
-  holds = held.0;
-  rest = record { blocks = bs; text = refl; printable = printable.1; held = held.1; counted = refl };
+  proved = held.0;
+  rest = record { blocks = bs; text = refl; printable = printable.1; proved = held.1; counted = refl };
 }
 
-pub first_of_rest : (start : Workbench) (Holds : Revisions → Line → Block → Type 0) (before : List (Line × Block)) (line : Line) (lines : List Line) (total : ℕ) (bytes : List ℕ) (n : ℕ) → IsRest start Holds before (line ∷ lines) total bytes n → HasFirst start Holds before line lines total bytes
-first_of_rest start Holds before line lines total bytes n rest = first_of_blocks start Holds before line lines total bytes rest.blocks rest.text rest.printable rest.held
+pub first_of_rest : (start : Workbench) (before : List (Line × Block)) (line : Line) (lines : List Line) (total : ℕ) (bytes : List ℕ) (n : ℕ) → IsRest start before (line ∷ lines) total bytes n → HasFirst start before line lines total bytes
+first_of_rest start before line lines total bytes n rest = first_of_blocks start before line lines total bytes rest.blocks rest.text rest.printable rest.proved
 
 -- where no line is left, the last line is
-last_of_blocks : (start : Workbench) (Holds : Revisions → Line → Block → Type 0) (before : List (Line × Block)) (total : ℕ) (bytes : List ℕ) (blocks : List Block) → bytes ≡ flat_map (block_text start.table) blocks ++ end_text total → EachHolds Holds start before [] blocks → bytes ≡ end_text total
-last_of_blocks start Holds before total bytes [] text held = text
-last_of_blocks start Holds before total bytes (b ∷ bs) text held = absurd held
+last_of_blocks : (start : Workbench) (before : List (Line × Block)) (total : ℕ) (bytes : List ℕ) (blocks : List Block) → bytes ≡ flat_map (block_text start.table) blocks ++ end_text total → EachHolds (IsProvedBlock start.table) start before [] blocks → bytes ≡ end_text total
+last_of_blocks start before total bytes [] text held = text
+last_of_blocks start before total bytes (b ∷ bs) text held = absurd held
 
-pub last_of_rest : (start : Workbench) (Holds : Revisions → Line → Block → Type 0) (before : List (Line × Block)) (total : ℕ) (bytes : List ℕ) (n : ℕ) → IsRest start Holds before [] total bytes n → bytes ≡ end_text total
-last_of_rest start Holds before total bytes n rest = last_of_blocks start Holds before total bytes rest.blocks rest.text rest.held
+pub last_of_rest : (start : Workbench) (before : List (Line × Block)) (total : ℕ) (bytes : List ℕ) (n : ℕ) → IsRest start before [] total bytes n → bytes ≡ end_text total
+last_of_rest start before total bytes n rest = last_of_blocks start before total bytes rest.blocks rest.text rest.proved
 
-pub no_rest : (start : Workbench) (Holds : Revisions → Line → Block → Type 0) (before : List (Line × Block)) (total : ℕ) (bytes : List ℕ) → bytes ≡ end_text total → IsRest start Holds before [] total bytes 0
-no_rest start Holds before total bytes text = record { blocks = []; text = text; printable = tt; held = tt; counted = refl }
+pub no_rest : (start : Workbench) (before : List (Line × Block)) (total : ℕ) (bytes : List ℕ) → bytes ≡ end_text total → IsRest start before [] total bytes 0
+no_rest start before total bytes text = record { blocks = []; text = text; printable = tt; proved = tt; counted = refl }
 
 -- ---- what the desks hold
 
@@ -120,7 +120,7 @@ same_number m n e = search rules
 other_number : (m n : ℕ) → m ≢ n → (m == n) ≡ false
 other_number m n ne = search rules
 
-number_cases : (m n : ℕ) → (m ≡ n) ⊎ (m ≢ n)
+pub number_cases : (m n : ℕ) → (m ≡ n) ⊎ (m ≢ n)
 number_cases m n = elim (cases_lt m n) [
   | inl less ↦ inr (λ e. omega arith)
   | inr le ↦ elim (cases_lt n m) [ inl more ↦ inr (λ e. omega arith) | inr ge ↦ inl (omega arith) ]
@@ -141,7 +141,7 @@ then_at_other start before line block desk other =
     let split : at_desk desk (before ++ (line, block) ∷ []) ≡ at_desk desk before = filter-append (λ (x : Line × Block). x.0.desk == desk) before ((line, block) ∷ []) ∙ ap (λ (l : List (Line × Block)). at_desk desk before ++ l) here ∙ append-nil (at_desk desk before) in
     ap (revisions_after start.table (revisions_at start desk)) split
 
--- a bench holds at each desk what the lines so far and their blocks left there
+-- a bench holds at each desk what lines and their blocks left there
 pub record IsAfter (start : Workbench) (before : List (Line × Block)) (bench : Workbench) : Type 0 where
   pub table : bench.table ≡ start.table
   pub desks : length bench.state ≡ length start.state
@@ -174,20 +174,14 @@ after_block start before bench moved line block is within moved-is =
 pub record IsWay (start : Workbench) (lines : List Line) (bytes : List ℕ) (bench : Workbench) (left : List Line) (from answers : ℕ) : Type 0 where
   pub before : List (Line × Block)
   pub after : IsAfter start before bench
-  pub completes : (n : ℕ) → IsRest start (IsCheckedBlock start.table) before left (length lines) (drop from bytes) n → IsProvedReport start lines bytes (answers + n) × IsTrueReport start lines bytes
-  pub goes_on : (m : ℕ) → IsProvedReport start lines bytes m → (n : ℕ) × IsRest start (IsProvedBlock start.table) before left (length lines) (drop from bytes) n
+  pub completes : (n : ℕ) → IsRest start before left (length lines) (drop from bytes) n → IsProvedReport start lines bytes (answers + n)
+  pub goes_on : (m : ℕ) → IsProvedReport start lines bytes m → (n : ℕ) × IsRest start before left (length lines) (drop from bytes) n
 
-lengths : (Holds : Revisions → Line → Block → Type 0) (start : Workbench) (before : List (Line × Block)) (xs : List Line) (ys : List Block) → EachHolds Holds start before xs ys → length xs ≡ length ys
-lengths Holds start before [] [] h = refl
-lengths Holds start before [] (y ∷ ys) h = absurd h
-lengths Holds start before (x ∷ xs) [] h = absurd h
-lengths Holds start before (x ∷ xs) (y ∷ ys) h = let others = lengths Holds start (before ++ (x, y) ∷ []) xs ys h.1 in omega arith
-
-each : (R S : Revisions → Line → Block → Type 0) → ((r : Revisions) (x : Line) (y : Block) → R r x y → S r x y) → (start : Workbench) (before : List (Line × Block)) (xs : List Line) (ys : List Block) → EachHolds R start before xs ys → EachHolds S start before xs ys
-each R S f start before [] [] h = tt
-each R S f start before [] (y ∷ ys) h = h
-each R S f start before (x ∷ xs) [] h = h
-each R S f start before (x ∷ xs) (y ∷ ys) h = (f (revisions_then start before x.desk) x y h.0, each R S f start (before ++ (x, y) ∷ []) xs ys h.1)
+lengths : (start : Workbench) (before : List (Line × Block)) (xs : List Line) (ys : List Block) → EachHolds (IsProvedBlock start.table) start before xs ys → length xs ≡ length ys
+lengths start before [] [] h = refl
+lengths start before [] (y ∷ ys) h = absurd h
+lengths start before (x ∷ xs) [] h = absurd h
+lengths start before (x ∷ xs) (y ∷ ys) h = let others = lengths start (before ++ (x, y) ∷ []) xs ys h.1 in omega arith
 
 pub way_begins : (start : Workbench) (lines : List Line) (bytes : List ℕ) (place : ℕ) → header_at bytes ≡ Some place → IsWay start lines bytes start lines place 0
 way_begins start lines bytes place header =
@@ -197,30 +191,22 @@ way_begins start lines bytes place header =
       before = [];
       after = after_nothing start;
       completes = λ n rest.
-          let as_many = lengths (IsCheckedBlock t) start [] lines rest.blocks rest.held in
-          let text : bytes ≡ report_text t rest.blocks = is.1 ∙ ap (λ (l : List ℕ). header_text ++ l) (rest.text ∙ ap (λ m. flat_map (block_text t) rest.blocks ++ end_text m) as_many) in (
-            record {
-              blocks = rest.blocks;
-              text = text;
-              printable = rest.printable;
-              proved = each (IsCheckedBlock t) (IsProvedBlock t) (λ r line block h. h.0) start [] lines rest.blocks rest.held;
-              counted = zero-add n ∙ rest.counted;
-            },
-            record {
-              blocks = rest.blocks;
-              text = text;
-              printable = rest.printable;
-              answers_true = each (IsCheckedBlock t) (λ r line block. AreTrue t (statements_of r) block) (λ r line block h. h.1) start [] lines rest.blocks rest.held;
-            },
-          );
+          let as_many = lengths start [] lines rest.blocks rest.proved in
+          record {
+            blocks = rest.blocks;
+            text = is.1 ∙ ap (λ (l : List ℕ). header_text ++ l) (rest.text ∙ ap (λ m. flat_map (block_text t) rest.blocks ++ end_text m) as_many);
+            printable = rest.printable;
+            proved = rest.proved;
+            counted = zero-add n ∙ rest.counted;
+          };
       goes_on = λ m report.
-          let as_many = lengths (IsProvedBlock t) start [] lines report.blocks report.proved in (
+          let as_many = lengths start [] lines report.blocks report.proved in (
             m,
             record {
               blocks = report.blocks;
               text = append_cancel_left header_text (drop place bytes) (flat_map (block_text t) report.blocks ++ end_text (length report.blocks)) (sym is.1 ∙ report.text) ∙ ap (λ k. flat_map (block_text t) report.blocks ++ end_text k) (sym as_many);
               printable = report.printable;
-              held = report.proved;
+              proved = report.proved;
               counted = report.counted;
             },
           );
@@ -235,13 +221,13 @@ no_header bench lines bytes n none report =
 record IsNextHere (start : Workbench) (before : List (Line × Block)) (line : Line) (bytes : List ℕ) (from : ℕ) (block : Block) (after : ℕ) : Type 0 where
   pub text : drop from bytes ≡ block_text start.table block ++ drop after bytes
   pub printable : IsPrintableBlock start.table block
-  pub checked : IsCheckedBlock start.table (revisions_then start before line.desk) line block
+  pub proved : IsProvedBlock start.table (revisions_then start before line.desk) line block
 
 next_here : (start : Workbench) (before : List (Line × Block)) (bench moved : Workbench) (line : Line) (bytes : List ℕ) (from passed after : ℕ) → IsAfter start before bench → line.desk < length start.state → (next : IsNextBlock bench moved line bytes from passed after) → IsNextHere start before line bytes from next.block after
 next_here start before bench moved line bytes from passed after is within next = record {
   text = subst (λ (t : DecisionTable). drop from bytes ≡ block_text t next.block ++ drop after bytes) is.table next.text;
   printable = subst (λ (t : DecisionTable). IsPrintableBlock t next.block) is.table next.printable;
-  checked = subst (λ (t : DecisionTable). IsCheckedBlock t (revisions_then start before line.desk) line next.block) is.table (subst (λ (r : Revisions). IsCheckedBlock bench.table r line next.block) (is.holds line.desk within) next.checked);
+  proved = subst (λ (t : DecisionTable). IsProvedBlock t (revisions_then start before line.desk) line next.block) is.table (subst (λ (r : Revisions). IsProvedBlock bench.table r line next.block) (is.holds line.desk within) next.proved);
 }
 
 pub way_goes_on : (start : Workbench) (lines : List Line) (bytes : List ℕ) (bench moved : Workbench) (line : Line) (left : List Line) (from answers passed after : ℕ) → IsTable start.table → line.desk < length start.state
@@ -253,22 +239,22 @@ way_goes_on start lines bytes bench moved line left from answers passed after ta
       before = way.before ++ (line, next.block) ∷ [];
       after = after_block start way.before bench moved line next.block way.after within next.moved_on;
       completes = λ n rest.
-          let whole = way.completes (answer_count next.block + n) (rest_with start (IsCheckedBlock t) way.before line left (length lines) (drop from bytes) (drop after bytes) next.block n here.text here.printable here.checked rest) in
+          let whole = way.completes (answer_count next.block + n) (rest_with start way.before line left (length lines) (drop from bytes) (drop after bytes) next.block n here.text here.printable here.proved rest) in
           let counted = next.counted in
-          (subst (IsProvedReport start lines bytes) {x = answers + (answer_count next.block + n)} (omega arith) whole.0, whole.1);
+          subst (IsProvedReport start lines bytes) {x = answers + (answer_count next.block + n)} (omega arith) whole;
       goes_on = λ m report.
           let on = way.goes_on m report in
-          let first = first_of_rest start (IsProvedBlock t) way.before line left (length lines) (drop from bytes) on.0 on.1 in
+          let first = first_of_rest start way.before line left (length lines) (drop from bytes) on.0 on.1 in
           let same = same_block t first.block next.block (drop from bytes) first.after (drop after bytes) table first.printable here.printable first.ended next.ended first.text here.text in
-          let rest : IsRest start (IsProvedBlock t) (way.before ++ (line, next.block) ∷ []) left (length lines) first.after first.answers = subst (λ (b : Block). IsRest start (IsProvedBlock t) (way.before ++ (line, b) ∷ []) left (length lines) first.after first.answers) same.0 first.rest in
-          (first.answers, subst (λ (l : List ℕ). IsRest start (IsProvedBlock t) (way.before ++ (line, next.block) ∷ []) left (length lines) l first.answers) same.1 rest);
+          let rest : IsRest start (way.before ++ (line, next.block) ∷ []) left (length lines) first.after first.answers = subst (λ (b : Block). IsRest start (way.before ++ (line, b) ∷ []) left (length lines) first.after first.answers) same.0 first.rest in
+          (first.answers, subst (λ (l : List ℕ). IsRest start (way.before ++ (line, next.block) ∷ []) left (length lines) l first.answers) same.1 rest);
     }
 
 pub way_breaks : (start : Workbench) (lines : List Line) (bytes : List ℕ) (bench : Workbench) (line : Line) (left : List Line) (from answers : ℕ) → line.desk < length start.state → IsWay start lines bytes bench (line ∷ left) from answers
     → (BeginsProved bench line (drop from bytes) → ⊥) → (m : ℕ) → IsProvedReport start lines bytes m → ⊥
 way_breaks start lines bytes bench line left from answers within way none m report =
     let on = way.goes_on m report in
-    let first = first_of_rest start (IsProvedBlock start.table) way.before line left (length lines) (drop from bytes) on.0 on.1 in
+    let first = first_of_rest start way.before line left (length lines) (drop from bytes) on.0 on.1 in
     let same_table = sym way.after.table in
     none (record {
       block = first.block;
@@ -276,29 +262,28 @@ way_breaks start lines bytes bench line left from answers within way none m repo
       text = subst (λ (t : DecisionTable). drop from bytes ≡ block_text t first.block ++ first.after) same_table first.text;
       ended = first.ended;
       printable = subst (λ (t : DecisionTable). IsPrintableBlock t first.block) same_table first.printable;
-      proved = subst (λ (r : Revisions). IsProvedBlock bench.table r line first.block) (sym (way.after.holds line.desk within)) (subst (λ (t : DecisionTable). IsProvedBlock t (revisions_then start way.before line.desk) line first.block) same_table first.holds);
+      proved = subst (λ (r : Revisions). IsProvedBlock bench.table r line first.block) (sym (way.after.holds line.desk within)) (subst (λ (t : DecisionTable). IsProvedBlock t (revisions_then start way.before line.desk) line first.block) same_table first.proved);
     })
 
-pub way_ends : (start : Workbench) (lines : List Line) (bytes : List ℕ) (bench : Workbench) (from answers : ℕ) → IsWay start lines bytes bench [] from answers → drop from bytes ≡ end_text (length lines) → IsProvedReport start lines bytes answers × IsTrueReport start lines bytes
+pub way_ends : (start : Workbench) (lines : List Line) (bytes : List ℕ) (bench : Workbench) (from answers : ℕ) → IsWay start lines bytes bench [] from answers → drop from bytes ≡ end_text (length lines) → IsProvedReport start lines bytes answers
 way_ends start lines bytes bench from answers way text =
-    let whole = way.completes 0 (no_rest start (IsCheckedBlock start.table) way.before (length lines) (drop from bytes) text) in
-    (subst (IsProvedReport start lines bytes) {x = answers + 0} (omega arith) whole.0, whole.1)
+    subst (IsProvedReport start lines bytes) {x = answers + 0} (omega arith) (way.completes 0 (no_rest start way.before (length lines) (drop from bytes) text))
 
 pub way_ends_badly : (start : Workbench) (lines : List Line) (bytes : List ℕ) (bench : Workbench) (from answers : ℕ) → IsWay start lines bytes bench [] from answers → (drop from bytes ≡ end_text (length lines) → ⊥) → (m : ℕ) → IsProvedReport start lines bytes m → ⊥
 way_ends_badly start lines bytes bench from answers way none m report =
     let on = way.goes_on m report in
-    none (last_of_rest start (IsProvedBlock start.table) way.before (length lines) (drop from bytes) on.0 on.1)
+    none (last_of_rest start way.before (length lines) (drop from bytes) on.0 on.1)
 
 -- ---- one block and the last line
 
 -- a block that was read and is proved is the next
 pub read_next : (bench moved : Workbench) (line : Line) (bytes : List ℕ) (from after : ℕ) (found : Block) (t : DecisionTable) (passed : Passed) → t ≡ bench.table → IsTable bench.table
-    → block_at t (cursor_at bytes from) ≡ Ok (found, cursor_at bytes after) → IsProvedBlock bench.table (revisions_at bench line.desk) line found → AreTrue bench.table (statements_of (revisions_at bench line.desk)) found
+    → block_at t (cursor_at bytes from) ≡ Ok (found, cursor_at bytes after) → IsProvedBlock bench.table (revisions_at bench line.desk) line found
     → passed ≡ record { answers = answer_count found; wide = 0 } → moved ≡ with_block bench line found → IsNextBlock bench moved line bytes from passed.answers after
-read_next bench moved line bytes from after found t passed same table read proved is_true counted moved-is =
+read_next bench moved line bytes from after found t passed same table read proved counted moved-is =
     let here : block_at bench.table (cursor_at bytes from) ≡ Ok (found, cursor_at bytes after) = ap (λ (u : DecisionTable). block_at u (cursor_at bytes from)) (sym same) ∙ read in
     let is = (is_read_iff_text bench.table (cursor_at bytes from) found (cursor_at bytes after) table).0 here in
-    record { block = found; text = is.text; ended = is.ended; printable = is.printable; checked = (proved, is_true); counted = ap (λ (p : Passed). p.answers) counted; moved_on = moved-is }
+    record { block = found; text = is.text; ended = is.ended; printable = is.printable; proved = proved; counted = ap (λ (p : Passed). p.answers) counted; moved_on = moved-is }
 
 -- a block that was read and is not proved is in the way of each that is
 pub read_not_proved : (bench : Workbench) (line : Line) (bytes : List ℕ) (from after : ℕ) (found : Block) (t : DecisionTable) → t ≡ bench.table → IsTable bench.table

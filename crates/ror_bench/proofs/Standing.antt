@@ -15,7 +15,7 @@ use Rattle.ror_proof.specs.declared.answer.Answer.{Answer}
 use Rattle.ror_report.specs.declared.block.Body.TheVariants.{Added, Answers}
 use Rattle.ror_history.specs.History.{Revisions, HistoryView, addition, standing, statements_of, with_revision}
 use Rattle.ror_history.specs.Faults.{CanBeAdded}
-use Rattle.ror_history.proofs.HistoryLemmas.{numbered_from-statements}
+use Rattle.ror_history.proofs.HistoryLemmas.{with_numbers_from-statements}
 use Rattle.ror_history.proofs.TurnLemmas.{standing-more}
 use Rattle.ror_bench.specs.Bench.{Workbench}
 use Rattle.ror_bench.specs.Blocks.{statement_of, with_statement, with_body}
@@ -49,7 +49,12 @@ all-begin alternatives opening (h ∷ hs) zero e lawful = absurd cc
 all-begin alternatives opening (h ∷ hs) (suc count) e lawful =
     let first : h.state ≡ record { opening = opening; surviving = [] } = cc in
     let others : map (λ (h : HistoryView). h.state) hs ≡ replicate count (record { opening = opening; surviving = [] }) = cc in
-    (subst (λ (r : Revisions). IsLawful alternatives (statements_of r)) (sym first) (subst (IsLawful alternatives) (sym (numbered_from-statements 1 opening)) lawful), all-begin alternatives opening hs count others lawful)
+    (subst (λ (r : Revisions). IsLawful alternatives (statements_of r)) (sym first) (subst (IsLawful alternatives) (sym (with_numbers_from-statements 1 opening)) lawful), all-begin alternatives opening hs count others lawful)
+
+-- and what they hold is what stands at the desks
+pub lawful_states : (alternatives : ℕ) (views : List HistoryView) → AllByRecursion (λ (h : HistoryView). IsLawful alternatives (statements_of h.state)) views → AllByRecursion (λ (r : Revisions). IsLawful alternatives (statements_of r)) (map (λ (h : HistoryView). h.state) views)
+lawful_states alternatives [] h = tt
+lawful_states alternatives (v ∷ vs) h = (h.0, lawful_states alternatives vs h.1)
 
 -- a history that is changed at its place changes the desk there
 pub history-set : (views : List HistoryView) (desk : ℕ) (old new : HistoryView) (r : Revisions) → desk < length views → old ≡ get_or views desk old → (old.state ≡ get_or (map (λ (h : HistoryView). h.state) views) desk r) × (map (λ (h : HistoryView). h.state) (slice_set views desk new) ≡ slice_set (map (λ (h : HistoryView). h.state) views) desk new.state)

@@ -9,6 +9,7 @@ use Rattle.ror_report.specs.declared.block.Block.{Block}
 use Rattle.ror_report.specs.Text.{block_text, header_text, end_text}
 use Rattle.ror_report.proofs.LineForms.{block_begins}
 use Rattle.ror_report.proofs.Utf8Lemmas.{report_text_is_utf8}
+use Rattle.ror_bench.specs.declared.report.TheConstants.{MOST_REPORT_BYTES}
 use Rattle.ror_bench.specs.Bench.{Workbench}
 use Rattle.ror_bench.specs.Reports.{IsProvedReport}
 
@@ -21,7 +22,7 @@ blocks_le t (b ∷ bs) =
     let long = ap length begins.1 in
     omega (arith, long, length-append (codes "line ") begins.0, length-append (block_text t b) (flat_map (block_text t) bs))
 
-pub proved_is_utf8 : (bench : Workbench) (lines : List Line) (bytes : List ℕ) (n : ℕ) → IsTable bench.table → length bytes ≤ 268435456 → IsProvedReport bench lines bytes n → IsUtf8 bytes
+pub proved_is_utf8 : (bench : Workbench) (lines : List Line) (bytes : List ℕ) (n : ℕ) → IsTable bench.table → length bytes ≤ MOST_REPORT_BYTES → IsProvedReport bench lines bytes n → IsUtf8 bytes
 proved_is_utf8 bench lines bytes n table short report =
     let bs = report.blocks in
     let t = bench.table in

@@ -33,7 +33,9 @@ use Rattle.ror_bench.specs.declared.bench.BlockFault.TheVariants as faults
 
 -- a pair of alternatives by their names, where the table has both
 abbrev pub pair_named : {A : Type 0} → (ℕ → ℕ → A) → DecisionTable → List ℕ → List ℕ → Option A
-pair_named make t a b = option_and_then (λ x. option_map (λ y. make x y) (alternative_named t b)) (alternative_named t a)
+pair_named make t a b =
+    option_and_then (λ x. option_map (λ y. make x y) (alternative_named t b))
+    (alternative_named t a)
 
 -- the statement by its names, where the table has each
 abbrev pub statement_of : DecisionTable → Named → Option Statement
@@ -50,19 +52,21 @@ questions_of t asked = option_map (λ q. q ∷ []) (question_of t asked)
 -- The body has the form of the command: a statement that can be added has the next number of its desk, and a question has
 -- answers to what is asked, in order.
 abbrev pub IsOfCommand : DecisionTable → Revisions → Command → Body → Type 0
-IsOfCommand t r (State named) (Added n) = (s : Statement) × (statement_of t named ≡ Some s) × CanBeAdded r s × (n ≡ next_number r)
-IsOfCommand t r (State named) (Answers xs) = ⊥
-IsOfCommand t r (Ask asked) (Added n) = ⊥
+IsOfCommand t r (State named) (Added n) = (s : Statement) × (statement_of t named ≡ Some s)
+    × CanBeAdded r s × (n ≡ next_number r)
 IsOfCommand t r (Ask asked) (Answers xs) = questions_of t asked ≡ Some (map (λ x. x.question) xs)
+IsOfCommand t r _ _ = ⊥
 
 -- the block has the line's number, and a body of its command's form
 abbrev pub IsForLine : DecisionTable → Revisions → Line → Block → Type 0
 IsForLine t r line block = (block.line ≡ line.number) × IsOfCommand t r line.command block.body
 
 -- the block is for the line, and each answer has its proof over the statements that stand
-pub record IsProvedBlock (t : DecisionTable) (r : Revisions) (line : Line) (block : Block) : Type 0 where
+pub record IsProvedBlock (t : DecisionTable) (r : Revisions) (line : Line)
+    (block : Block) : Type 0 where
   pub for_line : IsForLine t r line block
-  pub answers : AllByRecursion (λ x. IsProvedAnswer t (statements_of r) x.question x) (answers_of block.body)
+  pub answers : AllByRecursion (λ x. IsProvedAnswer t (statements_of r) x.question x)
+      (answers_of block.body)
 
 -- what a desk's revisions are after a statement got a number; after any other body they are as before
 abbrev pub with_statement : Revisions → ℕ → Option Statement → Revisions
@@ -71,13 +75,15 @@ with_statement r n (Some s) = with_revision r (addition n s)
 
 abbrev pub revisions_with : DecisionTable → Revisions → Command → Body → Revisions
 revisions_with t r (State named) (Added n) = with_statement r n (statement_of t named)
-revisions_with t r (State named) (Answers xs) = r
-revisions_with t r (Ask asked) (Added n) = r
-revisions_with t r (Ask asked) (Answers xs) = r
+revisions_with t r _ _ = r
 
 -- the bench after a command at a desk and its body: the desk has its revisions with them, and all else is as before
 abbrev pub with_body : Workbench → ℕ → Command → Body → Workbench
-with_body bench desk command body = record { table = bench.table; state = slice_set bench.state desk (revisions_with bench.table (revisions_at bench desk) command body) }
+with_body bench desk command body = record {
+  table = bench.table;
+  state = slice_set bench.state desk
+      (revisions_with bench.table (revisions_at bench desk) command body);
+}
 
 abbrev pub with_block : Workbench → Line → Block → Workbench
 with_block bench line block = with_body bench line.desk line.command block.body
@@ -87,10 +93,13 @@ answer_count block = length (answers_of block.body)
 
 -- each answer is true of all compatible value functions
 abbrev pub AreTrue : DecisionTable → List Statement → Block → Type 0
-AreTrue t list block = AllByRecursion (λ x. meaning.Answers t list x.question (conclusion_of x.verdict)) (answers_of block.body)
+AreTrue t list block =
+    AllByRecursion (λ x. meaning.Answers t list x.question (conclusion_of x.verdict))
+    (answers_of block.body)
 
 -- the answer at a place, counted from 1, has this fault first
-pub record FailsAnswerAt (t : DecisionTable) (list : List Statement) (answers : List Answer) (k : ℕ) (fault : CheckFault) : Type 0 where
+pub record FailsAnswerAt (t : DecisionTable) (list : List Statement) (answers : List Answer) (k : ℕ)
+    (fault : CheckFault) : Type 0 where
   pub answer : Answer
   pub before : ℕ
   pub counted : k ≡ before + 1
@@ -100,21 +109,17 @@ pub record FailsAnswerAt (t : DecisionTable) (list : List Statement) (answers : 
 -- what each test of a block finds at fault, each taken alone
 abbrev pub FailsBlock : DecisionTable → Revisions → Line → Block → BlockFault → Type 0
 FailsBlock t r line block faults.WrongBlock = IsForLine t r line block → ⊥
-FailsBlock t r line block (faults.Answer k fault) = FailsAnswerAt t (statements_of r) (answers_of block.body) k fault
+FailsBlock t r line block (faults.Answer k fault) =
+    FailsAnswerAt t (statements_of r) (answers_of block.body) k fault
 FailsBlock t r line block faults.Memory = ⊥
 
 abbrev pub block_stage : BlockFault → ℕ
 block_stage faults.WrongBlock = 0
-block_stage (faults.Answer k fault) = 1
-block_stage faults.Memory = 2
+block_stage _ = 1
 
 abbrev pub block_place : BlockFault → ℕ
-block_place faults.WrongBlock = 0
 block_place (faults.Answer k fault) = k
-block_place faults.Memory = 0
+block_place _ = 0
 
--- the fault is the first that the block has; want of memory says nothing
-abbrev pub IsBlockRefusedBy : DecisionTable → Revisions → Line → Block → BlockFault → Type 0
-IsBlockRefusedBy t r line block faults.WrongBlock = IsFirst (FailsBlock t r line block) (IsEarlier block_stage block_place) faults.WrongBlock
-IsBlockRefusedBy t r line block (faults.Answer k fault) = IsFirst (FailsBlock t r line block) (IsEarlier block_stage block_place) (faults.Answer k fault)
-IsBlockRefusedBy t r line block faults.Memory = Unit {0}
+abbrev pub IsEarlierBlockFault : BlockFault → BlockFault → Type 0
+IsEarlierBlockFault = IsEarlier block_stage block_place

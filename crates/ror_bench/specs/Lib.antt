@@ -1,5 +1,5 @@
 pub mod Bench
 pub mod Blocks
+pub mod Laws
 pub mod Reports
 pub mod Steps
-pub mod ReportSteps

@@ -25,41 +25,46 @@ at_desk desk before = filter (λ x. x.0.desk == desk) before
 abbrev pub revisions_after : DecisionTable → Revisions → List (Line × Block) → Revisions
 revisions_after t r lines = fold (λ r x. revisions_with t r x.0.command x.1.body) r lines
 
--- what a desk of the bench holds after the lines so far and their blocks: those of other desks change nothing
+-- what a desk of the bench holds after lines and their blocks: those of other desks change nothing
 abbrev pub revisions_then : Workbench → List (Line × Block) → ℕ → Revisions
-revisions_then bench before desk = revisions_after bench.table (revisions_at bench desk) (at_desk desk before)
+revisions_then bench before desk =
+    revisions_after bench.table (revisions_at bench desk) (at_desk desk before)
 
 -- one block for each line, in order; each holds over what the line's desk holds then
-abbrev pub EachHolds : (Revisions → Line → Block → Type 0) → Workbench → List (Line × Block) → List Line → List Block → Type 0
-EachHolds Holds bench before [] [] = Unit {0}
-EachHolds Holds bench before [] (block ∷ blocks) = ⊥
-EachHolds Holds bench before (line ∷ lines) [] = ⊥
-EachHolds Holds bench before (line ∷ lines) (block ∷ blocks) = Holds (revisions_then bench before line.desk) line block × EachHolds Holds bench (before ++ (line, block) ∷ []) lines blocks
+abbrev pub EachHolds : (Revisions → Line → Block → Type 0) → Workbench → List (Line × Block)
+    → List Line → List Block → Type 0
+EachHolds P bench before [] [] = Unit {0}
+EachHolds P bench before (line ∷ lines) (block ∷ blocks) =
+    P (revisions_then bench before line.desk) line block
+    × EachHolds P bench (before ++ (line, block) ∷ []) lines blocks
+EachHolds P bench before _ _ = ⊥
 
 -- the bytes are the text of a report that is proved for the session's lines, with so many answers
-pub record IsProvedReport (bench : Workbench) (lines : List Line) (bytes : List ℕ) (answers : ℕ) : Type 0 where
+pub record IsProvedReport (bench : Workbench) (lines : List Line) (bytes : List ℕ)
+    (answers : ℕ) : Type 0 where
   pub blocks : List Block
   pub text : bytes ≡ report_text bench.table blocks
   pub printable : AllByRecursion (IsPrintableBlock bench.table) blocks
   pub proved : EachHolds (IsProvedBlock bench.table) bench [] lines blocks
   pub counted : answers ≡ sum_by answer_count blocks
 
--- the bytes are the text of a report for the session's lines, of which every answer is true of what stands at its desk
-pub record IsTrueReport (bench : Workbench) (lines : List Line) (bytes : List ℕ) : Type 0 where
-  pub blocks : List Block
-  pub text : bytes ≡ report_text bench.table blocks
-  pub printable : AllByRecursion (IsPrintableBlock bench.table) blocks
-  pub answers_true : EachHolds (λ r line block. AreTrue bench.table (statements_of r) block) bench [] lines blocks
+-- each answer of each block is true of what stands at its line's desk then
+abbrev pub AreTrueBlocks : Workbench → List Line → List Block → Type 0
+AreTrueBlocks bench lines blocks =
+    EachHolds (λ r line block. AreTrue bench.table (statements_of r) block) bench [] lines blocks
+
+-- the bytes are the text of a report that is proved for the session's lines, with so many answers, and the answers of its
+-- blocks are true of all compatible value functions
+pub record IsAcceptedReport (bench : Workbench) (lines : List Line) (bytes : List ℕ)
+    (answers : ℕ) : Type 0 where
+  pub proved : IsProvedReport bench lines bytes answers
+  pub answers_true : AreTrueBlocks bench lines proved.blocks
 
 -- want of memory is an answer of its own, and stands inside no reason
 abbrev pub IsFreeOfMemory : Reason → Type 0
-IsFreeOfMemory reasons.TooLong = Unit {0}
-IsFreeOfMemory reasons.NotUtf8 = Unit {0}
-IsFreeOfMemory (reasons.BadLine line) = Unit {0}
-IsFreeOfMemory (reasons.BadNumber line) = Unit {0}
-IsFreeOfMemory reasons.WrongBlock = Unit {0}
 IsFreeOfMemory (reasons.Answer k fault) = fault ≢ checks.Memory
+IsFreeOfMemory _ = Unit {0}
 
 abbrev pub HoldsNoMemory : ReportError → Type 0
 HoldsNoMemory (errors.Rejected rejection) = IsFreeOfMemory rejection.reason
-HoldsNoMemory errors.Memory = Unit {0}
+HoldsNoMemory _ = Unit {0}

@@ -1,6 +1,8 @@
--- What each step of a check leaves to the next: the answers that passed, the block that was read, and what is left.
-use Rattle.std.specs.Prelude.{◌≡◌, ℕ, ◌+◌, ◌<◌, true, List, ◌++◌, drop, map, slice_get, Some}
+-- What each step of a check leaves to the next: the answers that passed, the block that was read, what is left, and the
+-- error that a fault is.
+use Rattle.std.specs.Prelude.{◌≡◌, ℕ, ◌+◌, ◌<◌, min, true, List, length, ◌++◌, drop, map, slice_get, Some}
 use Rattle.std.specs.List.{AllByRecursion, flat_map, sum_by}
+use Rattle.ror_text.specs.Lines.{line_of}
 use Rattle.ror_statement.specs.declared.statement.Statement.{Statement}
 use Rattle.ror_statement.specs.Statement.{IsValidQuestion}
 use Rattle.ror_table.specs.Table.{DecisionTable}
@@ -8,19 +10,25 @@ use Rattle.ror_session.specs.declared.session.Line.{Line}
 use Rattle.ror_session.specs.declared.session.Command.TheVariants.{State}
 use Rattle.ror_session.specs.declared.session.Named.{Named}
 use Rattle.ror_session.specs.declared.session.Asked.{Asked}
-use Rattle.ror_history.specs.History.{Revisions, statements_of}
+use Rattle.ror_history.specs.History.{Revisions}
 use Rattle.ror_proof.specs.declared.answer.Answer.{Answer}
 use Rattle.ror_check.specs.declared.fault.CheckFault.{CheckFault}
 use Rattle.ror_check.specs.declared.fault.CheckFault.TheVariants as checks
 use Rattle.ror_check.specs.Proof.{IsProvedAnswer}
 use Rattle.ror_report.specs.declared.block.Block.{Block}
 use Rattle.ror_report.specs.declared.block.Body.TheVariants.{Added}
+use Rattle.ror_report.specs.declared.read.ReportFault.{ReportFault}
+use Rattle.ror_report.specs.declared.read.ReportFault.TheVariants as forms
 use Rattle.ror_report.specs.Text.{block_text, end_text, IsPrintableBlock}
 use Rattle.ror_report.specs.Reading.{ends_body}
 use Rattle.ror_bench.specs.declared.bench.BlockFault.{BlockFault}
 use Rattle.ror_bench.specs.declared.bench.BlockFault.TheVariants as faults
+use Rattle.ror_bench.specs.declared.report.Reason.{Reason}
+use Rattle.ror_bench.specs.declared.report.Reason.TheVariants as reasons
+use Rattle.ror_bench.specs.declared.report.ReportError.{ReportError}
+use Rattle.ror_bench.specs.declared.report.ReportError.TheVariants as errors
 use Rattle.ror_bench.specs.Bench.{Workbench, revisions_at}
-use Rattle.ror_bench.specs.Blocks.{IsProvedBlock, IsOfCommand, AreTrue, FailsAnswerAt, answer_count, questions_of, with_block}
+use Rattle.ror_bench.specs.Blocks.{IsProvedBlock, IsOfCommand, FailsAnswerAt, answer_count, questions_of, with_block}
 use Rattle.ror_bench.specs.Reports.{EachHolds}
 
 -- the answers are to what is asked, in order
@@ -29,31 +37,31 @@ AreAsked t asked answers = questions_of t asked ≡ Some (map (λ x. x.question)
 
 -- each answer before the place is proved, to the question that it names
 abbrev pub AreProvedBefore : DecisionTable → List Statement → List Answer → ℕ → Type 0
-AreProvedBefore t list answers n = (j : ℕ) (x : Answer) → j < n → slice_get answers j ≡ Some x → IsProvedAnswer t list x.question x
+AreProvedBefore t list answers n = (j : ℕ) (x : Answer) → j < n → slice_get answers j ≡ Some x
+    → IsProvedAnswer t list x.question x
 
 -- each answer is to a question on a table of so many alternatives
 abbrev pub AreOfTheTable : ℕ → List Answer → Type 0
-AreOfTheTable alternatives answers = (j : ℕ) (x : Answer) → slice_get answers j ≡ Some x → IsValidQuestion alternatives x.question
+AreOfTheTable alternatives answers = (j : ℕ) (x : Answer) → slice_get answers j ≡ Some x
+    → IsValidQuestion alternatives x.question
 
 -- the fault of a block of which the answer at a place is refused
 abbrev pub refused_answer : ℕ → CheckFault → BlockFault
-refused_answer k checks.WrongQuestion = faults.Answer k checks.WrongQuestion
-refused_answer k checks.WrongVerdict = faults.Answer k checks.WrongVerdict
-refused_answer k checks.PartCount = faults.Answer k checks.PartCount
-refused_answer k (checks.Base r) = faults.Answer k (checks.Base r)
-refused_answer k (checks.Part j r) = faults.Answer k (checks.Part j r)
 refused_answer k checks.Memory = faults.Memory
+refused_answer k fault = faults.Answer k fault
 
 -- an answer is refused, and those before it are proved; or memory ran out
 abbrev pub RefusesAnswers : DecisionTable → List Statement → List Answer → BlockFault → Type 0
 RefusesAnswers t list answers faults.WrongBlock = ⊥
-RefusesAnswers t list answers (faults.Answer k fault) = FailsAnswerAt t list answers k fault × ((before : ℕ) → k ≡ before + 1 → AreProvedBefore t list answers before)
+RefusesAnswers t list answers (faults.Answer k fault) = FailsAnswerAt t list answers k fault
+    × ((before : ℕ) → k ≡ before + 1 → AreProvedBefore t list answers before)
 RefusesAnswers t list answers faults.Memory = Unit {0}
 
 -- the answers are not to what is asked, or one is refused, those before it being proved; or memory ran out
 abbrev pub RefusesAsked : DecisionTable → List Statement → Asked → List Answer → BlockFault → Type 0
 RefusesAsked t list asked answers faults.WrongBlock = AreAsked t asked answers → ⊥
-RefusesAsked t list asked answers (faults.Answer k fault) = AreAsked t asked answers × RefusesAnswers t list answers (faults.Answer k fault)
+RefusesAsked t list asked answers (faults.Answer k fault) = AreAsked t asked answers
+    × RefusesAnswers t list answers (faults.Answer k fault)
 RefusesAsked t list asked answers faults.Memory = Unit {0}
 
 -- the statement can't be added with this number; or memory ran out
@@ -62,18 +70,15 @@ RefusesAdded t r named n faults.WrongBlock = IsOfCommand t r (State named) (Adde
 RefusesAdded t r named n (faults.Answer k fault) = ⊥
 RefusesAdded t r named n faults.Memory = Unit {0}
 
--- the block is proved for the line over what its desk holds, and so each answer is true
-abbrev pub IsCheckedBlock : DecisionTable → Revisions → Line → Block → Type 0
-IsCheckedBlock t r line block = IsProvedBlock t r line block × AreTrue t (statements_of r) block
-
 -- a block of the line stands at the place and ends at the other, it is proved with so many answers, and the bench is moved
 -- on by it
-pub record IsNextBlock (bench moved : Workbench) (line : Line) (bytes : List ℕ) (from : ℕ) (answers after : ℕ) : Type 0 where
+pub record IsNextBlock (bench moved : Workbench) (line : Line) (bytes : List ℕ) (from : ℕ)
+    (answers after : ℕ) : Type 0 where
   pub block : Block
   pub text : drop from bytes ≡ block_text bench.table block ++ drop after bytes
   pub ended : ends_body (drop after bytes) ≡ true
   pub printable : IsPrintableBlock bench.table block
-  pub checked : IsCheckedBlock bench.table (revisions_at bench line.desk) line block
+  pub proved : IsProvedBlock bench.table (revisions_at bench line.desk) line block
   pub counted : answers ≡ answer_count block
   pub moved_on : moved ≡ with_block bench line block
 
@@ -86,11 +91,33 @@ pub record BeginsProved (bench : Workbench) (line : Line) (bytes : List ℕ) : T
   pub printable : IsPrintableBlock bench.table block
   pub proved : IsProvedBlock bench.table (revisions_at bench line.desk) line block
 
--- the bytes are the texts of blocks that hold of the lines, after those before, and the last line of a report of so many
--- blocks
-pub record IsRest (start : Workbench) (Holds : Revisions → Line → Block → Type 0) (before : List (Line × Block)) (lines : List Line) (total : ℕ) (bytes : List ℕ) (answers : ℕ) : Type 0 where
+-- the bytes are the texts of blocks that are proved for the lines, after those before, and the last line of a report of so
+-- many blocks
+pub record IsRest (start : Workbench) (before : List (Line × Block)) (lines : List Line) (total : ℕ)
+    (bytes : List ℕ) (answers : ℕ) : Type 0 where
   pub blocks : List Block
   pub text : bytes ≡ flat_map (block_text start.table) blocks ++ end_text total
   pub printable : AllByRecursion (IsPrintableBlock start.table) blocks
-  pub held : EachHolds Holds start before lines blocks
+  pub proved : EachHolds (IsProvedBlock start.table) start before lines blocks
   pub counted : answers ≡ sum_by answer_count blocks
+
+-- ---- which error a fault of a block is
+
+abbrev pub rejected : ℕ → Reason → ReportError
+rejected block reason = errors.Rejected (record { block = block; reason = reason })
+
+abbrev pub wrong_block_error : ℕ → ReportError
+wrong_block_error block = rejected block reasons.WrongBlock
+
+abbrev pub refused_block_error : ℕ → BlockFault → ReportError
+refused_block_error block faults.WrongBlock = rejected block reasons.WrongBlock
+refused_block_error block (faults.Answer k fault) = rejected block (reasons.Answer k fault)
+refused_block_error block faults.Memory = errors.Memory
+
+-- the line of a fault within the bytes, or the one that their end is in
+abbrev pub misread_error : List ℕ → ℕ → ReportFault → ReportError
+misread_error bytes block (forms.BadLine place) =
+    rejected block (reasons.BadLine (line_of bytes (min place (length bytes))))
+misread_error bytes block (forms.BadNumber place) =
+    rejected block (reasons.BadNumber (line_of bytes (min place (length bytes))))
+misread_error bytes block forms.Memory = errors.Memory

@@ -3,26 +3,26 @@
 ghost use Rattle.std.specs.Prelude.{◌≡◌, ◌≢◌, ◌<◌, ◌≤◌, ◌^◌, ◌-◌, length, map, [], replicate, OnOk, IfOk, IfErr, IfSome, ◌↔◌, IsTrue};
 ghost use Rattle.std.specs.List.{AllByRecursion};
 ghost use Rattle.std.specs.Option.{option_map};
+ghost use Rattle.ror_text.specs.FirstFault.{IsRefusedBy};
 ghost use Rattle.ror_statement.specs.Statement.{row_count, IsLawful, IsValid, IsValidQuestion};
 ghost use Rattle.ror_history.specs.History.{statements_of};
-ghost use Rattle.ror_table.specs.Table as reading;
 ghost use Rattle.ror_session.specs.declared.session.Command.TheVariants.{State};
 ghost use Rattle.ror_report.specs.declared.block.Body.TheVariants.{Added};
-ghost use Rattle.ror_bench.specs.Bench.{Workbench, revisions_at, bench_of};
+ghost use Rattle.ror_bench.specs.Bench.{Workbench, revisions_at, bench_of, IsLawfulBench};
 ghost use Rattle.ror_bench.specs.Blocks as blocks;
-ghost use Rattle.ror_bench.specs.Blocks.{IsProvedBlock, IsOfCommand, answer_count, AreTrue, IsBlockRefusedBy, with_body, with_block};
+ghost use Rattle.ror_bench.specs.Blocks.{IsProvedBlock, IsOfCommand, answer_count, AreTrue, FailsBlock, IsEarlierBlockFault, with_body, with_block};
 ghost use Rattle.ror_bench.specs.Steps as steps;
 ghost use Rattle.ror_bench.specs.Steps.{AreAsked, AreProvedBefore, AreOfTheTable, RefusesAnswers, RefusesAsked, RefusesAdded};
 ghost use Rattle.ror_bench.specs.declared.bench.BlockFault.TheVariants.{Memory};
 
+use crate::names::{question_of, statement_of};
 use ror_check::{CheckFault, check_answer};
 use ror_history::{History, HistoryFault};
 use ror_proof::Answer;
 use ror_report::{Block, Body};
 use ror_session::{Asked, Command, Line, Named};
-use ror_statement::{Numbered, Question, Statement};
+use ror_statement::{MOST_ROWS, MOST_STATEMENTS, Numbered, Question, Statement};
 use ror_table::Table;
-use ror_text::Text;
 use ror_value::Input;
 use std::alloc::{AllocError, AllocFailed, Global};
 use std::marker::Model;
@@ -84,7 +84,8 @@ impl Model for Bench {
 
     ghost view = { λ b. record { table = b.table; state = map (λ h. h.state) b.desks.items } };
 
-    ghost invariant = { λ b. AllByRecursion (λ h. IsLawful (length b.table.alternatives) (statements_of h.state)) b.desks.items };
+    ghost invariant = { λ b. AllByRecursion (λ h. IsLawful (length b.table.alternatives)
+        (statements_of h.state)) b.desks.items };
 }
 
 impl Bench {
@@ -105,7 +106,8 @@ impl Bench {
 
     /// The table, which no line changes.
     pub fn table(&self) -> &Table
-        ensures { result.now ≡ self.now.table }
+        ensures value { result.now ≡ self.now.table }
+        ensures lawful { IsLawfulBench self.now }
     {
         &self.table
     }
@@ -118,11 +120,17 @@ impl Bench {
     /// `WrongBlock`, and then the first answer that is not accepted.
     pub fn check_line(&mut self, line: &Line, block: &Block) -> Result<Passed, BlockFault>
         requires { line.now.desk < length self.old.state }
-        ensures accepted { OnOk result (IsProvedBlock self.old.table (revisions_at self.old line.now.desk) line.now block.now) }
-        ensures counted { IfOk result (λ passed. passed ≡ record { answers = answer_count block.now; wide = 0 }) }
-        ensures true_answers { OnOk result (AreTrue self.old.table (statements_of (revisions_at self.old line.now.desk)) block.now) }
-        ensures not_proved { IfErr result (λ e. e ≢ BlockFault.Memory → IsProvedBlock self.old.table (revisions_at self.old line.now.desk) line.now block.now → ⊥) }
-        ensures refused { IfErr result (IsBlockRefusedBy self.old.table (revisions_at self.old line.now.desk) line.now block.now) }
+        ensures accepted { OnOk result (IsProvedBlock self.old.table
+            (revisions_at self.old line.now.desk) line.now block.now) }
+        ensures counted { IfOk result (λ passed. passed
+            ≡ record { answers = answer_count block.now; wide = 0 }) }
+        ensures true_answers { OnOk result (AreTrue self.old.table
+            (statements_of (revisions_at self.old line.now.desk)) block.now) }
+        ensures not_proved { IfErr result (λ e. e ≢ BlockFault.Memory → IsProvedBlock self.old.table
+            (revisions_at self.old line.now.desk) line.now block.now → ⊥) }
+        ensures refused { IfErr result (IsRefusedBy
+            (FailsBlock self.old.table (revisions_at self.old line.now.desk) line.now block.now)
+            IsEarlierBlockFault BlockFault.Memory) }
         ensures moved { OnOk result (self.new ≡ with_block self.old line.now block.now) }
         ensures kept { IfErr result (λ _. self.new ≡ self.old) }
     {
@@ -145,10 +153,13 @@ impl Bench {
     /// Whether the statement can be added at the desk, with this number; it then stands there.
     fn check_added(&mut self, desk: u32, named: &Named, number: u32) -> Result<Passed, BlockFault>
         requires { desk < length self.old.state }
-        ensures of_command { OnOk result (IsOfCommand self.old.table (revisions_at self.old desk) (State named.now) (Added number)) }
+        ensures of_command { OnOk result (IsOfCommand self.old.table (revisions_at self.old desk)
+            (State named.now) (Added number)) }
         ensures counted { IfOk result (λ passed. passed ≡ record { answers = 0; wide = 0 }) }
-        ensures refused { IfErr result (RefusesAdded self.old.table (revisions_at self.old desk) named.now number) }
-        ensures moved { OnOk result (self.new ≡ with_body self.old desk (State named.now) (Added number)) }
+        ensures refused { IfErr result (RefusesAdded self.old.table (revisions_at self.old desk)
+            named.now number) }
+        ensures moved { OnOk result (self.new
+            ≡ with_body self.old desk (State named.now) (Added number)) }
         ensures kept { IfErr result (λ _. self.new ≡ self.old) }
     {
         let Some(statement) = statement_of(&self.table, named) else {
@@ -177,11 +188,14 @@ impl Bench {
     ) -> Result<Passed, BlockFault>
         requires { desk < length self.now.state }
         ensures asked { OnOk result (AreAsked self.now.table asked.now answers.now) }
-        ensures proved { OnOk result (AreProvedBefore self.now.table (statements_of (revisions_at self.now desk)) answers.now (length answers.now)) }
-        ensures valid { OnOk result (AreOfTheTable (length self.now.table.alternatives) answers.now) }
-        ensures lawful { OnOk result (IsLawful (length self.now.table.alternatives) (statements_of (revisions_at self.now desk))) }
-        ensures counted { IfOk result (λ passed. passed ≡ record { answers = length answers.now; wide = 0 }) }
-        ensures refused { IfErr result (RefusesAsked self.now.table (statements_of (revisions_at self.now desk)) asked.now answers.now) }
+        ensures proved { OnOk result (AreProvedBefore self.now.table
+            (statements_of (revisions_at self.now desk)) answers.now (length answers.now)) }
+        ensures lawful { OnOk result (IsLawful (length self.now.table.alternatives)
+            (statements_of (revisions_at self.now desk))) }
+        ensures counted { IfOk result (λ passed. passed
+            ≡ record { answers = length answers.now; wide = 0 }) }
+        ensures refused { IfErr result (RefusesAsked self.now.table
+            (statements_of (revisions_at self.now desk)) asked.now answers.now) }
     {
         if !are_asked(self.alloc, &self.table, asked, answers)? {
             return Err(BlockFault::WrongBlock);
@@ -197,8 +211,10 @@ impl Bench {
     /// The statements that stand at a desk, in order.
     fn statements_at(&self, desk: u32) -> Result<Vec<Statement>, AllocError>
         requires { desk < length self.now.state }
-        ensures exact { IfOk result (λ list. list.items ≡ statements_of (revisions_at self.now desk)) }
-        ensures lawful { IfOk result (λ list. IsLawful (length self.now.table.alternatives) list.items) }
+        ensures exact { IfOk result (λ list. list.items
+            ≡ statements_of (revisions_at self.now desk)) }
+        ensures lawful { IfOk result (λ list.
+            IsLawful (length self.now.table.alternatives) list.items) }
     {
         let standing = self.desks[desk as usize].standing()?;
         statements(self.alloc, standing.as_slice())
@@ -207,9 +223,10 @@ impl Bench {
 
 /// So many histories, each of which begins with the opening statements.
 fn histories(alloc: Global, opening: &[Statement], count: u32) -> Result<Vec<History>, AllocError>
-    requires few { length opening.now ≤ 200 }
-    requires rows { row_count opening.now ≤ 2000 }
-    ensures { IfOk result (λ desks. map (λ h. h.state) desks.items ≡ replicate count (record { opening = opening.now; surviving = [] })) }
+    requires few { length opening.now ≤ MOST_STATEMENTS }
+    requires rows { row_count opening.now ≤ MOST_ROWS }
+    ensures { IfOk result (λ desks. map (λ h. h.state) desks.items
+        ≡ replicate count (record { opening = opening.now; surviving = [] })) }
 {
     let mut desks = Vec::new(alloc);
     for _ in 0..count {
@@ -229,20 +246,6 @@ fn statements(alloc: Global, standing: &[Numbered]) -> Result<Vec<Statement>, Al
     Ok(list)
 }
 
-/// The statement of these names, where the table has both.
-fn statement_of(table: &Table, named: &Named) -> Option<Statement>
-    ensures exact { result ≡ blocks.statement_of table.now named.now }
-    ensures valid { IfSome result (IsValid (length table.now.alternatives)) }
-{
-    match named {
-        Named::Prefer(first, second) => {
-            let first = alternative_named(table, first)?;
-            let second = alternative_named(table, second)?;
-            Some(Statement::Prefer(first, second))
-        }
-    }
-}
-
 /// Whether the answers are to what is asked, in order.
 fn are_asked(
     alloc: Global,
@@ -251,7 +254,8 @@ fn are_asked(
     answers: &[Answer],
 ) -> Result<bool, AllocError>
     ensures exact { IfOk result (λ are. IsTrue are ↔ AreAsked table.now asked.now answers.now) }
-    ensures valid { IfOk result (λ are. IsTrue are → AreOfTheTable (length table.now.alternatives) answers.now) }
+    ensures valid { IfOk result (λ are. IsTrue are
+        → AreOfTheTable (length table.now.alternatives) answers.now) }
     ensures few { IfOk result (λ are. IsTrue are → length answers.now < 2 ^ 32 - 1) }
 {
     match questions_of(alloc, table, asked)? {
@@ -266,8 +270,10 @@ fn questions_of(
     table: &Table,
     asked: &Asked,
 ) -> Result<Option<Vec<Question>>, AllocError>
-    ensures exact { IfOk result (λ questions. option_map (λ v. v.items) questions ≡ blocks.questions_of table.now asked.now) }
-    ensures valid { IfOk result (λ questions. IfSome questions (λ v. AllByRecursion (IsValidQuestion (length table.now.alternatives)) v.items)) }
+    ensures exact { IfOk result (λ questions. option_map (λ v. v.items) questions
+        ≡ blocks.questions_of table.now asked.now) }
+    ensures valid { IfOk result (λ questions. IfSome questions
+        (λ v. AllByRecursion (IsValidQuestion (length table.now.alternatives)) v.items)) }
     ensures few { IfOk result (λ questions. IfSome questions (λ v. length v.items ≤ 1)) }
 {
     match question_of(table, asked) {
@@ -278,29 +284,6 @@ fn questions_of(
         }
         None => Ok(None),
     }
-}
-
-/// The question of these names, where the table has both.
-fn question_of(table: &Table, asked: &Asked) -> Option<Question>
-    ensures exact { result ≡ blocks.question_of table.now asked.now }
-    ensures valid { IfSome result (IsValidQuestion (length table.now.alternatives)) }
-{
-    match asked {
-        Asked::Necessary(first, second) => {
-            let first = alternative_named(table, first)?;
-            let second = alternative_named(table, second)?;
-            Some(Question::Necessary(first, second))
-        }
-    }
-}
-
-/// The place of the alternative with this id, if there is one.
-fn alternative_named(table: &Table, id: &Text) -> Option<usize>
-    ensures exact { result ≡ reading.alternative_named table.now id.now }
-    ensures within { IfSome result (λ a. a < length table.now.alternatives) }
-{
-    let _count = table.alternatives();
-    table.find_alternative(id.as_str())
 }
 
 /// Whether the answers are to these questions in order.

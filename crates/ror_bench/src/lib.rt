@@ -2,10 +2,13 @@
 #![tactic(auto)]
 
 mod bench;
+pub mod laws;
+mod names;
 mod report;
 
 pub use bench::{Bench, BlockFault, Passed};
-pub use report::{Reason, Rejection, ReportError, check_report};
+pub use names::{question_of, statement_of};
+pub use report::{MOST_REPORT_BYTES, Reason, Rejection, ReportError, check_report};
 
 #[cfg(test)]
 mod tests;

@@ -8,9 +8,9 @@ ghost use Rattle.ror_text.specs.Lines.{line_of};
 ghost use Rattle.ror_table.specs.Table.{IsTable};
 ghost use Rattle.ror_report.specs.Text.{end_text};
 ghost use Rattle.ror_bench.specs.Bench.{Workbench};
-ghost use Rattle.ror_bench.specs.Reports.{IsProvedReport, IsTrueReport, NamesADesk, HoldsNoMemory};
+ghost use Rattle.ror_bench.specs.Reports.{IsProvedReport, IsAcceptedReport, NamesADesk, HoldsNoMemory};
 ghost use Rattle.ror_bench.specs.Steps.{IsNextBlock, BeginsProved};
-ghost use Rattle.ror_bench.specs.ReportSteps.{misread_error, refused_block_error, wrong_block_error};
+ghost use Rattle.ror_bench.specs.Steps.{misread_error, refused_block_error, wrong_block_error};
 
 use crate::bench::{Bench, BlockFault};
 use ror_check::CheckFault;
@@ -21,10 +21,13 @@ use ror_text::lines::line_number;
 use std::alloc::Global;
 use thiserror::Error;
 
+/// How many bytes a report may have.
+pub const MOST_REPORT_BYTES: usize = 268_435_456;
+
 /// Why a report is refused.
 #[derive(Debug, Drop)]
 pub enum Reason {
-    /// Longer than 268,435,456 bytes.
+    /// Longer than `MOST_REPORT_BYTES`.
     TooLong,
     NotUtf8,
     /// The report's line that is not as it is to be.
@@ -54,7 +57,8 @@ pub enum ReportError {
 }
 
 /// Checks a report against the session's lines, block by block, each over what the blocks before it left at its desk, and
-/// gives the number of its answers. The report has at most 268,435,456 bytes.
+/// gives the number of its answers. The report has at most `MOST_REPORT_BYTES`. What is accepted is the text of a proved
+/// report, and its answers are true of all compatible value functions.
 ///
 /// # Errors
 ///
@@ -67,10 +71,10 @@ pub fn check_report(
     bytes: &[u8],
 ) -> Result<u64, ReportError>
     requires desks { AllByRecursion (NamesADesk (length bench.state)) lines.now }
-    requires length { length bytes.now ≤ 268435456 }
-    ensures accepted { IfOk result (IsProvedReport bench lines.now bytes.now) }
-    ensures true_answers { IfOk result (λ n. IsTrueReport bench lines.now bytes.now) }
-    ensures not_proved { IfErr result (λ e. e ≢ ReportError.Memory → (n : ℕ) → IsProvedReport bench lines.now bytes.now n → ⊥) }
+    requires length { length bytes.now ≤ MOST_REPORT_BYTES }
+    ensures accepted { IfOk result (IsAcceptedReport bench lines.now bytes.now) }
+    ensures not_proved { IfErr result (λ e. e ≢ ReportError.Memory
+        → (n : ℕ) → IsProvedReport bench lines.now bytes.now n → ⊥) }
     ensures pure { IfErr result HoldsNoMemory }
 {
     // What is read back is what was written only over a table, and each table has alternatives.
@@ -101,10 +105,10 @@ fn check_blocks(
     bytes: &[u8],
 ) -> Result<u64, ReportError>
     requires desks { AllByRecursion (NamesADesk (length bench.state)) lines.now }
-    requires length { length bytes.now ≤ 268435456 }
+    requires length { length bytes.now ≤ MOST_REPORT_BYTES }
     ensures accepted { IfOk result (IsProvedReport bench lines.now bytes.now) }
-    ensures true_answers { IfOk result (λ n. IsTrueReport bench lines.now bytes.now) }
-    ensures not_proved { IfErr result (λ e. e ≢ ReportError.Memory → (n : ℕ) → IsProvedReport bench lines.now bytes.now n → ⊥) }
+    ensures not_proved { IfErr result (λ e. e ≢ ReportError.Memory
+        → (n : ℕ) → IsProvedReport bench lines.now bytes.now n → ⊥) }
     ensures pure { IfErr result HoldsNoMemory }
 {
     let Some(start) = read_header(bytes) else {
@@ -141,11 +145,13 @@ fn check_next(
     requires table { IsTable bench.old.table }
     requires desk { NamesADesk (length bench.old.state) line.now }
     requires within { from ≤ length bytes.now }
-    requires length { length bytes.now ≤ 268435456 }
-    ensures next { IfOk result (λ x. IsNextBlock bench.old bench.new line.now bytes.now from x.0 x.1) }
+    requires length { length bytes.now ≤ MOST_REPORT_BYTES }
+    ensures next { IfOk result
+        (λ x. IsNextBlock bench.old bench.new line.now bytes.now from x.0 x.1) }
     ensures onward { IfOk result (λ x. from < x.1) }
     ensures within { IfOk result (λ x. x.1 ≤ length bytes.now) }
-    ensures none { IfErr result (λ e. e ≢ ReportError.Memory → BeginsProved bench.old line.now (drop from bytes.now) → ⊥) }
+    ensures none { IfErr result (λ e. e ≢ ReportError.Memory
+        → BeginsProved bench.old line.now (drop from bytes.now) → ⊥) }
     ensures pure { IfErr result HoldsNoMemory }
     ensures kept { IfErr result (λ _. bench.new ≡ bench.old) }
 {
@@ -170,10 +176,11 @@ fn check_end(
     block: u32,
 ) -> Result<(), ReportError>
     requires within { from ≤ length bytes.now }
-    requires length { length bytes.now ≤ 268435456 }
+    requires length { length bytes.now ≤ MOST_REPORT_BYTES }
     requires block { 0 < block }
     ensures last { OnOk result (drop from bytes.now ≡ end_text (block - 1)) }
-    ensures not_last { IfErr result (λ e. e ≢ ReportError.Memory → drop from bytes.now ≡ end_text (block - 1) → ⊥) }
+    ensures not_last { IfErr result (λ e. e ≢ ReportError.Memory
+        → drop from bytes.now ≡ end_text (block - 1) → ⊥) }
     ensures pure { IfErr result HoldsNoMemory }
 {
     if !begins_end(bytes, from) {
@@ -189,7 +196,7 @@ fn check_end(
 /// Why a last line that stands where a block is due is refused: its own faults come first.
 fn early_end(alloc: Global, bytes: &[u8], from: usize, block: u32) -> ReportError
     requires within { from ≤ length bytes.now }
-    requires length { length bytes.now ≤ 268435456 }
+    requires length { length bytes.now ≤ MOST_REPORT_BYTES }
     ensures { HoldsNoMemory result }
 {
     match read_end(alloc, bytes, from) {
@@ -201,7 +208,7 @@ fn early_end(alloc: Global, bytes: &[u8], from: usize, block: u32) -> ReportErro
 /// Why what stands where the last line is due is refused: the faults of a block come first.
 fn late_block(alloc: Global, table: &Table, bytes: &[u8], from: usize, block: u32) -> ReportError
     requires within { from ≤ length bytes.now }
-    requires length { length bytes.now ≤ 268435456 }
+    requires length { length bytes.now ≤ MOST_REPORT_BYTES }
     ensures { HoldsNoMemory result }
 {
     match read_block(alloc, table, bytes, from) {
@@ -233,7 +240,7 @@ fn refused_block(block: u32, fault: BlockFault) -> ReportError
 
 /// The error of a block or a last line that is not as it is to be, by the number of its line.
 fn misread(bytes: &[u8], block: u32, fault: ReportFault) -> ReportError
-    requires { length bytes.now ≤ 268435456 }
+    requires { length bytes.now ≤ MOST_REPORT_BYTES }
     ensures { result ≡ misread_error bytes.now block fault }
 {
     let reason = match fault {
@@ -246,7 +253,7 @@ fn misread(bytes: &[u8], block: u32, fault: ReportFault) -> ReportError
 
 /// The number of the line of the byte at a place, or of the bytes' end.
 fn line_at(bytes: &[u8], place: usize) -> u32
-    requires { length bytes.now ≤ 268435456 }
+    requires { length bytes.now ≤ MOST_REPORT_BYTES }
     ensures { result ≡ line_of bytes.now (min place (length bytes.now)) }
 {
     line_number(bytes, place.min(bytes.len()))

@@ -73,7 +73,7 @@ shows_solvable s (certificates.Multipliers m) h = absurd h
 
 pub shows_not_solvable : (s : LinearSystem) (c : Certificate) → Shows NotSolvable s c → IsSolvable s → ⊥
 shows_not_solvable s (certificates.Solution x) h can = absurd h
-shows_not_solvable s (certificates.Multipliers m) h can = not_both s m.weak m.strict h.combine can
+shows_not_solvable s (certificates.Multipliers m) h can = not_both s m.weak m.strict h.refute can
 
 pub rejected_not_shown : (side : Side) (s : LinearSystem) (c : Certificate) (r : Reject) → IsRejectedFor s c r → Shows side s c → ⊥
 rejected_not_shown Solvable s (certificates.Solution x) r first shown = solutions.not_accepted s x.steps r first shown

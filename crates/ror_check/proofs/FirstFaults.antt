@@ -1,9 +1,10 @@
 -- That a refusal names the first test that fails, and that what is refused is not proved.
-use Rattle.std.proofs.Common.{◌≡◌, ◌≢◌, ℕ, ◌+◌, ◌<◌, ◌≤◌, true, List, [], ◌∷◌, length, map, Result, Ok, Err, refl, sym, ◌∙◌, subst, arith, inl, inr}
-use Rattle.std.specs.Prelude.{◌⊎◌, OnOk, IfErr}
+use Rattle.std.proofs.Common.{◌≡◌, ◌≢◌, ℕ, ◌+◌, ◌<◌, true, List, [], ◌∷◌, length, map, Result, Ok, Err, refl, sym, ◌∙◌, subst, arith, inl, inr}
+use Rattle.std.specs.Prelude.{OnOk, IfErr}
 use Rattle.std.specs.List.{AllByRecursion, list_all}
 use Rattle.std.proofs.lemmas.Bool.{false≢true}
-use Rattle.ror_text.specs.FirstFault.{IsFirst}
+use Rattle.ror_text.specs.FirstFault.{IsFirst, IsRefusedBy}
+use Rattle.ror_text.proofs.FirstFaultLemmas.{not_earlier, refused_not_passed}
 use Rattle.ror_statement.specs.declared.statement.Statement.{Statement}
 use Rattle.ror_statement.specs.declared.statement.Question.{Question}
 use Rattle.ror_statement.specs.declared.statement.Conclusion.{Conclusion}
@@ -24,14 +25,9 @@ use Rattle.ror_check.specs.declared.fault.CheckFault.{CheckFault}
 use Rattle.ror_check.specs.declared.fault.CheckFault.TheVariants as faults
 use Rattle.ror_check.specs.declared.side.Side.{Side}
 use Rattle.ror_check.specs.Proof.{Shows, ShowsOfItsSystem, Proves, IsProvedAnswer, AreNumbersFor, AreNumberedFor, base_side, part_side, base_system, question_systems_of, conclusion_of}
-use Rattle.ror_check.specs.Faults.{is_side, have_kind, has_kinds, IsRejectedFor, FailsPart, FailsAnswer, IsEarlierFault, IsRefusedBy}
+use Rattle.ror_check.specs.Faults.{is_side, have_kind, has_kinds, IsRejectedFor, FailsPart, FailsAnswer, fault_stage, fault_place, IsEarlierFault}
 use Rattle.ror_check.specs.Steps.{AreShownBefore, RefusesParts, RefusesProof, systems_with}
 use Rattle.ror_check.proofs.Checking.{both_true, all_at, some_kind, some_same, shown_kind, rejected_not_shown, as_many, systems_with-are, proves, answer_is_true}
-
--- a later test is no earlier one
-not_earlier : (m n i j : ℕ) → n ≤ m → j ≤ i → (m < n) ⊎ ((m ≡ n) × (i < j)) → ⊥
-not_earlier m n i j le at (inl less) = omega arith
-not_earlier m n i j le at (inr same) = let less = same.1 in omega arith
 
 -- a part that shows a side of the system that it names is refused for no reason
 shown_not_refused : (side : Side) (systems : List LinearSystem) (parts : List Part) (k : ℕ) (r : Reject) (f : FailsPart systems parts k r) → ShowsOfItsSystem side systems f.part → ⊥
@@ -51,9 +47,9 @@ module _ (t : DecisionTable) (list : List Statement) (q : Question) (x : Answer)
       before : (g : CheckFault) → IsEarlierFault g faults.PartCount → FailsAnswer t list q x g → ⊥
       before faults.WrongQuestion earlier h = h asked
       before faults.WrongVerdict earlier h = false≢true (sym h ∙ kinds)
-      before faults.PartCount earlier h = not_earlier 2 2 0 0 (omega arith) (omega arith) earlier
-      before (faults.Base r) earlier h = not_earlier 3 2 0 0 (omega arith) (omega arith) earlier
-      before (faults.Part k r) earlier h = not_earlier 4 2 k 0 (omega arith) (omega arith) earlier
+      before faults.PartCount earlier h = not_earlier fault_stage fault_place faults.PartCount faults.PartCount (omega arith) (omega arith) earlier
+      before (faults.Base r) earlier h = not_earlier fault_stage fault_place (faults.Base r) faults.PartCount (omega arith) (omega arith) earlier
+      before (faults.Part k r) earlier h = not_earlier fault_stage fault_place (faults.Part k r) faults.PartCount (omega arith) (omega arith) earlier
       before faults.Memory earlier h = h
 
   base_first : (r : Reject) → AreNumberedFor q (conclusion_of x.verdict) (proof_of x.verdict).parts → IsRejectedFor (base_system t list) (proof_of x.verdict).base r → IsFirst (FailsAnswer t list q x) IsEarlierFault (faults.Base r)
@@ -63,8 +59,8 @@ module _ (t : DecisionTable) (list : List Statement) (q : Question) (x : Answer)
       before faults.WrongQuestion earlier h = h asked
       before faults.WrongVerdict earlier h = false≢true (sym h ∙ kinds)
       before faults.PartCount earlier h = h numbered
-      before (faults.Base r') earlier h = not_earlier 3 3 0 0 (omega arith) (omega arith) earlier
-      before (faults.Part k r') earlier h = not_earlier 4 3 k 0 (omega arith) (omega arith) earlier
+      before (faults.Base r') earlier h = not_earlier fault_stage fault_place (faults.Base r') (faults.Base r) (omega arith) (omega arith) earlier
+      before (faults.Part k r') earlier h = not_earlier fault_stage fault_place (faults.Part k r') (faults.Base r) (omega arith) (omega arith) earlier
       before faults.Memory earlier h = h
 
   -- a part before the one that is refused is refused for no reason
@@ -88,13 +84,13 @@ module _ (t : DecisionTable) (list : List Statement) (q : Question) (x : Answer)
       before (faults.Part j r') (inr same) h = no_earlier_part k j r' shown fails.before fails.counted same.1 h
       before faults.Memory earlier h = h
 
-  pub refused : (e : CheckFault) → RefusesProof t list q (conclusion_of x.verdict) (proof_of x.verdict) e → IsRefusedBy t list q x e
-  refused faults.WrongQuestion h = absurd h
-  refused faults.WrongVerdict h = absurd h
-  refused faults.PartCount h = count_first h
-  refused (faults.Base r) h = base_first r h.0 h.1
-  refused (faults.Part k r) h = part_first k r h.0 h.1 h.2 h.3
-  refused faults.Memory h = tt
+  pub refused : (e : CheckFault) → RefusesProof t list q (conclusion_of x.verdict) (proof_of x.verdict) e → IsRefusedBy (FailsAnswer t list q x) IsEarlierFault faults.Memory e
+  refused faults.WrongQuestion h ne = absurd h
+  refused faults.WrongVerdict h ne = absurd h
+  refused faults.PartCount h ne = count_first h
+  refused (faults.Base r) h ne = base_first r h.0 h.1
+  refused (faults.Part k r) h ne = part_first k r h.0 h.1 h.2 h.3
+  refused faults.Memory h ne = absurd (ne refl)
 
 -- ---- what is proved passes each test
 
@@ -123,15 +119,6 @@ passes_each_test t list q x (faults.Part k r) p h =
     shown_not_refused side systems (proof_of x.verdict).parts k r h (all_at (ShowsOfItsSystem side systems) (proof_of x.verdict).parts h.before h.part p.proof.parts h.part_there)
 passes_each_test t list q x faults.Memory p h = h
 
--- what a test refuses first is not proved
-pub refused_not_proved : (t : DecisionTable) (list : List Statement) (q : Question) (x : Answer) (e : CheckFault) → IsRefusedBy t list q x e → e ≢ faults.Memory → IsProvedAnswer t list q x → ⊥
-refused_not_proved t list q x faults.WrongQuestion h ne p = passes_each_test t list q x faults.WrongQuestion p h.fails
-refused_not_proved t list q x faults.WrongVerdict h ne p = passes_each_test t list q x faults.WrongVerdict p h.fails
-refused_not_proved t list q x faults.PartCount h ne p = passes_each_test t list q x faults.PartCount p h.fails
-refused_not_proved t list q x (faults.Base r) h ne p = passes_each_test t list q x (faults.Base r) p h.fails
-refused_not_proved t list q x (faults.Part k r) h ne p = passes_each_test t list q x (faults.Part k r) p h.fails
-refused_not_proved t list q x faults.Memory h ne p = ne refl
-
 -- ---- the answer of a check
 
 -- what is said of a conclusion and a proof at hand is said of the answer's
@@ -146,14 +133,13 @@ pub answer_true : (t : DecisionTable) (list : List Statement) (q : Question) (x 
 answer_true t list q x (Ok u) lawful valid h = answer_is_true t list q x lawful valid h
 answer_true t list q x (Err g) lawful valid h = tt
 
-pub answer_refused : (t : DecisionTable) (list : List Statement) (q : Question) (x : Answer) (c : Conclusion) (proof : Proof) (r : Result (Unit {0}) CheckFault) → x.question ≡ q → c ≡ conclusion_of x.verdict → proof ≡ proof_of x.verdict → has_kinds q c proof ≡ true → IfErr r (RefusesProof t list q c proof) → IfErr r (IsRefusedBy t list q x)
+pub answer_refused : (t : DecisionTable) (list : List Statement) (q : Question) (x : Answer) (c : Conclusion) (proof : Proof) (r : Result (Unit {0}) CheckFault) → x.question ≡ q → c ≡ conclusion_of x.verdict → proof ≡ proof_of x.verdict → has_kinds q c proof ≡ true → IfErr r (RefusesProof t list q c proof) → IfErr r (IsRefusedBy (FailsAnswer t list q x) IsEarlierFault faults.Memory)
 answer_refused t list q x c proof (Ok u) asked e f kinds h = tt
 answer_refused t list q x c proof (Err g) asked e f kinds h =
     refused t list q x asked (of_answer (λ c proof. has_kinds q c proof ≡ true) x c proof e f kinds) g (of_answer (λ c proof. RefusesProof t list q c proof g) x c proof e f h)
 
-pub answer_not_proved : (t : DecisionTable) (list : List Statement) (q : Question) (x : Answer) (r : Result (Unit {0}) CheckFault) → IfErr r (IsRefusedBy t list q x) → IfErr r (λ g. g ≢ faults.Memory → IsProvedAnswer t list q x → ⊥)
-answer_not_proved t list q x (Ok u) h = tt
-answer_not_proved t list q x (Err g) h = refused_not_proved t list q x g h
+pub answer_not_proved : (t : DecisionTable) (list : List Statement) (q : Question) (x : Answer) (r : Result (Unit {0}) CheckFault) → IfErr r (IsRefusedBy (FailsAnswer t list q x) IsEarlierFault faults.Memory) → IfErr r (λ g. g ≢ faults.Memory → IsProvedAnswer t list q x → ⊥)
+answer_not_proved t list q x r h = refused_not_passed (FailsAnswer t list q x) IsEarlierFault faults.Memory r (λ g p. passes_each_test t list q x g p) h
 
 -- ---- the steps of a check, over the systems that are at hand
 

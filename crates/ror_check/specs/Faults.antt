@@ -26,15 +26,13 @@ use Rattle.ror_check.specs.Proof.{base_side, part_side, conclusion_of, base_syst
 -- a certificate of this kind can show the side
 abbrev pub is_side : Side → Certificate → Bool
 is_side Solvable (certificates.Solution x) = true
-is_side Solvable (certificates.Multipliers m) = false
-is_side NotSolvable (certificates.Solution x) = false
 is_side NotSolvable (certificates.Multipliers m) = true
+is_side _ _ = false
 
 -- the parts are of the kind that the conclusion wants; a contradiction, which has none, wants no kind
 abbrev pub have_kind : Kind → Conclusion → List Part → Bool
-have_kind k conclusions.Yes parts = list_all (λ p. is_side (part_side k conclusions.Yes) p.body) parts
-have_kind k conclusions.No parts = list_all (λ p. is_side (part_side k conclusions.No) p.body) parts
 have_kind k conclusions.Contradiction parts = true
+have_kind k c parts = list_all (λ p. is_side (part_side k c) p.body) parts
 
 -- the certificates are of the kinds that the conclusion wants
 abbrev pub has_kinds : Question → Conclusion → Proof → Bool
@@ -43,10 +41,12 @@ has_kinds q c proof = is_side (base_side c) proof.base && have_kind (asked_of q)
 -- the first reason for which a system does not accept a certificate
 abbrev pub IsRejectedFor : LinearSystem → Certificate → Reject → Type 0
 IsRejectedFor s (certificates.Solution x) r = IsFirst (FailsSolution s x.steps) IsEarlierTest r
-IsRejectedFor s (certificates.Multipliers m) r = IsFirst (FailsMultipliers s m.weak m.strict) IsEarlierTest r
+IsRejectedFor s (certificates.Multipliers m) r =
+    IsFirst (FailsMultipliers s m.weak m.strict) IsEarlierTest r
 
 -- the part at a place, counted from 1, is not accepted for the system that has its number, for this reason
-pub record FailsPart (systems : List LinearSystem) (parts : List Part) (k : ℕ) (r : Reject) : Type 0 where
+pub record FailsPart (systems : List LinearSystem) (parts : List Part) (k : ℕ)
+    (r : Reject) : Type 0 where
   pub part : Part
   pub before : ℕ
   pub counted : k ≡ before + 1
@@ -60,10 +60,14 @@ pub record FailsPart (systems : List LinearSystem) (parts : List Part) (k : ℕ)
 -- what each test finds at fault, each taken alone
 abbrev pub FailsAnswer : DecisionTable → List Statement → Question → Answer → CheckFault → Type 0
 FailsAnswer t list q x faults.WrongQuestion = x.question ≢ q
-FailsAnswer t list q x faults.WrongVerdict = has_kinds q (conclusion_of x.verdict) (proof_of x.verdict) ≡ false
-FailsAnswer t list q x faults.PartCount = AreNumberedFor q (conclusion_of x.verdict) (proof_of x.verdict).parts → ⊥
-FailsAnswer t list q x (faults.Base r) = IsRejectedFor (base_system t list) (proof_of x.verdict).base r
-FailsAnswer t list q x (faults.Part k r) = FailsPart (question_systems_of t list q) (proof_of x.verdict).parts k r
+FailsAnswer t list q x faults.WrongVerdict =
+    has_kinds q (conclusion_of x.verdict) (proof_of x.verdict) ≡ false
+FailsAnswer t list q x faults.PartCount =
+    AreNumberedFor q (conclusion_of x.verdict) (proof_of x.verdict).parts → ⊥
+FailsAnswer t list q x (faults.Base r) =
+    IsRejectedFor (base_system t list) (proof_of x.verdict).base r
+FailsAnswer t list q x (faults.Part k r) =
+    FailsPart (question_systems_of t list q) (proof_of x.verdict).parts k r
 FailsAnswer t list q x faults.Memory = ⊥
 
 abbrev pub fault_stage : CheckFault → ℕ
@@ -71,25 +75,11 @@ fault_stage faults.WrongQuestion = 0
 fault_stage faults.WrongVerdict = 1
 fault_stage faults.PartCount = 2
 fault_stage (faults.Base r) = 3
-fault_stage (faults.Part k r) = 4
-fault_stage faults.Memory = 5
+fault_stage _ = 4
 
 abbrev pub fault_place : CheckFault → ℕ
-fault_place faults.WrongQuestion = 0
-fault_place faults.WrongVerdict = 0
-fault_place faults.PartCount = 0
-fault_place (faults.Base r) = 0
 fault_place (faults.Part k r) = k
-fault_place faults.Memory = 0
+fault_place _ = 0
 
 abbrev pub IsEarlierFault : CheckFault → CheckFault → Type 0
 IsEarlierFault = IsEarlier fault_stage fault_place
-
--- the fault is the first that the answer has; want of memory says nothing
-abbrev pub IsRefusedBy : DecisionTable → List Statement → Question → Answer → CheckFault → Type 0
-IsRefusedBy t list q x faults.WrongQuestion = IsFirst (FailsAnswer t list q x) IsEarlierFault faults.WrongQuestion
-IsRefusedBy t list q x faults.WrongVerdict = IsFirst (FailsAnswer t list q x) IsEarlierFault faults.WrongVerdict
-IsRefusedBy t list q x faults.PartCount = IsFirst (FailsAnswer t list q x) IsEarlierFault faults.PartCount
-IsRefusedBy t list q x (faults.Base r) = IsFirst (FailsAnswer t list q x) IsEarlierFault (faults.Base r)
-IsRefusedBy t list q x (faults.Part k r) = IsFirst (FailsAnswer t list q x) IsEarlierFault (faults.Part k r)
-IsRefusedBy t list q x faults.Memory = Unit {0}

@@ -11,7 +11,10 @@ use Rattle.ror_check.specs.Proof.{IsProvedAnswer, conclusion_of}
 use Rattle.ror_check.specs.Faults.{FailsAnswer}
 
 abbrev pub ProofsAreTrue : Type 0
-ProofsAreTrue = (t : DecisionTable) (list : List Statement) (q : Question) (x : Answer) → IsLawful (length t.alternatives) list → IsValidQuestion (length t.alternatives) q → IsProvedAnswer t list q x → Answers t list q (conclusion_of x.verdict)
+ProofsAreTrue = (t : DecisionTable) (list : List Statement) (q : Question) (x : Answer)
+    → IsLawful (length t.alternatives) list → IsValidQuestion (length t.alternatives) q
+    → IsProvedAnswer t list q x → Answers t list q (conclusion_of x.verdict)
 
 abbrev pub ProvedPassesEachTest : Type 0
-ProvedPassesEachTest = (t : DecisionTable) (list : List Statement) (q : Question) (x : Answer) (fault : CheckFault) → IsProvedAnswer t list q x → FailsAnswer t list q x fault → ⊥
+ProvedPassesEachTest = (t : DecisionTable) (list : List Statement) (q : Question) (x : Answer)
+    (fault : CheckFault) → IsProvedAnswer t list q x → FailsAnswer t list q x fault → ⊥

@@ -37,31 +37,30 @@ question_systems_of t list q = map (system_for t list) (systems_of_question q)
 -- the certificate is accepted for the system, and shows this side of it: a solution the one, multipliers the other
 abbrev pub Shows : Side → LinearSystem → Certificate → Type 0
 Shows Solvable s (certificates.Solution x) = IsAcceptedSolution s x.steps
-Shows Solvable s (certificates.Multipliers m) = ⊥
-Shows NotSolvable s (certificates.Solution x) = ⊥
 Shows NotSolvable s (certificates.Multipliers m) = AreAcceptedMultipliers s m.weak m.strict
+Shows _ s _ = ⊥
 
 -- what the base shows of the system of the statements alone
 abbrev pub base_side : Conclusion → Side
-base_side conclusions.Yes = Solvable
-base_side conclusions.No = Solvable
 base_side conclusions.Contradiction = NotSolvable
+base_side _ = Solvable
 
 -- What each part shows of its system. The systems of a question on every compatible function are of those at which it
 -- fails: none of them is solvable where the answer is yes, one is where it is no. A contradiction has no parts.
 abbrev pub part_side : Kind → Conclusion → Side
-part_side every conclusions.Yes = NotSolvable
 part_side every conclusions.No = Solvable
-part_side every conclusions.Contradiction = NotSolvable
+part_side every _ = NotSolvable
 
 -- the numbers of the parts, where the question has so many systems: all of them in order, one of them, or none
 abbrev pub AreNumbersFor : Kind → Conclusion → ℕ → List ℕ → Type 0
 AreNumbersFor every conclusions.Yes count numbers = numbers ≡ range_with_len 1 count
-AreNumbersFor every conclusions.No count numbers = (n : ℕ) × (1 ≤ n) × (n ≤ count) × (numbers ≡ n ∷ [])
+AreNumbersFor every conclusions.No count numbers = (n : ℕ) × (1 ≤ n) × (n ≤ count)
+    × (numbers ≡ n ∷ [])
 AreNumbersFor every conclusions.Contradiction count numbers = numbers ≡ []
 
 abbrev pub AreNumberedFor : Question → Conclusion → List Part → Type 0
-AreNumberedFor q c parts = AreNumbersFor (asked_of q).kind c (length (systems_of_question q)) (map (λ p. p.at) parts)
+AreNumberedFor q c parts =
+    AreNumbersFor (asked_of q).kind c (length (systems_of_question q)) (map (λ p. p.at) parts)
 
 -- the part shows this side of the system that has its number
 pub record ShowsOfItsSystem (side : Side) (systems : List LinearSystem) (p : Part) : Type 0 where
@@ -73,12 +72,15 @@ pub record ShowsOfItsSystem (side : Side) (systems : List LinearSystem) (p : Par
 
 -- the base and the parts show what the conclusion wants, over the system of the statements and the systems of the
 -- question
-pub record Proves (t : DecisionTable) (list : List Statement) (q : Question) (c : Conclusion) (proof : Proof) : Type 0 where
+pub record Proves (t : DecisionTable) (list : List Statement) (q : Question) (c : Conclusion)
+    (proof : Proof) : Type 0 where
   pub base : Shows (base_side c) (base_system t list) proof.base
   pub numbered : AreNumberedFor q c proof.parts
-  pub parts : AllByRecursion (ShowsOfItsSystem (part_side (asked_of q).kind c) (question_systems_of t list q)) proof.parts
+  pub parts : AllByRecursion (ShowsOfItsSystem (part_side (asked_of q).kind c)
+      (question_systems_of t list q)) proof.parts
 
 -- the answer is to this question, and its proof proves its verdict
-pub record IsProvedAnswer (t : DecisionTable) (list : List Statement) (q : Question) (x : Answer) : Type 0 where
+pub record IsProvedAnswer (t : DecisionTable) (list : List Statement) (q : Question)
+    (x : Answer) : Type 0 where
   pub question : x.question ≡ q
   pub proof : Proves t list q (conclusion_of x.verdict) (proof_of x.verdict)

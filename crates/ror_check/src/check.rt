@@ -1,5 +1,8 @@
+//! The check of an answer, test by test.
+
 ghost use Rattle.std.specs.Prelude.{◌≡◌, ◌≢◌, ℕ, [], ◌∷◌, ◌≤◌, ◌<◌, ◌+◌, ◌-◌, ◌^◌, ◌↔◌, length, map, true, IsTrue, OnOk, IfErr};
 ghost use Rattle.std.specs.List.{AllByRecursion, range_with_len};
+ghost use Rattle.ror_text.specs.FirstFault.{IsRefusedBy};
 ghost use Rattle.ror_statement.specs.Statement.{IsLawful, IsValidQuestion, asked_of};
 ghost use Rattle.ror_value.specs.Meaning.{Answers};
 ghost use Rattle.ror_proof.specs.Text as text;
@@ -7,7 +10,7 @@ ghost use Rattle.ror_check.specs.declared.side.Side.{Side};
 ghost use Rattle.ror_check.specs.Proof as spec;
 ghost use Rattle.ror_check.specs.Proof.{IsProvedAnswer, Proves, Shows, AreNumbersFor, base_system};
 ghost use Rattle.ror_check.specs.Faults as kinds;
-ghost use Rattle.ror_check.specs.Faults.{IsRefusedBy, IsRejectedFor};
+ghost use Rattle.ror_check.specs.Faults.{FailsAnswer, IsEarlierFault, IsRejectedFor};
 ghost use Rattle.ror_check.specs.Steps.{AreUsable, AreShownBefore, NameSystems, RefusesBase, RefusesParts, RefusesProof, systems_with};
 
 use crate::fault::CheckFault;
@@ -40,12 +43,14 @@ pub fn check_answer(
     requires named { IsValidQuestion (length table.now.alternatives) asked.now }
 
     ensures accepted { OnOk result (IsProvedAnswer table.now list.now asked.now x.now) }
-    ensures true_answer { OnOk result (Answers table.now list.now asked.now (spec.conclusion_of x.now.verdict)) }
+    ensures true_answer { OnOk result (Answers table.now list.now asked.now
+        (spec.conclusion_of x.now.verdict)) }
 
     // Nothing that is proved is refused, and a refusal names the first test that fails.
     ensures not_proved { IfErr result (λ e. e ≢ CheckFault.Memory
         → IsProvedAnswer table.now list.now asked.now x.now → ⊥) }
-    ensures refused { IfErr result (IsRefusedBy table.now list.now asked.now x.now) }
+    ensures refused { IfErr result (IsRefusedBy (FailsAnswer table.now list.now asked.now x.now)
+        IsEarlierFault CheckFault.Memory) }
 {
     if x.question != *asked {
         return Err(CheckFault::WrongQuestion);
@@ -104,7 +109,8 @@ fn check_proof(
 /// Whether the parts have the numbers that the conclusion wants, where the question has so many systems.
 fn are_numbered_for(asked: &Question, conclusion: Conclusion, count: usize, parts: &[Part]) -> bool
     requires { count < 2 ^ 32 - 1 }
-    ensures { IsTrue result ↔ AreNumbersFor (asked_of asked.now).kind conclusion count (map (λ p. p.at) parts.now) }
+    ensures { IsTrue result ↔ AreNumbersFor (asked_of asked.now).kind conclusion count
+        (map (λ p. p.at) parts.now) }
 {
     match (asked, conclusion) {
         (Question::Necessary(_, _), Conclusion::Yes) => are_all(count, parts),
@@ -126,7 +132,8 @@ fn are_all(count: usize, parts: &[Part]) -> bool
 
 /// Whether there is one part, with the number of one of so many systems.
 fn is_one(count: usize, parts: &[Part]) -> bool
-    ensures { IsTrue result ↔ ((n : ℕ) × (1 ≤ n) × (n ≤ count) × (map (λ p. p.at) parts.now ≡ n ∷ [])) }
+    ensures { IsTrue result ↔ ((n : ℕ) × (1 ≤ n) × (n ≤ count)
+        × (map (λ p. p.at) parts.now ≡ n ∷ [])) }
 {
     match parts {
         [part] => part.at >= 1 && part.at as usize <= count,
@@ -137,7 +144,8 @@ fn is_one(count: usize, parts: &[Part]) -> bool
 /// Whether the parts have the numbers from the first on, in order.
 fn are_numbered_from(first: u32, parts: &[Part]) -> bool
     requires { first + length parts.now < 2 ^ 32 }
-    ensures { IsTrue result ↔ (map (λ p. p.at) parts.now ≡ range_with_len first (length parts.now)) }
+    ensures { IsTrue result ↔ (map (λ p. p.at) parts.now
+        ≡ range_with_len first (length parts.now)) }
 {
     match parts {
         [] => true,
@@ -147,7 +155,8 @@ fn are_numbered_from(first: u32, parts: &[Part]) -> bool
 
 /// Whether the certificate is accepted for the system, whichever of the two kinds it is.
 fn accept(system: &System, certificate: &Certificate) -> Result<(), Reject>
-    ensures shown { OnOk result ((side : Side) → kinds.is_side side certificate.now ≡ true → Shows side system.now certificate.now) }
+    ensures shown { OnOk result ((side : Side) → kinds.is_side side certificate.now ≡ true
+        → Shows side system.now certificate.now) }
     ensures rejected { IfErr result (IsRejectedFor system.now certificate.now) }
 {
     match certificate {
@@ -163,7 +172,8 @@ fn check_base(
     base: &Certificate,
 ) -> Result<(), CheckFault>
     requires lawful { IsLawful (length table.now.alternatives) list.now }
-    ensures ok { OnOk result ((side : Side) → kinds.is_side side base.now ≡ true → Shows side (base_system table.now list.now) base.now) }
+    ensures ok { OnOk result ((side : Side) → kinds.is_side side base.now ≡ true
+        → Shows side (base_system table.now list.now) base.now) }
     ensures err { IfErr result (RefusesBase (base_system table.now list.now) base.now) }
 {
     let system = system_of(alloc, table, list, &[])?;
@@ -185,8 +195,10 @@ fn check_parts(
     requires usable { AllByRecursion (AreUsable (length table.now.alternatives)) systems.now }
     requires numbers { NameSystems (length systems.now) parts.now }
     requires few { length parts.now < 2 ^ 32 - 1 }
-    ensures ok { OnOk result (AreShownBefore (systems_with table.now list.now systems.now) parts.now (length parts.now)) }
-    ensures err { IfErr result (RefusesParts (systems_with table.now list.now systems.now) parts.now) }
+    ensures ok { OnOk result (AreShownBefore (systems_with table.now list.now systems.now) parts.now
+        (length parts.now)) }
+    ensures err { IfErr result
+        (RefusesParts (systems_with table.now list.now systems.now) parts.now) }
 {
     for (i, part) in parts.iter().enumerate() {
         let extras = &systems[part.at as usize - 1];

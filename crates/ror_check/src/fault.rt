@@ -1,3 +1,5 @@
+//! Why an answer is not accepted.
+
 ghost use Rattle.std.specs.Prelude.{◌≡◌};
 ghost use Rattle.ror_check.specs.declared.fault.CheckFault.TheVariants.{Memory};
 

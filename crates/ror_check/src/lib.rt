@@ -1,4 +1,27 @@
-//! The separate checker: whether an answer's proof proves it. It multiplies out what it is given and never searches.
+//! The separate checker: whether an answer's proof proves it. It multiplies out what it is given
+//! and never searches.
+//!
+//! `check_answer` takes a table, the statements that stand, the question that was asked and the
+//! answer. It compares the question, then the kinds of the certificates and the numbers of the
+//! parts with what the verdict wants, then has the base accepted over the system of the statements
+//! and each part over the question's system of its number. `CheckFault` lists these tests in their
+//! order, and a refusal names the first that fails. What is accepted is proved (`IsProvedAnswer`),
+//! and what is proved is true of all value functions that are compatible with the statements
+//! (`laws::proofs_are_true`).
+//!
+//! Where `a` is stated to be preferred to `b`, over columns q1, q2, p1, p2, this is accepted:
+//!
+//! ```text
+//! answer necessary a b yes
+//! base solution 0 1 0 0
+//! part 1 multipliers | 0 1 1
+//! ```
+//!
+//! The base gives the strict rows (1, 1, 1, 1) and (0, 1, 0, -1) the values 1 and 1, so the
+//! statement is consistent. The question's one system adds (0, -1, 0, 1), the row of `b` over `a`;
+//! weighed by 1 each, it and the row of the statement sum to 0 in each column, so no compatible
+//! function is against the answer. With the base 0 0 0 1 the answer is refused: the base's row 1
+//! comes to -1.
 #![tactic(auto)]
 
 mod check;

@@ -1,3 +1,5 @@
+//! The kinds of certificates, and which of them a conclusion wants.
+
 ghost use Rattle.std.specs.Prelude.{◌≡◌};
 ghost use Rattle.std.specs.List.{list_all};
 ghost use Rattle.ror_statement.specs.Statement.{asked_of};

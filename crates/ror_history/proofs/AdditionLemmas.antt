@@ -1,32 +1,32 @@
 -- Which fault an addition has first.
 use Rattle.std.proofs.Common.{◌≡◌, ◌⊎◌, inl, inr, ◌<◌, ◌≤◌, [], ◌∷◌, ◌++◌, length, refl, arith}
 use Rattle.std.proofs.lemmas.Bool.{cases_lt}
-use Rattle.ror_text.specs.FirstFault.{IsFirst, IsEarlier}
+use Rattle.ror_text.specs.FirstFault.{IsFirst, IsRefusedBy}
+use Rattle.ror_text.proofs.FirstFaultLemmas.{not_earlier}
+use Rattle.ror_statement.specs.declared.statement.TheConstants.{MOST_STATEMENTS, MOST_ROWS}
 use Rattle.ror_statement.specs.declared.statement.Statement.{Statement}
 use Rattle.ror_statement.specs.Statement.{row_count}
 use Rattle.ror_history.specs.declared.history.HistoryFault.{HistoryFault}
 use Rattle.ror_history.specs.declared.history.HistoryFault.TheVariants.{TooManyStatements, TooManyRows, Memory}
 use Rattle.ror_history.specs.History.{Revisions, standing, statements_of}
-use Rattle.ror_history.specs.Faults.{FailsAddition, CanBeAdded, fault_stage, fault_place, IsAdditionRefusedBy}
+use Rattle.ror_history.specs.Faults.{FailsAddition, CanBeAdded, fault_stage, IsEarlierFault}
 
-pub full : (r : Revisions) (s : Statement) → 200 ≤ length (standing r) → IsAdditionRefusedBy r s TooManyStatements
-full r s fails = record { fails = fails; none_before = before }
+pub full : (r : Revisions) (s : Statement) → MOST_STATEMENTS ≤ length (standing r) → IsRefusedBy (FailsAddition r s) IsEarlierFault Memory TooManyStatements
+full r s fails = λ _. record { fails = fails; none_before = before }
   where
-    before : (other : HistoryFault) → IsEarlier fault_stage fault_place other TooManyStatements → FailsAddition r s other → ⊥
-    before TooManyStatements (inl e) f = omega arith
-    before TooManyStatements (inr e) f = let l = e.1 in omega arith
-    before TooManyRows (inl e) f = omega arith
-    before TooManyRows (inr e) f = let l = e.1 in omega arith
-    before Memory e f = f
+    before : (other : HistoryFault) → IsEarlierFault other TooManyStatements → FailsAddition r s other → ⊥
+    before TooManyStatements earlier f = not_earlier fault_stage (λ _. 0) TooManyStatements TooManyStatements (omega arith) (omega arith) earlier
+    before TooManyRows earlier f = not_earlier fault_stage (λ _. 0) TooManyRows TooManyStatements (omega arith) (omega arith) earlier
+    before Memory earlier f = f
 
 pub can_be_added : (r : Revisions) (s : Statement) → ((fault : HistoryFault) → ¬ (FailsAddition r s fault)) → CanBeAdded r s
-can_be_added r s none = record { few = few (cases_lt (length (standing r)) 200); rows = rows (cases_lt 2000 (row_count (statements_of r ++ s ∷ []))) }
+can_be_added r s none = record { few = few (cases_lt (length (standing r)) MOST_STATEMENTS); rows = rows (cases_lt MOST_ROWS (row_count (statements_of r ++ s ∷ []))) }
   where
-    few : (length (standing r) < 200) ⊎ (200 ≤ length (standing r)) → length (standing r) < 200
+    few : (length (standing r) < MOST_STATEMENTS) ⊎ (MOST_STATEMENTS ≤ length (standing r)) → length (standing r) < MOST_STATEMENTS
     few (inl l) = l
     few (inr l) = absurd (none TooManyStatements l)
 
-    rows : (2000 < row_count (statements_of r ++ s ∷ [])) ⊎ (row_count (statements_of r ++ s ∷ []) ≤ 2000) → row_count (statements_of r ++ s ∷ []) ≤ 2000
+    rows : (MOST_ROWS < row_count (statements_of r ++ s ∷ [])) ⊎ (row_count (statements_of r ++ s ∷ []) ≤ MOST_ROWS) → row_count (statements_of r ++ s ∷ []) ≤ MOST_ROWS
     rows (inl l) = absurd (none TooManyRows l)
     rows (inr l) = l
 
@@ -35,7 +35,7 @@ no_fault r s h TooManyStatements f = let few = h.few in omega arith
 no_fault r s h TooManyRows f = let rows = h.rows in omega arith
 no_fault r s h Memory f = f
 
-pub one_fault : (r : Revisions) (s : Statement) (f g : HistoryFault) → IsFirst (FailsAddition r s) (IsEarlier fault_stage fault_place) f → IsFirst (FailsAddition r s) (IsEarlier fault_stage fault_place) g → f ≡ g
+pub one_fault : (r : Revisions) (s : Statement) (f g : HistoryFault) → IsFirst (FailsAddition r s) IsEarlierFault f → IsFirst (FailsAddition r s) IsEarlierFault g → f ≡ g
 one_fault r s TooManyStatements TooManyStatements first second = refl
 one_fault r s TooManyStatements TooManyRows first second = absurd (second.none_before TooManyStatements (inl (omega arith)) first.fails)
 one_fault r s TooManyStatements Memory first second = absurd second.fails

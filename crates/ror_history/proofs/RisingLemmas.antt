@@ -9,7 +9,7 @@ use Rattle.std.proofs.lemmas.List.Elements.{All-filter}
 use Rattle.std.proofs.lemmas.List.Kept.{IsStrictlyIncreasing-filter}
 use Rattle.ror_statement.specs.declared.statement.Statement.{Statement}
 use Rattle.ror_statement.specs.declared.statement.Numbered.{Numbered}
-use Rattle.ror_history.specs.History.{addition, replacement, revised, numbered_from, numbers, standing}
+use Rattle.ror_history.specs.History.{addition, replacement, revised, with_numbers_from, numbers, standing}
 use Rattle.ror_history.specs.Contents.{revisions_of, IsHeld}
 use Rattle.ror_history.proofs.HistoryLemmas.{standing_is, standing_numbered}
 
@@ -74,14 +74,14 @@ numbers-replaced (x ∷ list) n s = elim (cases_Bool (x.number == n)) [
 
 -- ---- the opening list
 
-pub Rise-numbered : (ns : List ℕ) (n : ℕ) (ss : List Statement) → Rise ns n → Rise (ns ++ numbers (numbered_from n ss)) (n + length ss)
+pub Rise-numbered : (ns : List ℕ) (n : ℕ) (ss : List Statement) → Rise ns n → Rise (ns ++ numbers (with_numbers_from n ss)) (n + length ss)
 Rise-numbered ns n [] h = let e : n ≡ n + 0 = omega arith in rw append-nil (subst (Rise ns) e h)
 Rise-numbered ns n (s ∷ ss) h =
     let e : suc n + length ss ≡ n + suc (length ss) = omega arith in
     let more = Rise-numbered (ns ++ n ∷ []) (suc n) ss (Rise-more ns n h) in
-    subst (Rise (ns ++ n ∷ numbers (numbered_from (suc n) ss))) e (subst (λ xs. Rise xs (suc n + length ss)) (append_assoc ns (n ∷ []) (numbers (numbered_from (suc n) ss))) more)
+    subst (Rise (ns ++ n ∷ numbers (with_numbers_from (suc n) ss))) e (subst (λ xs. Rise xs (suc n + length ss)) (append_assoc ns (n ∷ []) (numbers (with_numbers_from (suc n) ss))) more)
 
-pub Rise-opening : (opening : List Statement) → Rise (numbers (numbered_from 1 opening)) (1 + length opening)
+pub Rise-opening : (opening : List Statement) → Rise (numbers (with_numbers_from 1 opening)) (1 + length opening)
 Rise-opening opening = Rise-numbered [] 1 opening (Rise-none 1)
 
 -- the standing list of a history

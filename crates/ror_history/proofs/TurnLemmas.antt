@@ -5,7 +5,7 @@ use Rattle.std.specs.Set.{is_member}
 use Rattle.std.proofs.lemmas.List.{append-nil}
 use Rattle.std.proofs.lemmas.List.Sums.{fold-append}
 use Rattle.ror_statement.specs.declared.statement.Statement.{Statement}
-use Rattle.ror_history.specs.History.{Revision, addition, withdrawal, replacement, Revisions, revised, numbered_from, numbers, added_numbers, standing, next_number, with_revision}
+use Rattle.ror_history.specs.History.{Revision, addition, withdrawal, replacement, Revisions, revised, with_numbers_from, numbers, added_numbers, standing, next_number, with_revision}
 use Rattle.ror_history.specs.Laws.{AreNumberedInTurn}
 use Rattle.ror_history.proofs.HistoryLemmas.{greatest}
 use Rattle.ror_history.proofs.RisingLemmas.{Rise, Rise-more, Rise-filter, numbers-added, numbers-kept, numbers-replaced, Rise-opening}
@@ -16,7 +16,7 @@ made opening surviving = record { opening = opening; surviving = surviving }
 -- ---- one revision more
 
 pub standing-more : (opening : List Statement) (before : List Revision) (x : Revision) → standing (made opening (before ++ x ∷ [])) ≡ revised (standing (made opening before)) x
-standing-more opening before x = fold-append revised (numbered_from 1 opening) before (x ∷ [])
+standing-more opening before x = fold-append revised (with_numbers_from 1 opening) before (x ∷ [])
 
 added_numbers-append : (xs ys : List Revision) → added_numbers (xs ++ ys) ≡ added_numbers xs ++ added_numbers ys
 added_numbers-append [] ys = refl
@@ -24,16 +24,16 @@ added_numbers-append (addition n s ∷ xs) ys = ap (λ ns. n ∷ ns) (added_numb
 added_numbers-append (withdrawal ns ∷ xs) ys = added_numbers-append xs ys
 added_numbers-append (replacement n s ∷ xs) ys = added_numbers-append xs ys
 
-pub next_number-more : (opening : List Statement) (before : List Revision) (x : Revision) → next_number (made opening (before ++ x ∷ [])) ≡ 1 + fold max (fold max 0 (numbers (numbered_from 1 opening) ++ added_numbers before)) (added_numbers (x ∷ []))
+pub next_number-more : (opening : List Statement) (before : List Revision) (x : Revision) → next_number (made opening (before ++ x ∷ [])) ≡ 1 + fold max (fold max 0 (numbers (with_numbers_from 1 opening) ++ added_numbers before)) (added_numbers (x ∷ []))
 next_number-more opening before x =
-    let first = numbers (numbered_from 1 opening) in
+    let first = numbers (with_numbers_from 1 opening) in
     let grown : first ++ added_numbers (before ++ x ∷ []) ≡ (first ++ added_numbers before) ++ added_numbers (x ∷ []) =
     ap (λ ns. first ++ ns) (added_numbers-append before (x ∷ [])) ∙ sym (append_assoc first (added_numbers before) (added_numbers (x ∷ []))) in
     ap (λ ns. 1 + fold max 0 ns) grown ∙ ap (λ n. 1 + n) (fold-append max 0 (first ++ added_numbers before) (added_numbers (x ∷ [])))
 
 pub next_number-added : (opening : List Statement) (before : List Revision) (n : ℕ) (s : Statement) → n ≡ next_number (made opening before) → next_number (made opening (before ++ addition n s ∷ [])) ≡ suc n
 next_number-added opening before n s e =
-    let m = fold max 0 (numbers (numbered_from 1 opening) ++ added_numbers before) in
+    let m = fold max 0 (numbers (with_numbers_from 1 opening) ++ added_numbers before) in
     let last : 1 + max m n ≡ suc n = omega (arith, e) in
     next_number-more opening before (addition n s) ∙ last
 
@@ -66,12 +66,12 @@ rise_after opening before (x ∷ rest) turn h =
 
 next_number-first : (opening : List Statement) → next_number (made opening []) ≡ 1 + length opening
 next_number-first opening =
-    let whole : numbers (numbered_from 1 opening) ++ [] ≡ numbers (numbered_from 1 opening) = append-nil (numbers (numbered_from 1 opening)) in
+    let whole : numbers (with_numbers_from 1 opening) ++ [] ≡ numbers (with_numbers_from 1 opening) = append-nil (numbers (with_numbers_from 1 opening)) in
     let count : 0 + length opening ≡ length opening = omega arith in
     ap (λ ns. 1 + fold max 0 ns) whole ∙ ap (λ n. 1 + n) (greatest 0 opening ∙ count)
 
 pub numbers_rise : (r : Revisions) → AreNumberedInTurn r → Rise (numbers (standing r)) (next_number r)
-numbers_rise r turn = rise_after r.opening [] r.surviving turn (subst (Rise (numbers (numbered_from 1 r.opening))) (sym (next_number-first r.opening)) (Rise-opening r.opening))
+numbers_rise r turn = rise_after r.opening [] r.surviving turn (subst (Rise (numbers (with_numbers_from 1 r.opening))) (sym (next_number-first r.opening)) (Rise-opening r.opening))
 
 -- ---- numbered in turn
 

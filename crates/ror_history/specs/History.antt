@@ -21,19 +21,20 @@ pub record HistoryView : Type 0 where
   pub state : Revisions
 
 -- the statements with their numbers, the first of which is this
-abbrev pub numbered_from : ℕ → List Statement → List Numbered
-numbered_from n [] = []
-numbered_from n (s ∷ ss) = record { number = n; statement = s } ∷ numbered_from (suc n) ss
+abbrev pub with_numbers_from : ℕ → List Statement → List Numbered
+with_numbers_from n [] = []
+with_numbers_from n (s ∷ ss) = record { number = n; statement = s } ∷ with_numbers_from (suc n) ss
 
 -- the list after a revision: an addition goes last, a withdrawal removes, a replacement keeps place and number
 abbrev pub revised : List Numbered → Revision → List Numbered
 revised list (addition n s) = list ++ record { number = n; statement = s } ∷ []
 revised list (withdrawal ns) = filter (λ x. not (is_member nat_eq ns x.number)) list
-revised list (replacement n s) = map (λ x. if x.number == n then record { number = n; statement = s } else x) list
+revised list (replacement n s) =
+    map (λ x. if x.number == n then record { number = n; statement = s } else x) list
 
 -- the standing list: the opening one, numbered from 1, after each surviving revision in order
 abbrev pub standing : Revisions → List Numbered
-standing r = fold revised (numbered_from 1 r.opening) r.surviving
+standing r = fold revised (with_numbers_from 1 r.opening) r.surviving
 
 abbrev pub statements_of : Revisions → List Statement
 statements_of r = map (λ x. x.statement) (standing r)
@@ -51,7 +52,8 @@ added_numbers (replacement n s ∷ more) = added_numbers more
 -- one past the greatest number of the opening list and of the surviving additions, whether or not it still stands; 1 if
 -- there is none
 abbrev pub next_number : Revisions → ℕ
-next_number r = 1 + fold max 0 (numbers (numbered_from 1 r.opening) ++ added_numbers r.surviving)
+next_number r =
+    1 + fold max 0 (numbers (with_numbers_from 1 r.opening) ++ added_numbers r.surviving)
 
 -- the revisions with one more
 abbrev pub with_revision : Revisions → Revision → Revisions

@@ -2,32 +2,43 @@
 use Rattle.std.specs.Prelude.{◌≡◌, ℕ, ◌+◌, ◌<◌, List, [], ◌∷◌, ◌++◌, ◌↔◌}
 use Rattle.std.specs.List.{All}
 use Rattle.std.specs.List.Sorted.{IsStrictlyIncreasing}
-use Rattle.ror_text.specs.FirstFault.{IsFirst, IsEarlier}
+use Rattle.ror_text.specs.FirstFault.{IsFirst}
 use Rattle.ror_statement.specs.declared.statement.Statement.{Statement}
 use Rattle.ror_history.specs.declared.history.HistoryFault.{HistoryFault}
 use Rattle.ror_history.specs.History.{Revision, addition, Revisions, standing, numbers, next_number, with_revision}
-use Rattle.ror_history.specs.Faults.{CanBeAdded, FailsAddition, fault_stage, fault_place}
+use Rattle.ror_history.specs.Faults.{CanBeAdded, FailsAddition, IsEarlierFault}
 
 -- an added statement stands last, with its number, after all that stood
 abbrev pub AddedStandsLast : Type 0
-AddedStandsLast = (r : Revisions) (n : ℕ) (s : Statement) → standing (with_revision r (addition n s)) ≡ standing r ++ record { number = n; statement = s } ∷ []
+AddedStandsLast = (r : Revisions) (n : ℕ) (s : Statement)
+    → standing (with_revision r (addition n s))
+    ≡ standing r ++ record { number = n; statement = s } ∷ []
 
 -- each surviving addition has the number that was next when it came
 abbrev pub AreNumberedInTurn : Revisions → Type 0
-AreNumberedInTurn r = (before : List Revision) (n : ℕ) (s : Statement) (after : List Revision) → r.surviving ≡ before ++ addition n s ∷ after → n ≡ next_number (record { opening = r.opening; surviving = before })
+AreNumberedInTurn r = (before : List Revision) (n : ℕ) (s : Statement) (after : List Revision)
+    → r.surviving ≡ before ++ addition n s ∷ after
+    → n ≡ next_number (record { opening = r.opening; surviving = before })
 
 -- then, whatever was withdrawn or replaced, the numbers of the standing list rise, and all are below the next number
 pub record NumbersRise : Type 0 where
   pub rising : (r : Revisions) → AreNumberedInTurn r → IsStrictlyIncreasing (numbers (standing r))
-  pub below_next : (r : Revisions) → AreNumberedInTurn r → All (λ n. n < next_number r) (numbers (standing r))
+  pub below_next : (r : Revisions) → AreNumberedInTurn r
+      → All (λ n. n < next_number r) (numbers (standing r))
 
 -- a history that begins is numbered in turn, and stays so as statements get the next number; that is then one more
 pub record NextNumberRises : Type 0 where
-  pub at_first : (opening : List Statement) → AreNumberedInTurn (record { opening = opening; surviving = [] })
-  pub kept : (r : Revisions) (s : Statement) → AreNumberedInTurn r → AreNumberedInTurn (with_revision r (addition (next_number r) s))
-  pub one_more : (r : Revisions) (s : Statement) → next_number (with_revision r (addition (next_number r) s)) ≡ 1 + next_number r
+  pub at_first : (opening : List Statement) → AreNumberedInTurn
+      (record { opening = opening; surviving = [] })
+  pub kept : (r : Revisions) (s : Statement) → AreNumberedInTurn r
+      → AreNumberedInTurn (with_revision r (addition (next_number r) s))
+  pub one_more : (r : Revisions) (s : Statement)
+      → next_number (with_revision r (addition (next_number r) s)) ≡ 1 + next_number r
 
 -- a statement can be added exactly where neither test fails, and two first faults are equal
 pub record OneFirstFault : Type 0 where
-  pub no_test_fails : (r : Revisions) (s : Statement) → CanBeAdded r s ↔ ((fault : HistoryFault) → ¬ (FailsAddition r s fault))
-  pub one : (r : Revisions) (s : Statement) (f g : HistoryFault) → IsFirst (FailsAddition r s) (IsEarlier fault_stage fault_place) f → IsFirst (FailsAddition r s) (IsEarlier fault_stage fault_place) g → f ≡ g
+  pub no_test_fails : (r : Revisions) (s : Statement) → CanBeAdded r s
+      ↔ ((fault : HistoryFault) → ¬ (FailsAddition r s fault))
+  pub one : (r : Revisions) (s : Statement) (f g : HistoryFault)
+      → IsFirst (FailsAddition r s) IsEarlierFault f → IsFirst (FailsAddition r s) IsEarlierFault g
+      → f ≡ g

@@ -2,29 +2,24 @@
 
 ghost use Rattle.std.specs.Prelude.{◌≡◌, ◌+◌, ◌<◌, ◌≤◌, ◌++◌, ◌∷◌, [], length, map, IfOk, IfErr, OnOk};
 ghost use Rattle.std.specs.List.Sorted.{IsStrictlyIncreasing};
+ghost use Rattle.ror_text.specs.FirstFault.{IsRefusedBy};
 ghost use Rattle.ror_statement.specs.Statement.{row_count};
-ghost use Rattle.ror_history.specs.History.{addition, with_revision, next_number, numbered_from, numbers, standing, statements_of};
-ghost use Rattle.ror_history.specs.Faults.{CanBeAdded, IsAdditionRefusedBy};
+ghost use Rattle.ror_history.specs.History.{addition, with_revision, next_number, with_numbers_from, numbers, standing, statements_of};
+ghost use Rattle.ror_history.specs.Faults.{CanBeAdded, FailsAddition, IsEarlierFault};
 ghost use Rattle.ror_history.specs.declared.history.HistoryFault.TheVariants.{Memory};
 
-use ror_statement::{Numbered, Statement, row_count};
+use ror_statement::{MOST_ROWS, MOST_STATEMENTS, Numbered, Statement, row_count};
 use std::alloc::{AllocError, AllocFailed, Global};
 use std::marker::Model;
 use thiserror::Error;
 
-/// How many statements may stand.
-const MOST_STATEMENTS: usize = 200;
-
-/// How many rows they may take.
-const MOST_ROWS: usize = 2000;
-
 /// Why a history is not changed.
 #[derive(Clone, Copy, Debug, PartialEq, Eq, Error)]
 pub enum HistoryFault {
-    /// 200 statements stand.
+    /// As many statements stand as may.
     #[error("too many statements")]
     TooManyStatements,
-    /// The statements would take more than 2,000 rows.
+    /// The statements would take more rows than they may.
     #[error("too many rows")]
     TooManyRows,
     #[error("out of memory")]
@@ -68,14 +63,14 @@ impl Model for History {
 }
 
 impl History {
-    /// The history that begins with these statements: at most 200, which take at most 2,000 rows.
+    /// The history that begins with these statements, which are within the limits of a desk.
     ///
     /// # Errors
     ///
     /// Only want of memory.
     pub fn new(alloc: Global, opening: &[Statement]) -> Result<History, AllocError>
-        requires few { length opening.now ≤ 200 }
-        requires rows { row_count opening.now ≤ 2000 }
+        requires few { length opening.now ≤ MOST_STATEMENTS }
+        requires rows { row_count opening.now ≤ MOST_ROWS }
         ensures { IfOk result (λ h. h.state ≡ record { opening = opening.now; surviving = [] }) }
     {
         let opening = Vec::from_slice(alloc, opening)?;
@@ -90,13 +85,15 @@ impl History {
     ///
     /// # Errors
     ///
-    /// `TooManyStatements` where 200 stand, else `TooManyRows` where all with this one take more than 2,000. A refusal
-    /// changes nothing.
+    /// `TooManyStatements` where `MOST_STATEMENTS` stand, else `TooManyRows` where all with this one take more than
+    /// `MOST_ROWS`. A refusal changes nothing.
     pub fn add(&mut self, s: Statement) -> Result<u32, HistoryFault>
         ensures numbered { IfOk result (λ n. n ≡ next_number self.old.state) }
-        ensures added { IfOk result (λ n. self.new.state ≡ with_revision self.old.state (addition n s)) }
+        ensures added { IfOk result (λ n. self.new.state
+            ≡ with_revision self.old.state (addition n s)) }
         ensures allowed { OnOk result (CanBeAdded self.old.state s) }
-        ensures refused { IfErr result (IsAdditionRefusedBy self.old.state s) }
+        ensures refused { IfErr result (IsRefusedBy (FailsAddition self.old.state s)
+            IsEarlierFault HistoryFault.Memory) }
         ensures unchanged { IfErr result (λ _. self.new.state ≡ self.old.state) }
     {
         if self.opening.len() + self.added.len() >= MOST_STATEMENTS {
@@ -128,8 +125,8 @@ impl History {
     /// Only want of memory.
     pub fn standing(&self) -> Result<Vec<Numbered>, AllocError>
         ensures listed { IfOk result (λ list. list.items ≡ standing self.now.state) }
-        ensures few { length (standing self.now.state) ≤ 200 }
-        ensures rows { row_count (statements_of self.now.state) ≤ 2000 }
+        ensures few { length (standing self.now.state) ≤ MOST_STATEMENTS }
+        ensures rows { row_count (statements_of self.now.state) ≤ MOST_ROWS }
         ensures rising { IsStrictlyIncreasing (numbers (standing self.now.state)) }
     {
         let mut list = numbered(self.alloc, &self.opening)?;
@@ -140,8 +137,8 @@ impl History {
 
 /// The statements, numbered from 1.
 fn numbered(alloc: Global, statements: &[Statement]) -> Result<Vec<Numbered>, AllocError>
-    requires { length statements.now ≤ 200 }
-    ensures { IfOk result (λ list. list.items ≡ numbered_from 1 statements.now) }
+    requires { length statements.now ≤ MOST_STATEMENTS }
+    ensures { IfOk result (λ list. list.items ≡ with_numbers_from 1 statements.now) }
 {
     let mut list = Vec::new(alloc);
     let mut number: u32 = 1;
@@ -162,7 +159,8 @@ fn statements_with(
     added: &[Numbered],
     s: Statement,
 ) -> Result<Vec<Statement>, AllocError>
-    ensures { IfOk result (λ list. list.items ≡ (opening.now ++ map (λ x. x.statement) added.now) ++ s ∷ []) }
+    ensures { IfOk result (λ list. list.items
+        ≡ (opening.now ++ map (λ x. x.statement) added.now) ++ s ∷ []) }
 {
     let mut list = Vec::from_slice(alloc, opening)?;
     for numbered in added {

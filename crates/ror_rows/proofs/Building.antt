@@ -21,7 +21,7 @@ all-at P (y ∷ ys) (suc k) x h l e = all-at P ys k x h.1 (omega arith) e
 map-take_more : {X Y : Type 0} (f : X → Y) (xs : List X) (k : ℕ) (x : X) → k < length xs → x ≡ get_or xs k x → map f (take (k + 1) xs) ≡ map f (take k xs) ++ (f x ∷ [])
 map-take_more f xs k x l e = ap (map f) (take_more xs k x l ∙ ap (λ y. take k xs ++ (y ∷ [])) (sym e)) ∙ map-append f (take k xs) (x ∷ [])
 
--- the rows so far are those before and then those of the first k comparisons
+-- the rows are those before and then those of the first k comparisons
 pub record HasPushed (t : DecisionTable) (cs : List Comparison) (weak strict weak_so_far strict_so_far : List (List ℤ)) : Type 0 where
   pub weak_pushed : weak_so_far ≡ weak ++ weak_rows t cs
   pub strict_pushed : strict_so_far ≡ strict ++ strict_rows t cs

@@ -10,7 +10,7 @@ use Rattle.ror_statement.specs.Statement.{Relation, above, at_least, Difference,
 use Rattle.ror_table.specs.Table.{DecisionTable}
 use Rattle.ror_system.specs.System.{Solves, IsSolvable}
 use Rattle.ror_value.specs.Value.{value}
-use Rattle.ror_value.specs.Meaning.{Holds, IsCompatible, IsConsistent, IsContradictory, IsSo, Answers}
+use Rattle.ror_value.specs.Meaning.{Holds, IsCompatible, IsConsistent, IsContradictory, HoldsOfCompatible, Answers}
 use Rattle.ror_rows.specs.Rows.{system_for, negation_for, negation_of, systems_for}
 use Rattle.ror_rows.specs.Laws.{NoneSolvable}
 use Rattle.ror_rows.proofs.Holding.{rows_hold_extra, rows_hold_base}
@@ -52,7 +52,7 @@ solved_fails t list c w lawful named s =
     (both.0, negation_excludes_for t w c.relation c.difference both.1.0)
 
 pub systems_decide_for : (t : DecisionTable) (list : List Statement) (k : Kind) (c : Comparison) → IsLawful (length t.alternatives) list → NamesWithin (length t.alternatives) c.difference
-    → IsSo t list k c ↔ AllByRecursion (λ extra. IsSolvable (system_for t list extra) → ⊥) (systems_for k c)
+    → HoldsOfCompatible t list k c ↔ AllByRecursion (λ extra. IsSolvable (system_for t list extra) → ⊥) (systems_for k c)
 systems_decide_for t list every c lawful named =
     (λ so. (λ s. let failing = solved_fails t list c s.0 lawful named s.1 in failing.1 (so s.0 failing.0), tt), λ none. refuted_is_so t list c lawful named none.0)
 

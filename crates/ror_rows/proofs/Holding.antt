@@ -96,9 +96,11 @@ rows_hold_extra t list extra w lawful named = (to, from)
         let positive = h.0.function.positive in
         record {
           one_for_each_column = long;
-          none_negative = h.0.function.none_negative;
-          weak_rows = all-append (λ row. pos 0 ≤ℤ dot row w) (weak_rows t (map comparison_of list)) (weak_rows t extra) met.0 more.0;
-          strict_rows = (omega (arith, sums), all-append (λ row. pos 0 <ℤ dot row w) (strict_rows t (map comparison_of list)) (strict_rows t extra) met.1 more.1);
+          rows = record {
+            none_negative = h.0.function.none_negative;
+            weak_hold = all-append (λ row. pos 0 ≤ℤ dot row w) (weak_rows t (map comparison_of list)) (weak_rows t extra) met.0 more.0;
+            strict_hold = (omega (arith, sums), all-append (λ row. pos 0 <ℤ dot row w) (strict_rows t (map comparison_of list)) (strict_rows t extra) met.1 more.1);
+          };
         }
 
     from : Solves (system_for t list extra) w → (IsCompatible t list w × AllByRecursion (Holds t w) extra)
@@ -106,14 +108,14 @@ rows_hold_extra t list extra w lawful named = (to, from)
         let weak = weak_rows t (map comparison_of list) in
         let strict = strict_rows t (map comparison_of list) in
         let met = (comparisons_hold t w (map comparison_of list) (named_list t list lawful)).0
-        (all-front (λ row. pos 0 ≤ℤ dot row w) weak (weak_rows t extra) s.weak_rows, all-front (λ row. pos 0 <ℤ dot row w) strict (strict_rows t extra) s.strict_rows.1) in
+        (all-front (λ row. pos 0 ≤ℤ dot row w) weak (weak_rows t extra) s.rows.weak_hold, all-front (λ row. pos 0 <ℤ dot row w) strict (strict_rows t extra) s.rows.strict_hold.1) in
         let more = (comparisons_hold t w extra named).0
-        (all-back (λ row. pos 0 ≤ℤ dot row w) weak (weak_rows t extra) s.weak_rows, all-back (λ row. pos 0 <ℤ dot row w) strict (strict_rows t extra) s.strict_rows.1) in
+        (all-back (λ row. pos 0 ≤ℤ dot row w) weak (weak_rows t extra) s.rows.weak_hold, all-back (λ row. pos 0 <ℤ dot row w) strict (strict_rows t extra) s.rows.strict_hold.1) in
         let long = s.one_for_each_column in
         let sum = dot-ones_all (columns t) w (omega arith) in
-        let positive = s.strict_rows.0 in (
+        let positive = s.rows.strict_hold.0 in (
           record {
-            function = record { one_for_each_column = long; none_negative = s.none_negative; positive = omega (arith, sums) };
+            function = record { one_for_each_column = long; none_negative = s.rows.none_negative; positive = omega (arith, sums) };
             meets = (all-map (Holds t w) comparison_of list).1 met;
           },
           more,

@@ -70,7 +70,8 @@ relation_of_flag true = above
 relation_of_flag false = at_least
 
 abbrev pub comparison_of_extra : Extra → Comparison
-comparison_of_extra e = record { relation = relation_of_flag e.strict; difference = difference_of_form e.form }
+comparison_of_extra e =
+    record { relation = relation_of_flag e.strict; difference = difference_of_form e.form }
 
 abbrev pub extras_of : SmallVec Extra → List Comparison
 extras_of v = map comparison_of_extra v.items

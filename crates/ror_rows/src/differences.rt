@@ -47,7 +47,9 @@ fn push_block_difference(
 ) -> Result<(), AllocError>
     requires first_within { first ≤ steps }
     requires second_within { second ≤ steps }
-    ensures { OnOk result (row.new.items ≡ row.old.items ++ row_difference (ones first ++ replicate (steps - first) (pos 0)) (ones second ++ replicate (steps - second) (pos 0))) }
+    ensures { OnOk result (row.new.items ≡ row.old.items
+        ++ row_difference (ones first ++ replicate (steps - first) (pos 0))
+        (ones second ++ replicate (steps - second) (pos 0))) }
 {
     for step in 0..steps {
         row.push(step_entry(step, first) - step_entry(step, second))?;

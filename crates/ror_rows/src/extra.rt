@@ -1,3 +1,5 @@
+//! The rows that a question adds.
+
 ghost use Rattle.std.specs.Prelude.{◌≡◌, true, false};
 
 use smallvec::SmallVec;

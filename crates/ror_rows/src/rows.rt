@@ -1,3 +1,5 @@
+//! The systems of statements and questions, row by row.
+
 ghost use Rattle.std.specs.Prelude.{◌≡◌, ◌≤◌, ◌<◌, ◌++◌, [], ◌∷◌, length, map, IfOk, OnOk};
 ghost use Rattle.std.specs.List.{AllByRecursion};
 ghost use Rattle.ror_integers.specs.Vectors.{ones};
@@ -23,8 +25,10 @@ pub fn system_of(
 ) -> Result<System, AllocError>
     requires lawful { IsLawful (length table.now.alternatives) list.now }
     requires few { length extra.now ≤ 200 }
-    requires named { AllByRecursion (λ e. NamesWithin (length table.now.alternatives) (comparison_of_extra e).difference) extra.now }
-    ensures { IfOk result (λ s. s ≡ system_for table.now list.now (map comparison_of_extra extra.now)) }
+    requires named { AllByRecursion (λ e. NamesWithin (length table.now.alternatives)
+        (comparison_of_extra e).difference) extra.now }
+    ensures { IfOk result (λ s. s ≡ system_for table.now list.now
+        (map comparison_of_extra extra.now)) }
 {
     let rows = Rows::of(alloc, table, list, extra)?;
     Ok(System::new(table.columns(), rows.weak, rows.strict))
@@ -48,7 +52,8 @@ pub fn question_systems(
 
 /// One system with one extra row.
 fn one_system(alloc: Global, extra: Extra) -> Result<Vec<Extras>, AllocError>
-    ensures { IfOk result (λ systems. map extras_of systems.items ≡ (comparison_of_extra extra ∷ []) ∷ []) }
+    ensures { IfOk result (λ systems. map extras_of systems.items
+        ≡ (comparison_of_extra extra ∷ []) ∷ []) }
 {
     let mut extras = SmallVec::new(alloc);
     extras.push(extra)?;
@@ -82,9 +87,14 @@ impl Rows {
         extra: &[Extra],
     ) -> Result<Rows, AllocError>
         requires statements { AllByRecursion (IsValid (length table.now.alternatives)) list.now }
-        requires extras { AllByRecursion (λ e. NamesWithin (length table.now.alternatives) (comparison_of_extra e).difference) extra.now }
-        ensures weak { IfOk result (λ rows. rows.weak.items ≡ weak_rows table.now (map comparison_of list.now) ++ weak_rows table.now (map comparison_of_extra extra.now)) }
-        ensures strict { IfOk result (λ rows. rows.strict.items ≡ ones (columns table.now) ∷ (strict_rows table.now (map comparison_of list.now) ++ strict_rows table.now (map comparison_of_extra extra.now))) }
+        requires extras { AllByRecursion (λ e. NamesWithin (length table.now.alternatives)
+            (comparison_of_extra e).difference) extra.now }
+        ensures weak { IfOk result (λ rows. rows.weak.items
+            ≡ weak_rows table.now (map comparison_of list.now)
+            ++ weak_rows table.now (map comparison_of_extra extra.now)) }
+        ensures strict { IfOk result (λ rows. rows.strict.items
+            ≡ ones (columns table.now) ∷ (strict_rows table.now (map comparison_of list.now)
+            ++ strict_rows table.now (map comparison_of_extra extra.now))) }
     {
         let mut rows = Rows::new(alloc, table.columns())?;
         rows.push_statements(alloc, table, list)?;
@@ -108,9 +118,12 @@ impl Rows {
 
     /// Pushes the row of a comparison to the weak rows or to the strict ones.
     fn push(&mut self, alloc: Global, table: &Table, extra: Extra) -> Result<(), AllocError>
-        requires { NamesWithin (length table.now.alternatives) (comparison_of_extra extra).difference }
-        ensures weak { OnOk result (self.new.weak.items ≡ self.old.weak.items ++ weak_rows table.now (comparison_of_extra extra ∷ [])) }
-        ensures strict { OnOk result (self.new.strict.items ≡ self.old.strict.items ++ strict_rows table.now (comparison_of_extra extra ∷ [])) }
+        requires { NamesWithin (length table.now.alternatives)
+            (comparison_of_extra extra).difference }
+        ensures weak { OnOk result (self.new.weak.items
+            ≡ self.old.weak.items ++ weak_rows table.now (comparison_of_extra extra ∷ [])) }
+        ensures strict { OnOk result (self.new.strict.items
+            ≡ self.old.strict.items ++ strict_rows table.now (comparison_of_extra extra ∷ [])) }
     {
         let row = form_row(alloc, table, extra.form)?;
         if extra.strict {
@@ -129,8 +142,10 @@ impl Rows {
         list: &[Statement],
     ) -> Result<(), AllocError>
         requires { AllByRecursion (IsValid (length table.now.alternatives)) list.now }
-        ensures weak { OnOk result (self.new.weak.items ≡ self.old.weak.items ++ weak_rows table.now (map comparison_of list.now)) }
-        ensures strict { OnOk result (self.new.strict.items ≡ self.old.strict.items ++ strict_rows table.now (map comparison_of list.now)) }
+        ensures weak { OnOk result (self.new.weak.items
+            ≡ self.old.weak.items ++ weak_rows table.now (map comparison_of list.now)) }
+        ensures strict { OnOk result (self.new.strict.items
+            ≡ self.old.strict.items ++ strict_rows table.now (map comparison_of list.now)) }
     {
         for statement in list {
             self.push(alloc, table, stated(*statement))?;
@@ -145,9 +160,12 @@ impl Rows {
         table: &Table,
         extra: &[Extra],
     ) -> Result<(), AllocError>
-        requires { AllByRecursion (λ e. NamesWithin (length table.now.alternatives) (comparison_of_extra e).difference) extra.now }
-        ensures weak { OnOk result (self.new.weak.items ≡ self.old.weak.items ++ weak_rows table.now (map comparison_of_extra extra.now)) }
-        ensures strict { OnOk result (self.new.strict.items ≡ self.old.strict.items ++ strict_rows table.now (map comparison_of_extra extra.now)) }
+        requires { AllByRecursion (λ e. NamesWithin (length table.now.alternatives)
+            (comparison_of_extra e).difference) extra.now }
+        ensures weak { OnOk result (self.new.weak.items
+            ≡ self.old.weak.items ++ weak_rows table.now (map comparison_of_extra extra.now)) }
+        ensures strict { OnOk result (self.new.strict.items
+            ≡ self.old.strict.items ++ strict_rows table.now (map comparison_of_extra extra.now)) }
     {
         for row in extra {
             self.push(alloc, table, *row)?;

@@ -47,24 +47,6 @@ fn a_statement_and_then_an_extra_follow_the_row_of_ones(rt: HostRuntime) -> Resu
 }
 
 #[test]
-fn a_question_alone_has_its_row(rt: HostRuntime) -> Result<(), Fail> {
-    let table = read_plain(rt.alloc(), TABLE)?;
-    assert!(rt; table.alternatives() == 3);
-    let worse = Extra {
-        form: Form::Value(2, 0),
-        strict: true,
-    };
-    let systems = question_systems(rt.alloc(), &table, &[], &Question::Necessary(0, 2))?;
-    assert_eq!(rt; systems.len(), 1);
-    assert_eq!(rt; systems[0].as_slice(), [worse].as_slice());
-    let system = system_of(rt.alloc(), &table, &[], &[worse])?;
-    assert_eq!(rt; system.strict().len(), 2);
-    assert!(rt; is_row(&system.strict()[0], &[1, 1, 1, 1]));
-    assert!(rt; is_row(&system.strict()[1], &[-1, -1, -1, 0]));
-    Ok(())
-}
-
-#[test]
 fn a_weak_extra_is_a_weak_row(rt: HostRuntime) -> Result<(), Fail> {
     let table = read_plain(rt.alloc(), EQUALS)?;
     assert!(rt; table.alternatives() == 3);

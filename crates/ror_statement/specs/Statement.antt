@@ -1,6 +1,7 @@
 -- The forms of statements and questions: which two values each compares, how, and which names are valid.
 use Rattle.std.specs.Prelude.{ℕ, ◌+◌, ◌<◌, ◌≤◌, List, length}
 use Rattle.std.specs.List.{AllByRecursion}
+use Rattle.ror_statement.specs.declared.statement.TheConstants.{MOST_STATEMENTS, MOST_ROWS}
 use Rattle.ror_statement.specs.declared.statement.Statement.{Statement}
 use Rattle.ror_statement.specs.declared.statement.Statement.TheVariants.{Prefer}
 use Rattle.ror_statement.specs.declared.statement.Question.{Question}
@@ -28,13 +29,14 @@ comparison_of (Prefer a b) = record { relation = above; difference = values a b 
 pub data Kind : Type 0 where
   every : Kind
 
-pub record Asked : Type 0 where
+pub record Inquiry : Type 0 where
   pub kind : Kind
   pub comparison : Comparison
 
 -- what a question asks
-abbrev pub asked_of : Question → Asked
-asked_of (Necessary a b) = record { kind = every; comparison = record { relation = at_least; difference = values a b } }
+abbrev pub asked_of : Question → Inquiry
+asked_of (Necessary a b) =
+    record { kind = every; comparison = record { relation = at_least; difference = values a b } }
 
 -- the quantities are named within a table of so many alternatives
 abbrev pub NamesWithin : ℕ → Difference → Type 0
@@ -51,8 +53,8 @@ IsValidQuestion alternatives q = NamesWithin alternatives (asked_of q).compariso
 abbrev pub row_count : List Statement → ℕ
 row_count list = 1 + length list
 
--- what a desk may hold: at most 200 valid statements of at most 2,000 rows
+-- what a desk may hold: at most so many valid statements of at most so many rows
 pub record IsLawful (alternatives : ℕ) (list : List Statement) : Type 0 where
-  pub few : length list ≤ 200
-  pub rows : row_count list ≤ 2000
+  pub few : length list ≤ MOST_STATEMENTS
+  pub rows : row_count list ≤ MOST_ROWS
   pub each_valid : AllByRecursion (IsValid alternatives) list

@@ -4,4 +4,6 @@
 
 mod statement;
 
-pub use statement::{Conclusion, Numbered, Question, Statement, row_count};
+pub use statement::{
+    Conclusion, MOST_ROWS, MOST_STATEMENTS, Numbered, Question, Statement, row_count,
+};

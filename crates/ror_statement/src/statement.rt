@@ -1,7 +1,13 @@
 //! Statements and their numbers, questions, and what is concluded on a question.
 
-ghost use Rattle.std.specs.Prelude.{◌≡◌, ◌≤◌, length};
+ghost use Rattle.std.specs.Prelude.{◌≡◌, ◌≤◌, ◌+◌, length};
 ghost use Rattle.ror_statement.specs.Statement.{row_count};
+
+/// How many statements may stand at a desk.
+pub const MOST_STATEMENTS: usize = 200;
+
+/// How many rows the system of these may have.
+pub const MOST_ROWS: usize = 2000;
 
 /// A judge's statement on alternatives, named by their places in the table, from 0.
 #[derive(Clone, Copy, Debug, PartialEq, Eq)]
@@ -38,9 +44,9 @@ pub enum Conclusion {
 }
 
 /// How many rows the system of these statements has: one says that the total is positive, and each preference takes
-/// one. It asks at most 201 statements and takes no memory.
+/// one. It asks at most one statement more than may stand, and takes no memory.
 pub fn row_count(list: &[Statement]) -> usize
-    requires { length list.now ≤ 201 }
+    requires { length list.now ≤ MOST_STATEMENTS + 1 }
     ensures { result ≡ row_count list.now }
 {
     1 + list.len()

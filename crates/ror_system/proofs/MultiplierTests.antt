@@ -1,15 +1,20 @@
 -- What follows from the tests of multipliers: acceptance, or a first reason.
-use Rattle.std.proofs.Common.{◌≡◌, ◌≢◌, ◌⊎◌, inl, inr, ℕ, ◌+◌, ◌<◌, ◌≤◌, ◌^◌, List, ◌++◌, length, ℤ, pos, ◌≤ℤ◌, sym, subst, arith}
+use Rattle.std.proofs.Common.{◌≡◌, ◌≢◌, ◌⊎◌, inl, inr, ℕ, ◌+◌, ◌<◌, ◌≤◌, List, [], ◌∷◌, ◌++◌, length, ℤ, pos, ◌*ℤ◌, ◌≤ℤ◌, unsigned_abs, refl, ap, ◌∙◌, sym, subst, arith}
+use Rattle.std.specs.List.{AllByRecursion}
 use Rattle.std.proofs.lemmas.Bool.{cases_lt}
 use Rattle.std.proofs.lemmas.Int.{ints, by_lt_z}
-use Rattle.ror_integers.specs.Vectors.{dot, absolute_dot, column, NoneNegative, SomePositive}
+use Rattle.ror_integers.specs.Vectors.{dot, absolute_dot, entry, column, NoneNegative, SomePositive}
+use Rattle.ror_integers.proofs.Ring.{sums, product-zero}
+use Rattle.ror_integers.proofs.Rows.{entry_past, dot-column_past}
 use Rattle.ror_integers.proofs.Signs.{NoneNegative-entry}
 use Rattle.ror_text.specs.FirstFault.{IsFirst}
 use Rattle.ror_system.specs.declared.reject.Reject.{Reject}
 use Rattle.ror_system.specs.declared.reject.Reject.TheVariants as rejects
-use Rattle.ror_system.specs.System.{LinearSystem}
-use Rattle.ror_system.specs.Acceptance.{rows_of, AreAcceptedMultipliers, FailsMultipliers, IsEarlierTest, PassesBoth, IsFirstOfTwo}
+use Rattle.ror_system.specs.System.{LinearSystem, IsWellFormed, Refutes, sum_limit}
+use Rattle.ror_system.specs.Acceptance.{rows_of, AreAcceptedMultipliers, FailsMultipliers, IsEarlierTest}
+use Rattle.ror_system.specs.Steps.{PassesBoth, IsFirstOfTwo}
 use Rattle.ror_system.specs.Signs.{IsFirstNegative}
+use Rattle.ror_system.proofs.Totals.{dot-column_of_both, absolute_dot-column_of_both}
 
 -- the first three tests pass, and those of the columns below j
 pub record PassesColumnsBelow (s : LinearSystem) (weak strict : List ℤ) (j : ℕ) : Type 0 where
@@ -98,35 +103,84 @@ columns_more s weak strict j h p = record {
     below k (inl m) l = h.columns k m
     below k (inr m) l = let e : j ≡ k = omega arith in subst (λ (i : ℕ). PassesBoth (FailsMultipliers s weak strict) (rejects.ColumnWide i) (rejects.Column i)) e p
 
-pub accepted : (s : LinearSystem) (weak strict : List ℤ) (n : ℕ) → PassesColumnsBelow s weak strict n → s.columns ≤ n → AreAcceptedMultipliers s weak strict
-accepted s weak strict n h l = record {
-  combine = record {
-    one_for_each_weak = h.one_for_each_weak;
-    one_for_each_strict = h.one_for_each_strict;
-    none_negative = h.none_negative;
-    some_strict = h.some_strict;
-    columns_sum = nothing;
+-- past the rows' common length there is nothing to sum
+absolute_dot-column_past : (ms : List ℤ) (n : ℕ) (rows : List (List ℤ)) (j : ℕ) → AllByRecursion (λ row. length row ≡ n) rows → n ≤ j → absolute_dot ms (column rows j) ≡ 0
+absolute_dot-column_past [] n rows j widths l = refl
+absolute_dot-column_past (m ∷ ms) n [] j widths l = refl
+absolute_dot-column_past (m ∷ ms) n (row ∷ rows) j widths l =
+    let rest = absolute_dot-column_past ms n rows j widths.1 l in
+    let term : m *ℤ entry row j ≡ pos 0 = ap (λ (x : ℤ). m *ℤ x) (entry_past row j (let width = widths.0 in omega arith)) ∙ product-zero m in
+    let size = ap unsigned_abs term in
+    omega arith
+
+-- past the columns of a system each sum is 0
+pub columns_past : (s : LinearSystem) (weak strict : List ℤ) (j : ℕ) → IsWellFormed s → length weak ≡ length s.weak → s.columns ≤ j → (dot (weak ++ strict) (column (rows_of s) j) ≡ pos 0) × (absolute_dot (weak ++ strict) (column (rows_of s) j) ≡ 0)
+columns_past s weak strict j form e l =
+    let both = dot-column_of_both weak strict s.weak s.strict j e in
+    let wide = absolute_dot-column_of_both weak strict s.weak s.strict j e in
+    let a = dot-column_past weak s.columns s.weak j form.weak_widths l in
+    let b = dot-column_past strict s.columns s.strict j form.strict_widths l in
+    let c = absolute_dot-column_past weak s.columns s.weak j form.weak_widths l in
+    let d = absolute_dot-column_past strict s.columns s.strict j form.strict_widths l in
+    (omega (arith, sums), omega arith)
+
+pub accepted : (s : LinearSystem) (weak strict : List ℤ) → ((j : ℕ) → PassesColumnsBelow s weak strict j) → AreAcceptedMultipliers s weak strict
+accepted s weak strict h = record {
+  refute = record {
+    as_many_weak = (h 0).one_for_each_weak;
+    as_many_strict = (h 0).one_for_each_strict;
+    none_negative = (h 0).none_negative;
+    some_positive = (h 0).some_strict;
+    columns = nothing;
   };
   columns_within = narrow;
 }
   where
-    narrow : (j : ℕ) → j < s.columns → absolute_dot (weak ++ strict) (column (rows_of s) j) < 2 ^ 127
-    narrow j m = elim (cases_lt (absolute_dot (weak ++ strict) (column (rows_of s) j)) (2 ^ 127)) [ inl p ↦ p | inr p ↦ absurd ((h.columns j (omega arith)).0 (m, p)) ]
+    narrow : (j : ℕ) → absolute_dot (weak ++ strict) (column (rows_of s) j) < sum_limit
+    narrow j = elim (cases_lt (absolute_dot (weak ++ strict) (column (rows_of s) j)) sum_limit) [ inl p ↦ p | inr p ↦ absurd (((h (j + 1)).columns j (omega arith)).0 p) ]
 
-    nothing : (j : ℕ) → j < s.columns → dot (weak ++ strict) (column (rows_of s) j) ≤ℤ pos 0
-    nothing j m = by_lt_z (pos 0) (dot (weak ++ strict) (column (rows_of s) j)) (λ p. absurd ((h.columns j (omega arith)).1 (m, p))) (λ p. p)
+    nothing : (j : ℕ) → dot (weak ++ strict) (column (rows_of s) j) ≤ℤ pos 0
+    nothing j = by_lt_z (pos 0) (dot (weak ++ strict) (column (rows_of s) j)) (λ p. absurd (((h (j + 1)).columns j (omega arith)).1 p)) (λ p. p)
+
+-- the columns of a system are all that multipliers have to be shown of
+pub refute_by_columns : (s : LinearSystem) (weak strict : List ℤ) → IsWellFormed s → length weak ≡ length s.weak → length strict ≡ length s.strict → NoneNegative (weak ++ strict) → SomePositive strict → ((j : ℕ) → j < s.columns → dot (weak ++ strict) (column (rows_of s) j) ≤ℤ pos 0) → Refutes s weak strict
+refute_by_columns s weak strict form d e n p sums_at = record {
+  as_many_weak = d;
+  as_many_strict = e;
+  none_negative = n;
+  some_positive = p;
+  columns = λ j. at j (cases_lt j s.columns);
+}
+  where
+    at : (j : ℕ) → (j < s.columns) ⊎ (s.columns ≤ j) → dot (weak ++ strict) (column (rows_of s) j) ≤ℤ pos 0
+    at j (inl l) = sums_at j l
+    at j (inr l) = let past = (columns_past s weak strict j form d l).0 in omega (arith, ints)
+
+pub accepted_by_columns : (s : LinearSystem) (weak strict : List ℤ) → IsWellFormed s → Refutes s weak strict → ((j : ℕ) → j < s.columns → absolute_dot (weak ++ strict) (column (rows_of s) j) < sum_limit) → AreAcceptedMultipliers s weak strict
+accepted_by_columns s weak strict form refute widths_at = record { refute = refute; columns_within = λ j. at j (cases_lt j s.columns) }
+  where
+    at : (j : ℕ) → (j < s.columns) ⊎ (s.columns ≤ j) → absolute_dot (weak ++ strict) (column (rows_of s) j) < sum_limit
+    at j (inl l) = widths_at j l
+    at j (inr l) = let past = (columns_past s weak strict j form refute.as_many_weak l).1 in omega arith
+
+-- the tests of the system's own columns are all that can fail
+pub columns_over : (s : LinearSystem) (weak strict : List ℤ) (n : ℕ) → IsWellFormed s → PassesColumnsBelow s weak strict n → s.columns ≤ n → AreAcceptedMultipliers s weak strict
+columns_over s weak strict n form h l = accepted_by_columns s weak strict form
+    (refute_by_columns s weak strict form h.one_for_each_weak h.one_for_each_strict h.none_negative h.some_strict
+    (λ j m. by_lt_z (pos 0) (dot (weak ++ strict) (column (rows_of s) j)) (λ p. absurd ((h.columns j (omega arith)).1 p)) (λ p. p)))
+    (λ j m. elim (cases_lt (absolute_dot (weak ++ strict) (column (rows_of s) j)) sum_limit) [ inl p ↦ p | inr p ↦ absurd ((h.columns j (omega arith)).0 p) ])
 
 -- ---- accepted multipliers fail no test
 pub none_fails : (s : LinearSystem) (weak strict : List ℤ) → AreAcceptedMultipliers s weak strict → (r : Reject) → FailsMultipliers s weak strict r → ⊥
-none_fails s weak strict a rejects.Length (inl f) = f a.combine.one_for_each_weak
-none_fails s weak strict a rejects.Length (inr f) = f a.combine.one_for_each_strict
-none_fails s weak strict a (rejects.Negative k) f = let p = NoneNegative-entry (weak ++ strict) k a.combine.none_negative in let q = f.1 in omega (arith, ints)
+none_fails s weak strict a rejects.Length (inl f) = f a.refute.as_many_weak
+none_fails s weak strict a rejects.Length (inr f) = f a.refute.as_many_strict
+none_fails s weak strict a (rejects.Negative k) f = let p = NoneNegative-entry (weak ++ strict) k a.refute.none_negative in let q = f.1 in omega (arith, ints)
 none_fails s weak strict a rejects.Total f = f
 none_fails s weak strict a (rejects.RowWide i) f = f
 none_fails s weak strict a (rejects.Row i) f = f
-none_fails s weak strict a rejects.NoStrict f = f a.combine.some_strict
-none_fails s weak strict a (rejects.ColumnWide j) f = let p = a.columns_within j f.0 in let q = f.1 in omega arith
-none_fails s weak strict a (rejects.Column j) f = let p = a.combine.columns_sum j f.0 in let q = f.1 in omega (arith, ints)
+none_fails s weak strict a rejects.NoStrict f = f a.refute.some_positive
+none_fails s weak strict a (rejects.ColumnWide j) f = let p = a.columns_within j in omega arith
+none_fails s weak strict a (rejects.Column j) f = let p = a.refute.columns j in omega (arith, ints)
 
 -- multipliers with a reason are not accepted
 pub not_accepted : (s : LinearSystem) (weak strict : List ℤ) (r : Reject) → IsFirst (FailsMultipliers s weak strict) IsEarlierTest r → AreAcceptedMultipliers s weak strict → ⊥

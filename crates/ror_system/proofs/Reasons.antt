@@ -5,6 +5,7 @@ use Rattle.std.proofs.lemmas.Int.{ints, by_lt_z}
 use Rattle.ror_integers.specs.Vectors.{total, entry, NoneNegative, SomePositive}
 use Rattle.ror_integers.proofs.Signs.{NoneNegative-from_entries, some_positive_or_none}
 use Rattle.ror_text.specs.FirstFault.{IsFirst}
+use Rattle.ror_text.proofs.FirstFaultLemmas.{first_at}
 use Rattle.ror_system.specs.declared.reject.Reject.{Reject}
 use Rattle.ror_system.specs.declared.reject.Reject.TheVariants as rejects
 use Rattle.ror_system.specs.System.{LinearSystem, IsNarrow}
@@ -47,31 +48,15 @@ accepted_solution s d h = solution.accepted s d (length (rows_of s)) (record {
 }) (omega arith)
 
 pub accepted_multipliers : (s : LinearSystem) (weak strict : List ℤ) → ((r : Reject) → ¬ (FailsMultipliers s weak strict r)) → AreAcceptedMultipliers s weak strict
-accepted_multipliers s weak strict h = multipliers.accepted s weak strict s.columns (record {
+accepted_multipliers s weak strict h = multipliers.accepted s weak strict (λ j. record {
   one_for_each_weak = same_number (length weak) (length s.weak) (λ n. h rejects.Length (inl n));
   one_for_each_strict = same_number (length strict) (length s.strict) (λ n. h rejects.Length (inr n));
   none_negative = none_negative (weak ++ strict) (λ k. h (rejects.Negative k));
   some_strict = some_positive strict (h rejects.NoStrict);
   columns = λ k l. (h (rejects.ColumnWide k), h (rejects.Column k));
-}) (omega arith)
+})
 
 -- ---- one first reason
-same_stage_and_place : (Fails : Reject → Type 0) (q r : Reject) → IsFirst Fails IsEarlierTest q → IsFirst Fails IsEarlierTest r → (stage q ≡ stage r) × (place q ≡ place r)
-same_stage_and_place Fails q r first second = (stages, places (cases_lt (place q) (place r)) (cases_lt (place r) (place q)))
-  where
-    stages_at : (stage q < stage r) ⊎ (stage r ≤ stage q) → (stage r < stage q) ⊎ (stage q ≤ stage r) → stage q ≡ stage r
-    stages_at (inl l) k = absurd (second.none_before q (inl l) first.fails)
-    stages_at (inr l) (inl k) = absurd (first.none_before r (inl k) second.fails)
-    stages_at (inr l) (inr k) = omega arith
-
-    stages : stage q ≡ stage r
-    stages = stages_at (cases_lt (stage q) (stage r)) (cases_lt (stage r) (stage q))
-
-    places : (place q < place r) ⊎ (place r ≤ place q) → (place r < place q) ⊎ (place q ≤ place r) → place q ≡ place r
-    places (inl l) k = absurd (second.none_before q (inr (stages, l)) first.fails)
-    places (inr l) (inl k) = absurd (first.none_before r (inr (sym stages, k)) second.fails)
-    places (inr l) (inr k) = omega arith
-
 -- an even place is one test's, an odd one the other's
 by_parity : (ℕ → Reject) → (ℕ → Reject) → ℕ → Reject
 by_parity wide sign p = cond (eqb (p % 2) 0) (wide (p / 2)) (sign (p / 2))
@@ -104,7 +89,7 @@ is_solution_test s d (rejects.Column j) f = absurd f
 
 pub one_solution_reason : (s : LinearSystem) (d : List ℤ) (q r : Reject) → IsFirst (FailsSolution s d) IsEarlierTest q → IsFirst (FailsSolution s d) IsEarlierTest r → q ≡ r
 one_solution_reason s d q r first second =
-    let e = same_stage_and_place (FailsSolution s d) q r first second in
+    let e = first_at (FailsSolution s d) stage place q r first second in
     is_solution_test s d q first.fails ∙ ap₂ solution_test e.0 e.1 ∙ sym (is_solution_test s d r second.fails)
 
 -- the test of multipliers at a stage and a place
@@ -127,5 +112,5 @@ is_multiplier_test s weak strict (rejects.Column j) f = odd_place rejects.Column
 
 pub one_multiplier_reason : (s : LinearSystem) (weak strict : List ℤ) (q r : Reject) → IsFirst (FailsMultipliers s weak strict) IsEarlierTest q → IsFirst (FailsMultipliers s weak strict) IsEarlierTest r → q ≡ r
 one_multiplier_reason s weak strict q r first second =
-    let e = same_stage_and_place (FailsMultipliers s weak strict) q r first second in
+    let e = first_at (FailsMultipliers s weak strict) stage place q r first second in
     is_multiplier_test s weak strict q first.fails ∙ ap₂ multiplier_test e.0 e.1 ∙ sym (is_multiplier_test s weak strict r second.fails)

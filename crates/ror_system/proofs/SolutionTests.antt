@@ -9,7 +9,8 @@ use Rattle.ror_text.specs.FirstFault.{IsFirst}
 use Rattle.ror_system.specs.declared.reject.Reject.{Reject}
 use Rattle.ror_system.specs.declared.reject.Reject.TheVariants as rejects
 use Rattle.ror_system.specs.System.{LinearSystem, IsNarrow}
-use Rattle.ror_system.specs.Acceptance.{rows_of, row_at, IsAcceptedSolution, FailsSolution, IsEarlierTest, PassesBoth, IsFirstOfTwo}
+use Rattle.ror_system.specs.Acceptance.{rows_of, row_at, IsAcceptedSolution, FailsSolution, IsEarlierTest}
+use Rattle.ror_system.specs.Steps.{PassesBoth, IsFirstOfTwo}
 use Rattle.ror_system.specs.Signs.{IsFirstNegative}
 
 -- the first three tests pass, and those of the rows below i
@@ -113,9 +114,11 @@ pub accepted : (s : LinearSystem) (d : List ℤ) (n : ℕ) → PassesRowsBelow s
 accepted s d n h l = record {
   solves = record {
     one_for_each_column = h.one_for_each_column;
-    none_negative = h.none_negative;
-    weak_rows = all_from_places (λ (row : List ℤ). pos 0 ≤ℤ dot row d) s.weak weak_holds;
-    strict_rows = all_from_places (λ (row : List ℤ). pos 0 <ℤ dot row d) s.strict strict_holds;
+    rows = record {
+      none_negative = h.none_negative;
+      weak_hold = all_from_places (λ (row : List ℤ). pos 0 ≤ℤ dot row d) s.weak weak_holds;
+      strict_hold = all_from_places (λ (row : List ℤ). pos 0 <ℤ dot row d) s.strict strict_holds;
+    };
   };
   total_positive = h.total_accepted.0;
   total_within = h.total_accepted.1;
@@ -142,14 +145,14 @@ accepted s d n h l = record {
 -- ---- an accepted solution fails no test
 pub none_fails : (s : LinearSystem) (d : List ℤ) → IsAcceptedSolution s d → (r : Reject) → FailsSolution s d r → ⊥
 none_fails s d a rejects.Length f = f a.solves.one_for_each_column
-none_fails s d a (rejects.Negative k) f = let p = NoneNegative-entry d k a.solves.none_negative in let q = f.1 in omega (arith, ints)
+none_fails s d a (rejects.Negative k) f = let p = NoneNegative-entry d k a.solves.rows.none_negative in let q = f.1 in omega (arith, ints)
 none_fails s d a rejects.Total f = f (a.total_positive, a.total_within)
 none_fails s d a (rejects.RowWide i) f =
     let p = at_place (λ (row : List ℤ). absolute_dot row d < 2 ^ 127) (rows_of s) i a.rows_within f.0 in
     let q = f.1 in
     omega arith
 none_fails s d a (rejects.Row i) (inl f) =
-    let p = at_place (λ (row : List ℤ). pos 0 ≤ℤ dot row d) s.weak i a.solves.weak_rows f.0 in
+    let p = at_place (λ (row : List ℤ). pos 0 ≤ℤ dot row d) s.weak i a.solves.rows.weak_hold f.0 in
     let e = ap (λ (row : List ℤ). dot row d) (weak_at s.weak s.strict i f.0) in
     let q = f.1 in
     omega (arith, ints)
@@ -157,7 +160,7 @@ none_fails s d a (rejects.Row i) (inr f) =
     let l = f.0 in
     let m = f.1 in
     let k = i - length s.weak in
-    let p = at_place (λ (row : List ℤ). pos 0 <ℤ dot row d) s.strict k a.solves.strict_rows (omega (arith, length-append s.weak s.strict)) in
+    let p = at_place (λ (row : List ℤ). pos 0 <ℤ dot row d) s.strict k a.solves.rows.strict_hold (omega (arith, length-append s.weak s.strict)) in
     let at : length s.weak + k ≡ i = omega arith in
     let e = ap (λ (row : List ℤ). dot row d) (strict_at s.weak s.strict k) in
     let g = ap (λ (j : ℕ). dot (row_at s j) d) at in

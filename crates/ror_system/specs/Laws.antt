@@ -2,19 +2,25 @@
 use Rattle.std.specs.Prelude.{◌≡◌, List, ℤ, ◌↔◌}
 use Rattle.ror_text.specs.FirstFault.{IsFirst}
 use Rattle.ror_system.specs.declared.reject.Reject.{Reject}
-use Rattle.ror_system.specs.System.{LinearSystem, IsSolvable}
-use Rattle.ror_system.specs.Acceptance.{CombineToNothing, IsAcceptedSolution, AreAcceptedMultipliers, FailsSolution, FailsMultipliers, IsEarlierTest}
+use Rattle.ror_system.specs.System.{LinearSystem, IsSolvable, Refutes}
+use Rattle.ror_system.specs.Acceptance.{IsAcceptedSolution, AreAcceptedMultipliers, FailsSolution, FailsMultipliers, IsEarlierTest}
 
--- where some multipliers combine the rows to nothing there is no solution
+-- where some multipliers refute a system it has no solution
 abbrev pub NeverBoth : Type 0
-NeverBoth = (s : LinearSystem) (weak strict : List ℤ) → CombineToNothing s weak strict → ¬ (IsSolvable s)
+NeverBoth = (s : LinearSystem) (weak strict : List ℤ) → Refutes s weak strict → ¬ (IsSolvable s)
 
 -- a certificate is accepted exactly where none of its tests fails
 pub record NoTestFails : Type 0 where
-  pub of_solutions : (s : LinearSystem) (d : List ℤ) → IsAcceptedSolution s d ↔ ((r : Reject) → ¬ (FailsSolution s d r))
-  pub of_multipliers : (s : LinearSystem) (weak strict : List ℤ) → AreAcceptedMultipliers s weak strict ↔ ((r : Reject) → ¬ (FailsMultipliers s weak strict r))
+  pub of_solutions : (s : LinearSystem) (d : List ℤ) → IsAcceptedSolution s d
+      ↔ ((r : Reject) → ¬ (FailsSolution s d r))
+  pub of_multipliers : (s : LinearSystem) (weak strict : List ℤ)
+      → AreAcceptedMultipliers s weak strict ↔ ((r : Reject) → ¬ (FailsMultipliers s weak strict r))
 
 -- two first reasons are equal
 pub record OneFirstReason : Type 0 where
-  pub of_solutions : (s : LinearSystem) (d : List ℤ) (q r : Reject) → IsFirst (FailsSolution s d) IsEarlierTest q → IsFirst (FailsSolution s d) IsEarlierTest r → q ≡ r
-  pub of_multipliers : (s : LinearSystem) (weak strict : List ℤ) (q r : Reject) → IsFirst (FailsMultipliers s weak strict) IsEarlierTest q → IsFirst (FailsMultipliers s weak strict) IsEarlierTest r → q ≡ r
+  pub of_solutions : (s : LinearSystem) (d : List ℤ) (q r : Reject)
+      → IsFirst (FailsSolution s d) IsEarlierTest q → IsFirst (FailsSolution s d) IsEarlierTest r
+      → q ≡ r
+  pub of_multipliers : (s : LinearSystem) (weak strict : List ℤ) (q r : Reject)
+      → IsFirst (FailsMultipliers s weak strict) IsEarlierTest q
+      → IsFirst (FailsMultipliers s weak strict) IsEarlierTest r → q ≡ r

@@ -1,4 +1,5 @@
 pub mod Acceptance
 pub mod Laws
 pub mod Signs
+pub mod Steps
 pub mod System

@@ -1,13 +1,14 @@
 ghost use Rattle.std.specs.Prelude.{◌≡◌, ◌+◌, ◌<◌, ◌≤◌, ◌^◌, ◌++◌, ◌<ℤ◌, pos, length, unsigned_abs, IsTrue, IsOk, ◌↔◌, IfErr, OnOk, MatchOption, MatchResult};
 ghost use Rattle.ror_integers.specs.Vectors.{dot, absolute_dot, total, column, NoneNegative, SomePositive};
 ghost use Rattle.ror_text.specs.FirstFault.{IsFirst};
-ghost use Rattle.ror_system.specs.System.{IsSolvable, IsNarrow};
-ghost use Rattle.ror_system.specs.Acceptance.{rows_of, IsAcceptedSolution, AreAcceptedMultipliers, FailsSolution, FailsMultipliers, IsEarlierTest, PassesBoth, IsFirstOfTwo};
+ghost use Rattle.ror_system.specs.System.{IsSolvable, sum_limit, IsNarrow};
+ghost use Rattle.ror_system.specs.Acceptance.{rows_of, IsAcceptedSolution, AreAcceptedMultipliers, FailsSolution, FailsMultipliers, IsEarlierTest};
+ghost use Rattle.ror_system.specs.Steps.{PassesBoth, IsFirstOfTwo};
 ghost use Rattle.ror_system.specs.Signs.{IsFirstNegative};
 
 use crate::reject::Reject;
 use crate::steps::{first_negative, positive_total};
-use crate::sum::{Sum, row_sum};
+use crate::sum::{Sum, row_at_steps};
 use crate::system::System;
 use ror_text::Items;
 
@@ -47,7 +48,8 @@ pub fn accept_solution(s: &System, x: &Solution) -> Result<(), Reject>
 /// `ColumnWide` before `Column`.
 pub fn accept_multipliers(s: &System, m: &Multipliers) -> Result<(), Reject>
     ensures accepted { IsOk result ↔ AreAcceptedMultipliers s.now m.now.weak m.now.strict }
-    ensures rejected { IfErr result (IsFirst (FailsMultipliers s.now m.now.weak m.now.strict) IsEarlierTest) }
+    ensures rejected { IfErr result
+        (IsFirst (FailsMultipliers s.now m.now.weak m.now.strict) IsEarlierTest) }
     ensures not_solvable { OnOk result (IsSolvable s.now → ⊥) }
 {
     check_weights(s, m.weak.as_slice(), m.strict.as_slice())
@@ -67,7 +69,7 @@ fn check_steps(s: &System, steps: &[i128]) -> Result<(), Reject>
     if positive_total(steps).is_none() {
         return Err(Reject::Total);
     }
-    for place in 0..s.row_count() {
+    for place in 0..s.number_of_rows() {
         check_row(s, steps, place)?;
     }
     Ok(())
@@ -96,7 +98,8 @@ fn check_weights(s: &System, weak: &[i128], strict: &[i128]) -> Result<(), Rejec
 /// The place of the first number below 0 in two lists, one after the other, if there is one.
 fn first_negative_of_both(first: &[i128], second: &[i128]) -> Option<usize>
     requires { length first.now + length second.now < 2 ^ 64 }
-    ensures { MatchOption result (NoneNegative (first.now ++ second.now)) (IsFirstNegative (first.now ++ second.now)) }
+    ensures { MatchOption result (NoneNegative (first.now ++ second.now))
+        (IsFirstNegative (first.now ++ second.now)) }
 {
     if let Some(place) = first_negative(first) {
         return Some(place);
@@ -120,7 +123,7 @@ fn check_row(s: &System, steps: &[i128], place: usize) -> Result<(), Reject>
         (λ _. PassesBoth (FailsSolution s.now steps.now) (Reject.RowWide place) (Reject.Row place))
         (IsFirstOfTwo (FailsSolution s.now steps.now) (Reject.RowWide place) (Reject.Row place)) }
 {
-    let sum = row_sum(s.row(place), steps).ok_or(Reject::RowWide(place))?;
+    let sum = row_at_steps(s.row(place), steps).ok_or(Reject::RowWide(place))?;
     let holds = if place < s.weak().len() {
         sum >= 0
     } else {
@@ -139,8 +142,10 @@ fn check_column(s: &System, weak: &[i128], strict: &[i128], j: usize) -> Result<
     requires strict_lengths { length strict.now ≡ length s.now.strict }
     requires within { j < s.now.columns }
     ensures { MatchResult result
-        (λ _. PassesBoth (FailsMultipliers s.now weak.now strict.now) (Reject.ColumnWide j) (Reject.Column j))
-        (IsFirstOfTwo (FailsMultipliers s.now weak.now strict.now) (Reject.ColumnWide j) (Reject.Column j)) }
+        (λ _. PassesBoth (FailsMultipliers s.now weak.now strict.now) (Reject.ColumnWide j)
+        (Reject.Column j))
+        (IsFirstOfTwo (FailsMultipliers s.now weak.now strict.now) (Reject.ColumnWide j)
+        (Reject.Column j)) }
 {
     let sum = column_sum(s, weak, strict, j).ok_or(Reject::ColumnWide(j))?;
     if sum > 0 {
@@ -155,9 +160,10 @@ fn column_sum(s: &System, weak: &[i128], strict: &[i128], j: usize) -> Option<i1
     requires weak_lengths { length weak.now ≡ length s.now.weak }
     requires strict_lengths { length strict.now ≡ length s.now.strict }
     requires within { j < s.now.columns }
-    ensures { MatchOption result (2 ^ 127 ≤ absolute_dot (weak.now ++ strict.now) (column (rows_of s.now) j))
+    ensures { MatchOption result (sum_limit ≤ absolute_dot (weak.now ++ strict.now)
+        (column (rows_of s.now) j))
         (λ sum. (sum ≡ dot (weak.now ++ strict.now) (column (rows_of s.now) j))
-        × (absolute_dot (weak.now ++ strict.now) (column (rows_of s.now) j) < 2 ^ 127)) }
+        × (absolute_dot (weak.now ++ strict.now) (column (rows_of s.now) j) < sum_limit)) }
 {
     let sum = Sum::zero().plus_column(s.weak(), weak, j)?;
     let sum = sum.plus_column(s.strict(), strict, j)?;

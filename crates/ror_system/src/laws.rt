@@ -2,7 +2,7 @@
 
 ghost use Rattle.ror_system.specs.Laws.{NeverBoth, NoTestFails, OneFirstReason};
 
-/// No system is solvable where multipliers combine its rows to nothing, whatever their sizes.
+/// No system that multipliers refute is solvable, whatever their sizes.
 pub fn never_both()
     ensures { NeverBoth }
 {}

@@ -1,4 +1,22 @@
-//! Systems of linear inequalities, their solutions and the multipliers that show that there are none.
+//! Systems of linear inequalities, and the two certificates of one: a solution, and multipliers
+//! that show that there is none.
+//!
+//! A `System` has `Row`s over so many columns: at a solution each weak row is to be at least 0 and
+//! each strict row above 0, and the first strict row is all ones. `accept_solution` and
+//! `accept_multipliers` multiply a certificate out. What they accept is one, with sums below
+//! 2^127; what they refuse has a first test that fails, which they name (`Reject`). No system has
+//! both certificates (`laws::never_both`). `steps` has the tests of numbers that are to be steps.
+//!
+//! Over two columns let the strict rows be (1, 1) and (1, -1):
+//!
+//! ```text
+//! accept_solution(&s, &Solution { steps: [2, 1] })                 Ok(()): the rows come to 3 and 1
+//! accept_solution(&s, &Solution { steps: [1, 1] })                 Err(Row(1)): row 1 comes to 0
+//! accept_multipliers(&s, &Multipliers { weak: [], strict: [0, 1] }) Err(Column(0)): it sums to 1
+//! ```
+//!
+//! With (-1, 1) as a third strict row the multipliers 0, 1 and 1 are accepted: the rows so weighed
+//! sum to (0, 0), so no steps make both rows positive.
 #![tactic(auto)]
 
 mod accept;

@@ -1,3 +1,5 @@
+//! Why a certificate is not accepted.
+
 use thiserror::Error;
 
 /// Why a certificate is not accepted: the first test that fails. Places count from 0; rows are numbered weak first,

@@ -1,3 +1,5 @@
+//! The rows of a system.
+
 ghost use Rattle.std.specs.Prelude.{◌≡◌, ◌<◌, ◌==◌, length, IfOk};
 ghost use Rattle.std.specs.List.{AllByRecursion};
 ghost use Rattle.ror_integers.specs.Vectors.{entry};

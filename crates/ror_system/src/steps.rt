@@ -21,7 +21,8 @@ pub fn first_negative(numbers: &[i128]) -> Option<usize>
 pub fn positive_total(numbers: &[i128]) -> Option<i128>
     requires { NoneNegative numbers.now }
     ensures { MatchOption result (((pos 0 <ℤ total numbers.now) × IsNarrow (total numbers.now)) → ⊥)
-        (λ sum. (sum ≡ total numbers.now) × (pos 0 <ℤ total numbers.now) × IsNarrow (total numbers.now)) }
+        (λ sum. (sum ≡ total numbers.now) × (pos 0 <ℤ total numbers.now)
+        × IsNarrow (total numbers.now)) }
 {
     let mut sum: i128 = 0;
     for number in numbers {

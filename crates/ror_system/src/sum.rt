@@ -3,6 +3,7 @@
 ghost use Rattle.std.specs.Prelude.{◌≡◌, ◌+◌, ◌^◌, ◌<◌, ◌≤◌, length, unsigned_abs, ◌+ℤ◌, ◌*ℤ◌, MatchOption, pos};
 ghost use Rattle.std.specs.List.{AllByRecursion};
 ghost use Rattle.ror_integers.specs.Vectors.{dot, absolute_dot, column};
+ghost use Rattle.ror_system.specs.System.{sum_limit};
 
 use crate::row::Row;
 
@@ -12,7 +13,7 @@ pub(crate) struct Sum {
     pub(crate) value: i128,
     width: u128,
     ghost bounded: { unsigned_abs value ≤ width },
-    ghost narrow: { width < 2 ^ 127 },
+    ghost narrow: { width < sum_limit },
 }
 
 impl Sum {
@@ -26,8 +27,9 @@ impl Sum {
 
     /// The sum with one product more, unless the absolute values then sum past 2^127 - 1.
     fn plus(self, a: i128, b: i128) -> Option<Sum>
-        ensures { MatchOption result (2 ^ 127 ≤ self.width + unsigned_abs (a *ℤ b))
-            (λ sum. (sum.value ≡ self.value +ℤ a *ℤ b) × (sum.width ≡ self.width + unsigned_abs (a *ℤ b))) }
+        ensures { MatchOption result (sum_limit ≤ self.width + unsigned_abs (a *ℤ b))
+            (λ sum. (sum.value ≡ self.value +ℤ a *ℤ b)
+            × (sum.width ≡ self.width + unsigned_abs (a *ℤ b))) }
     {
         // Most entries and most multipliers are 0, and a product of 128 bits is slow.
         if a == 0 || b == 0 {
@@ -48,7 +50,8 @@ impl Sum {
     pub(crate) fn plus_column(self, rows: &[Row], multipliers: &[i128], j: usize) -> Option<Sum>
         requires lengths { length rows.now ≡ length multipliers.now }
         requires widths { AllByRecursion (λ row. j < length row) rows.now }
-        ensures { MatchOption result (2 ^ 127 ≤ self.width + absolute_dot multipliers.now (column rows.now j))
+        ensures { MatchOption result (sum_limit
+            ≤ self.width + absolute_dot multipliers.now (column rows.now j))
             (λ sum. (sum.value ≡ self.value +ℤ dot multipliers.now (column rows.now j))
             × (sum.width ≡ self.width + absolute_dot multipliers.now (column rows.now j))) }
     {
@@ -61,10 +64,10 @@ impl Sum {
 }
 
 /// What a row comes to at these steps, unless the absolute values of its terms sum past 2^127 - 1.
-pub(crate) fn row_sum(row: &Row, steps: &[i128]) -> Option<i128>
+pub(crate) fn row_at_steps(row: &Row, steps: &[i128]) -> Option<i128>
     requires { length row.now ≡ length steps.now }
-    ensures { MatchOption result (2 ^ 127 ≤ absolute_dot row.now steps.now)
-        (λ sum. (sum ≡ dot row.now steps.now) × (absolute_dot row.now steps.now < 2 ^ 127)) }
+    ensures { MatchOption result (sum_limit ≤ absolute_dot row.now steps.now)
+        (λ sum. (sum ≡ dot row.now steps.now) × (absolute_dot row.now steps.now < sum_limit)) }
 {
     let mut sum = Sum::zero();
     for j in 0..row.len() {

@@ -1,3 +1,5 @@
+//! Systems of linear inequalities.
+
 ghost use Rattle.std.specs.Prelude.{◌≡◌, ◌<◌, ◌≤◌, ◌+◌, length, slice_get, Some};
 ghost use Rattle.std.specs.List.{AllByRecursion};
 ghost use Rattle.ror_integers.specs.Vectors.{ones};
@@ -22,7 +24,11 @@ impl Model for System {
 
     ghost view = { λ s. record { columns = s.columns; weak = s.weak.items; strict = s.strict.items } };
 
-    ghost invariant = { λ s. IsWellFormed (record { columns = s.columns; weak = s.weak.items; strict = s.strict.items }) };
+    ghost invariant = { λ s. IsWellFormed (record {
+      columns = s.columns;
+      weak = s.weak.items;
+      strict = s.strict.items;
+    }) };
 }
 
 impl System {
@@ -67,7 +73,7 @@ impl System {
     }
 
     /// How many rows there are, weak and strict.
-    pub(crate) fn row_count(&self) -> usize
+    pub(crate) fn number_of_rows(&self) -> usize
         ensures value { result ≡ length (rows_of self.now) }
         ensures form { IsWellFormed self.now }
     {

@@ -1,5 +1,6 @@
 pub mod LineLemmas
 pub mod Digits
+pub mod FirstFaultLemmas
 pub mod ReadingLemmas
 pub mod TextLemmas
 pub mod SpacedLemmas

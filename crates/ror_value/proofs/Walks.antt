@@ -39,12 +39,12 @@ total-part-le k n m xs h =
     omega (arith, sums)
 
 -- between 0 and the sum of all steps
-pub record IsWithin (w : List ℤ) (z : ℤ) : Type 0 where
+pub record IsUpToTotal (w : List ℤ) (z : ℤ) : Type 0 where
   pub not_below_zero : pos 0 ≤ℤ z
   pub not_above_total : z ≤ℤ total w
 
-pub IsWithin-fits : (w : List ℤ) (z : ℤ) → IsNarrow (total w) → IsWithin w z → FitsSigned w128 z
-IsWithin-fits w z narrow h = fits_signed_from_abs w128 z (smaller z (total w) (2 ^ 127) h.not_below_zero h.not_above_total narrow)
+pub IsUpToTotal-fits : (w : List ℤ) (z : ℤ) → IsNarrow (total w) → IsUpToTotal w z → FitsSigned w128 z
+IsUpToTotal-fits w z narrow h = fits_signed_from_abs w128 z (smaller z (total w) (2 ^ 127) h.not_below_zero h.not_above_total narrow)
   where
     smaller : (a b : ℤ) (limit : ℕ) → pos 0 ≤ℤ a → a ≤ℤ b → unsigned_abs b < limit → unsigned_abs a < limit
     smaller a b limit p l n = omega (arith, ints)
@@ -59,7 +59,7 @@ marginal-more t w i k l =
     let d = ap (marginal t w i) next in
     omega (arith, sums)
 
-pub marginal-within : (t : DecisionTable) (w : List ℤ) → NoneNegative w → (i k : ℕ) → IsWithin w (marginal t w i k)
+pub marginal-within : (t : DecisionTable) (w : List ℤ) → NoneNegative w → (i k : ℕ) → IsUpToTotal w (marginal t w i k)
 marginal-within t w h i k = record {
   not_below_zero = marginal_monotone t w h i 0 k (omega arith);
   not_above_total = total-part-le k (steps t i) (offset t i) w h;
@@ -106,7 +106,7 @@ IsLeftOfValue-more t w a sum z i n h l e =
     let here = marginal_monotone t w n i 0 (rank t a i) (omega arith) in
     record { not_below_zero = omega (arith, sums); left = omega (arith, sums) }
 
-pub IsLeftOfValue-within : (t : DecisionTable) (w : List ℤ) (a : ℕ) (sum : ℤ) (i : ℕ) → IsValueFunction t w → IsLeftOfValue t w a sum i → IsWithin w sum
+pub IsLeftOfValue-within : (t : DecisionTable) (w : List ℤ) (a : ℕ) (sum : ℤ) (i : ℕ) → IsValueFunction t w → IsLeftOfValue t w a sum i → IsUpToTotal w sum
 IsLeftOfValue-within t w a sum i f h =
     let b = h.left in
     let rest = marginals_nonnegative t w f.none_negative a i (length t.criteria - i) in

@@ -41,12 +41,14 @@ IsConsistent t list = (w : List ℤ) × IsCompatible t list w
 abbrev pub IsContradictory : DecisionTable → List Statement → Type 0
 IsContradictory t list = (w : List ℤ) → IsCompatible t list w → ⊥
 
--- what was asked is so: the comparison holds of every compatible function
-abbrev pub IsSo : DecisionTable → List Statement → Kind → Comparison → Type 0
-IsSo t list every c = (w : List ℤ) → IsCompatible t list w → Holds t w c
+-- the comparison holds of the compatible functions over which it is asked: of every one
+abbrev pub HoldsOfCompatible : DecisionTable → List Statement → Kind → Comparison → Type 0
+HoldsOfCompatible t list every c = (w : List ℤ) → IsCompatible t list w → Holds t w c
 
 -- the conclusion answers the question over the list
 abbrev pub Answers : DecisionTable → List Statement → Question → Conclusion → Type 0
-Answers t list q Yes = IsConsistent t list × IsSo t list (asked_of q).kind (asked_of q).comparison
-Answers t list q No = IsConsistent t list × (IsSo t list (asked_of q).kind (asked_of q).comparison → ⊥)
+Answers t list q Yes = IsConsistent t list
+    × HoldsOfCompatible t list (asked_of q).kind (asked_of q).comparison
+Answers t list q No = IsConsistent t list
+    × (HoldsOfCompatible t list (asked_of q).kind (asked_of q).comparison → ⊥)
 Answers t list q Contradiction = IsContradictory t list

@@ -1,7 +1,7 @@
 -- Which value functions are taken, each test of their steps that may fail, and the order of the tests.
 use Rattle.std.specs.Prelude.{◌≢◌, ℕ, ◌<◌, List, length, ℤ, pos, ◌<ℤ◌}
 use Rattle.ror_integers.specs.Vectors.{total, entry}
-use Rattle.ror_text.specs.FirstFault.{IsFirst, IsEarlier}
+use Rattle.ror_text.specs.FirstFault.{IsEarlier}
 use Rattle.ror_table.specs.Table.{DecisionTable, columns}
 use Rattle.ror_system.specs.System.{IsNarrow}
 use Rattle.ror_value.specs.declared.value_function.ValueFault.{ValueFault}
@@ -24,22 +24,12 @@ FailsValue t w faults.Memory = ⊥
 abbrev pub fault_stage : ValueFault → ℕ
 fault_stage faults.Length = 0
 fault_stage (faults.Negative k) = 1
-fault_stage faults.Total = 2
-fault_stage faults.Memory = 3
+fault_stage _ = 2
 
 -- the earlier of two numbers below 0 comes first
 abbrev pub fault_place : ValueFault → ℕ
-fault_place faults.Length = 0
 fault_place (faults.Negative k) = k
-fault_place faults.Total = 0
-fault_place faults.Memory = 0
+fault_place _ = 0
 
 abbrev pub IsEarlierFault : ValueFault → ValueFault → Type 0
 IsEarlierFault = IsEarlier fault_stage fault_place
-
--- the fault is the first that the steps have; want of memory says nothing
-abbrev pub IsRefusedFor : DecisionTable → List ℤ → ValueFault → Type 0
-IsRefusedFor t w faults.Length = IsFirst (FailsValue t w) IsEarlierFault faults.Length
-IsRefusedFor t w (faults.Negative k) = IsFirst (FailsValue t w) IsEarlierFault (faults.Negative k)
-IsRefusedFor t w faults.Total = IsFirst (FailsValue t w) IsEarlierFault faults.Total
-IsRefusedFor t w faults.Memory = Unit {0}

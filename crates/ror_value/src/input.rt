@@ -1,3 +1,5 @@
+//! What a session starts from.
+
 use ror_statement::Statement;
 use ror_table::Table;
 use ror_text::Items;

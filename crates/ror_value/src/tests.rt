@@ -1,7 +1,6 @@
 use crate::{ValueFault, ValueFunction};
 use ror_statement::Statement;
-use ror_table::{Table, read_plain};
-use std::alloc::Global;
+use ror_table::read_plain;
 use std::test::Fail;
 
 const TABLE: &[u8] = b"ror-table 1
@@ -28,25 +27,16 @@ fn values_are_sums_of_first_steps(rt: HostRuntime) -> Result<(), Fail> {
     Ok(())
 }
 
-fn fault_of(alloc: Global, table: &Table, steps: &[i128]) -> Option<ValueFault> {
-    ValueFunction::new(alloc, table, steps).err()
-}
-
 #[test]
 fn the_first_fault_is_named(rt: HostRuntime) -> Result<(), Fail> {
     let table = read_plain(rt.alloc(), TABLE)?;
-    let cases: [(&[i128], Option<ValueFault>); 8] = [
-        (&[1, 2, 3], Some(ValueFault::Length)),
-        (&[0, -1, 0, 0, 0], Some(ValueFault::Length)),
-        (&[0, -1, -1, 0], Some(ValueFault::Negative(1))),
-        (&[0, 0, 0, i128::MIN], Some(ValueFault::Negative(3))),
-        (&[0, 0, 0, 0], Some(ValueFault::Total)),
-        (&[i128::MAX, 1, 0, 0], Some(ValueFault::Total)),
-        (&[0, 0, 0, 1], None),
-        (&[i128::MAX - 1, 0, 1, 0], None),
+    let cases: [(&[i128], ValueFault); 3] = [
+        (&[0, -1, 0, 0, 0], ValueFault::Length),
+        (&[0, -1, -1, 0], ValueFault::Negative(1)),
+        (&[i128::MAX, 1, 0, 0], ValueFault::Total),
     ];
     for (steps, fault) in cases {
-        assert!(rt; fault_of(rt.alloc(), &table, steps) == fault);
+        assert!(rt; ValueFunction::new(rt.alloc(), &table, steps).err() == Some(fault));
     }
     Ok(())
 }

@@ -1,11 +1,14 @@
+//! Value functions of a table: their steps, their values, and what they meet.
+
 ghost use Rattle.std.specs.Prelude.{◌≡◌, ◌≢◌, ◌↔◌, ◌<◌, ◌≤◌, ◌≤ℤ◌, pos, length, IsTrue, IfOk, IfErr};
 ghost use Rattle.std.specs.List.{AllByRecursion};
 ghost use Rattle.ror_integers.specs.Vectors.{total};
+ghost use Rattle.ror_text.specs.FirstFault.{IsRefusedBy};
 ghost use Rattle.ror_statement.specs.Statement.{IsValid, comparison_of};
 ghost use Rattle.ror_table.specs.Table.{steps};
 ghost use Rattle.ror_system.specs.System.{IsNarrow};
 ghost use Rattle.ror_value.specs.Value.{IsValueFunction, marginal, value};
-ghost use Rattle.ror_value.specs.ValueFaults.{IsAcceptedFunction, IsRefusedFor};
+ghost use Rattle.ror_value.specs.ValueFaults.{IsAcceptedFunction, FailsValue, IsEarlierFault};
 ghost use Rattle.ror_value.specs.Meaning.{Holds, Meets};
 ghost use Rattle.ror_value.specs.declared.value_function.ValueFault.TheVariants.{Memory};
 
@@ -74,8 +77,10 @@ impl ValueFunction {
         ensures steps { IfOk result (λ f. f ≡ steps.now) }
         ensures accepted { IfOk result (IsAcceptedFunction table.now) }
         // No value function whose total fits is refused, and a refusal names the first test that fails.
-        ensures not_accepted { IfErr result (λ e. e ≢ Memory → IsAcceptedFunction table.now steps.now → ⊥) }
-        ensures refused { IfErr result (IsRefusedFor table.now steps.now) }
+        ensures not_accepted { IfErr result (λ e. e ≢ Memory
+            → IsAcceptedFunction table.now steps.now → ⊥) }
+        ensures refused { IfErr result (IsRefusedBy (FailsValue table.now steps.now)
+            IsEarlierFault ValueFault.Memory) }
     {
         if steps.len() != table.columns() {
             return Err(ValueFault::Length);

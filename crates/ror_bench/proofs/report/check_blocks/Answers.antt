@@ -25,7 +25,7 @@ loop-line-preserved c =
     let bytes = c.args.bytes.now in
     let i = c.loop-line.line-index in
     let line = c.line-item.result in
-    let table : IsTable start.table = subst IsTable c.table.ensures c.alternatives.ensures.table in
+    let table : IsTable start.table = subst IsTable c.table.ensures.value c.alternatives.ensures.table in
     let desk = desk_at (length start.state) lines i line c.requires.desks c.loop-line-test.true c.line-item.is in
     let way = way_at start lines bytes c.loop-line.bench i line c.loop-line.next c.loop-line.answers c.loop-line-test.true c.line-item.is c.loop-line.invariant.way in
     record {
@@ -64,10 +64,4 @@ pub returns-clause-accepted : goal.returns-clause-accepted
 returns-clause-accepted c =
     let count : c.loop-line.block - 1 ≡ length c.args.lines.now = omega arith in
     let way = way_over c.args.bench c.args.lines.now c.args.bytes.now c.loop-line.bench c.loop-line.line-index c.loop-line.next c.loop-line.answers (omega arith) c.loop-line.invariant.way in
-    (way_ends c.args.bench c.args.lines.now c.args.bytes.now c.loop-line.bench c.loop-line.next c.loop-line.answers way (c.in_ok-check_end.ensures.last ∙ ap end_text count)).0
-
-pub returns-clause-true_answers : goal.returns-clause-true_answers
-returns-clause-true_answers c =
-    let count : c.loop-line.block - 1 ≡ length c.args.lines.now = omega arith in
-    let way = way_over c.args.bench c.args.lines.now c.args.bytes.now c.loop-line.bench c.loop-line.line-index c.loop-line.next c.loop-line.answers (omega arith) c.loop-line.invariant.way in
-    (way_ends c.args.bench c.args.lines.now c.args.bytes.now c.loop-line.bench c.loop-line.next c.loop-line.answers way (c.in_ok-check_end.ensures.last ∙ ap end_text count)).1
+    way_ends c.args.bench c.args.lines.now c.args.bytes.now c.loop-line.bench c.loop-line.next c.loop-line.answers way (c.in_ok-check_end.ensures.last ∙ ap end_text count)

@@ -2,7 +2,7 @@ use Rattle.std.proofs.Common.{rules, arith, ◌≡◌, ◌≢◌, ◌-◌, ◌<�
 use Rattle.std.specs.Prelude.{drop}
 use Rattle.ror_report.specs.declared.read.ReportFault.TheVariants as forms
 use Rattle.ror_report.specs.Text.{end_text}
-use Rattle.ror_bench.specs.ReportSteps.{misread_error}
+use Rattle.ror_bench.specs.Steps.{misread_error}
 use Rattle.ror_bench.proofs.ReportProofs.{last_read, other_last, last_unread, no_last}
 use Rattle.ror_bench.proofs.report.check_end.Goals as goal
 

@@ -10,7 +10,7 @@ returns-in-Ask-Answers-clause-accepted c =
 
 pub returns-in-Ask-Answers-clause-true_answers : goal.returns-in-Ask-Answers-clause-true_answers
 returns-in-Ask-Answers-clause-true_answers c =
-    asked_true c.args.self.now.table (revisions_at c.args.self.now c.args.line.now.desk) c.args.block.now c.in-Ask-Answers.answers c.as_slice.result.now c.check_asked.result (search rules) c.as_slice.ensures c.check_asked.ensures.lawful c.check_asked.ensures.valid c.check_asked.ensures.proved
+    asked_true c.args.self.now.table (revisions_at c.args.self.now c.args.line.now.desk) c.args.line.now c.args.block.now c.check_asked.result c.check_asked.ensures.lawful (returns-in-Ask-Answers-clause-accepted c)
 
 pub returns-in-Ask-Answers-clause-refused : goal.returns-in-Ask-Answers-clause-refused
 returns-in-Ask-Answers-clause-refused c =

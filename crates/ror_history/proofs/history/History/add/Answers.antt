@@ -1,9 +1,11 @@
 use Rattle.std.proofs.Common.{◌≡◌, ◌+◌, ◌≤◌, List, [], ◌∷◌, ◌++◌, map, length, ap, subst, sym, ◌∙◌, arith}
+use Rattle.ror_text.specs.FirstFault.{IsRefusedBy}
+use Rattle.ror_statement.specs.declared.statement.TheConstants.{MOST_ROWS}
 use Rattle.ror_statement.specs.declared.statement.Statement.{Statement}
 use Rattle.ror_statement.specs.Statement.{row_count}
 use Rattle.ror_history.specs.History.{HistoryView, next_number}
-use Rattle.ror_history.specs.Faults.{CanBeAdded, IsAdditionRefusedBy}
-use Rattle.ror_history.specs.declared.history.HistoryFault.TheVariants.{TooManyStatements}
+use Rattle.ror_history.specs.Faults.{CanBeAdded, FailsAddition, IsEarlierFault}
+use Rattle.ror_history.specs.declared.history.HistoryFault.TheVariants.{TooManyStatements, Memory}
 use Rattle.ror_history.specs.Contents.{revisions_of}
 use Rattle.ror_history.proofs.AdditionLemmas.{full}
 use Rattle.ror_history.proofs.HistoryLemmas.{statement_of, standing-length, statements_are, next_number_is, IsHeld-added}
@@ -13,10 +15,10 @@ pub returns-then-len-ge-MOST_STATEMENTS-clause-refused : goal.returns-then-len-g
 returns-then-len-ge-MOST_STATEMENTS-clause-refused c =
     let r = revisions_of c.self.inside.opening.items c.self.inside.added.items in
     let count = standing-length c.self.inside.opening.items c.self.inside.added.items in
-    subst (λ (h : HistoryView). IsAdditionRefusedBy h.state c.args.s TooManyStatements) c.self.view_is (full r c.args.s (omega (arith, count, c.len.ensures, c.len-2.ensures, c.if-len-ge-MOST_STATEMENTS.true)))
+    subst (λ (h : HistoryView). IsRefusedBy (FailsAddition h.state c.args.s) IsEarlierFault Memory TooManyStatements) c.self.view_is (full r c.args.s (omega (arith, count, c.len.ensures, c.len-2.ensures, c.if-len-ge-MOST_STATEMENTS.true)))
 
 -- the statements that the code counted, and that they are few enough
-few_rows : (c : goal.After-drop-list-2) → row_count ((c.self.inside.opening.items ++ map statement_of c.self.inside.added.items) ++ c.args.s ∷ []) ≤ 2000
+few_rows : (c : goal.After-drop-list-2) → row_count ((c.self.inside.opening.items ++ map statement_of c.self.inside.added.items) ++ c.args.s ∷ []) ≤ MOST_ROWS
 few_rows c =
     let listed : c.deref-3.result.now ≡ (c.self.inside.opening.items ++ map statement_of c.self.inside.added.items) ++ c.args.s ∷ [] =
     c.deref-3.ensures.value ∙ c.in_ok-list.ensures ∙ ap (λ (xs : List Statement). (xs ++ map statement_of c.deref-2.result.now) ++ c.args.s ∷ []) c.deref.ensures.value ∙ ap (λ xs. (c.self.inside.opening.items ++ map statement_of xs) ++ c.args.s ∷ []) c.deref-2.ensures.value in

@@ -2,7 +2,7 @@ use Rattle.std.proofs.Common.{◌+◌, ◌∙◌, FitsSigned, ap, sym, subst, ar
 use Rattle.std.specs.Int.{w128}
 use Rattle.std.proofs.lemmas.Int.{to_z-of_z}
 use Rattle.ror_value.specs.Value.{marginal}
-use Rattle.ror_value.proofs.Walks.{IsWithin-fits, IsLeftOfValue, IsLeftOfValue-more, IsLeftOfValue-within}
+use Rattle.ror_value.proofs.Walks.{IsUpToTotal-fits, IsLeftOfValue, IsLeftOfValue-more, IsLeftOfValue-within}
 use Rattle.ror_value.proofs.value_function.ValueFunction.value.Goals as goal
 
 pub overflow_add-sum : goal.overflow_add-sum
@@ -13,7 +13,7 @@ overflow_add-sum c =
     let g : FitsSigned w128 c.marginal-sum.result = search rules in
     let here = to_z-of_z w128 _ g ∙ c.marginal-sum.ensures.number ∙ ap (marginal t w i) c.rank.ensures.number in
     let more = IsLeftOfValue-more t w c.args.a _ _ i c.requires.function.none_negative c.loop-i.invariant (omega arith) here in
-    IsWithin-fits w _ c.marginal-sum.ensures.narrow (IsLeftOfValue-within t w c.args.a _ (i + 1) c.requires.function more)
+    IsUpToTotal-fits w _ c.marginal-sum.ensures.narrow (IsLeftOfValue-within t w c.args.a _ (i + 1) c.requires.function more)
 
 pub loop-i-preserved : goal.loop-i-preserved
 loop-i-preserved c =
@@ -23,7 +23,7 @@ loop-i-preserved c =
     let g : FitsSigned w128 c.marginal-sum.result = search rules in
     let here = to_z-of_z w128 _ g ∙ c.marginal-sum.ensures.number ∙ ap (marginal t w i) c.rank.ensures.number in
     let more = IsLeftOfValue-more t w c.args.a _ _ i c.requires.function.none_negative c.loop-i.invariant (omega arith) here in
-    let fits = IsWithin-fits w _ c.marginal-sum.ensures.narrow (IsLeftOfValue-within t w c.args.a _ (i + 1) c.requires.function more) in
+    let fits = IsUpToTotal-fits w _ c.marginal-sum.ensures.narrow (IsLeftOfValue-within t w c.args.a _ (i + 1) c.requires.function more) in
     subst (λ z. IsLeftOfValue t w c.args.a z (i + 1)) (sym (to_z-of_z w128 _ fits)) more
 
 pub returns-clause-bounds : goal.returns-clause-bounds

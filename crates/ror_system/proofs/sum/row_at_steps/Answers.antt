@@ -3,7 +3,7 @@ use Rattle.std.specs.Int.{w128}
 use Rattle.std.proofs.lemmas.Int.{ints, to_z-of_z}
 use Rattle.ror_integers.specs.Vectors.{absolute_dot}
 use Rattle.ror_system.proofs.Sums.{IsLeft-more, IsLeft-over, IsLeft-end}
-use Rattle.ror_system.proofs.sum.row_sum.Goals as goal
+use Rattle.ror_system.proofs.sum.row_at_steps.Goals as goal
 
 pub returns-in_err-sum : goal.returns-in_err-sum
 returns-in_err-sum c =

@@ -2,7 +2,7 @@ use Rattle.std.proofs.Common.{ap, ◌∙◌}
 use Rattle.ror_table.specs.Table.{alternative_named}
 use Rattle.ror_table.proofs.NameLemmas.{alternative_named-from_place}
 use Rattle.ror_bench.proofs.Asking.{named_within}
-use Rattle.ror_bench.proofs.bench.alternative_named.Goals as goal
+use Rattle.ror_bench.proofs.names.alternative_named.Goals as goal
 
 pub returns-clause-exact : goal.returns-clause-exact
 returns-clause-exact c =
