@@ -8,8 +8,8 @@ ghost use Rattle.ror_fraction.specs.Wide.{unless_wide};
 use crate::divisors::common_divisor;
 use crate::fault::{FractionFault, Part};
 use crate::ratio::compare_ratios;
-use crate::signs::{is_negative, is_zero};
 use ror_word::Word;
+use ror_word::signs::{is_negative, is_zero};
 use std::cmp::Ordering;
 use std::marker::Model;
 
