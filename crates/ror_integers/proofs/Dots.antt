@@ -12,15 +12,15 @@ dot_comm [] ys = sym (dot-nil_right ys)
 dot_comm (x ∷ xs) [] = refl
 dot_comm (x ∷ xs) (y ∷ ys) = let h = dot_comm xs ys in omega (arith, sums, product_comm x y)
 
-pub dot-row_sum_left : (xs ys zs : List ℤ) → dot (sum_of_rows xs ys) zs ≡ dot xs zs +ℤ dot ys zs
-dot-row_sum_left [] ys zs = omega (arith, sums)
-dot-row_sum_left (x ∷ xs) [] zs = omega (arith, sums)
-dot-row_sum_left (x ∷ xs) (y ∷ ys) [] = refl
-dot-row_sum_left (x ∷ xs) (y ∷ ys) (z ∷ zs) = let h = dot-row_sum_left xs ys zs in omega (arith, sums, sum-product x y z)
+pub dot-sum_of_rows_left : (xs ys zs : List ℤ) → dot (sum_of_rows xs ys) zs ≡ dot xs zs +ℤ dot ys zs
+dot-sum_of_rows_left [] ys zs = omega (arith, sums)
+dot-sum_of_rows_left (x ∷ xs) [] zs = omega (arith, sums)
+dot-sum_of_rows_left (x ∷ xs) (y ∷ ys) [] = refl
+dot-sum_of_rows_left (x ∷ xs) (y ∷ ys) (z ∷ zs) = let h = dot-sum_of_rows_left xs ys zs in omega (arith, sums, sum-product x y z)
 
-pub dot-row_sum_right : (xs ys zs : List ℤ) → dot xs (sum_of_rows ys zs) ≡ dot xs ys +ℤ dot xs zs
-dot-row_sum_right xs ys zs =
-    let h = dot-row_sum_left ys zs xs in
+pub dot-sum_of_rows_right : (xs ys zs : List ℤ) → dot xs (sum_of_rows ys zs) ≡ dot xs ys +ℤ dot xs zs
+dot-sum_of_rows_right xs ys zs =
+    let h = dot-sum_of_rows_left ys zs xs in
     omega (arith, sums, dot_comm xs (sum_of_rows ys zs), dot_comm xs ys, dot_comm xs zs)
 
 pub dot-scaled_row_left : (k : ℤ) (xs ys : List ℤ) → dot (scaled_row k xs) ys ≡ k *ℤ dot xs ys
@@ -35,7 +35,7 @@ dot-scaled_row_right k xs ys = dot_comm xs (scaled_row k ys) ∙ dot-scaled_row_
 
 pub dot-row_difference_left : (xs ys zs : List ℤ) → dot (row_difference xs ys) zs ≡ dot xs zs -ℤ dot ys zs
 dot-row_difference_left xs ys zs =
-    dot-row_sum_left xs (scaled_row (negsuc 0) ys) zs ∙ ap (λ (d : ℤ). dot xs zs +ℤ d) (dot-scaled_row_left (negsuc 0) ys zs ∙ minus_one-product (dot ys zs))
+    dot-sum_of_rows_left xs (scaled_row (negsuc 0) ys) zs ∙ ap (λ (d : ℤ). dot xs zs +ℤ d) (dot-scaled_row_left (negsuc 0) ys zs ∙ minus_one-product (dot ys zs))
 
 pub dot-row_difference_right : (xs ys zs : List ℤ) → dot xs (row_difference ys zs) ≡ dot xs ys -ℤ dot xs zs
 dot-row_difference_right xs ys zs =

@@ -4,7 +4,7 @@ use Rattle.std.specs.List.{AllByRecursion}
 use Rattle.ror_integers.specs.Vectors.{entry, dot, total, ones, sum_of_rows, scaled_row, row_difference, weighted, column, NoneNegative}
 use Rattle.ror_integers.proofs.Ring.{sums, zero-product, one-product}
 use Rattle.ror_integers.proofs.Dots.{dot-nil_right, dot-zeros_left}
-use Rattle.ror_integers.proofs.Rows.{entry-row_difference, sum_of_rows-nil_right, row_sum_comm, scaled_row-one, same_from_entries, entry-weighted, length-sum_of_rows, length-scaled_row}
+use Rattle.ror_integers.proofs.Rows.{entry-row_difference, sum_of_rows-nil_right, sum_of_rows_comm, scaled_row-one, same_from_entries, entry-weighted, length-sum_of_rows, length-scaled_row}
 
 -- ---- fronts and rests
 pub take-sum_of_rows : (n : ℕ) (xs ys : List ℤ) → take n (sum_of_rows xs ys) ≡ sum_of_rows (take n xs) (take n ys)
@@ -130,7 +130,7 @@ weighted-unit k m n [] h l = absurd (omega arith)
 weighted-unit zero m n (row ∷ rows) h l =
     let e = h.0 in
     ap₂ sum_of_rows (scaled_row-one row) (weighted_zero_entries m rows)
-    ∙ row_sum_comm row (replicate (length (weighted (replicate m (pos 0)) rows)) (pos 0))
+    ∙ sum_of_rows_comm row (replicate (length (weighted (replicate m (pos 0)) rows)) (pos 0))
     ∙ sum_of_rows-zeros (length (weighted (replicate m (pos 0)) rows)) row (omega (arith, weighted-zeros m n rows h.1))
 weighted-unit (suc k) m n (row ∷ rows) h l =
     let e = h.0 in

@@ -3,7 +3,7 @@ use Rattle.std.proofs.Common.{◌≡◌, ℕ, zero, suc, ◌<◌, ◌≤◌, max
 use Rattle.std.specs.List.{AllByRecursion}
 use Rattle.ror_integers.specs.Vectors.{entry, dot, sum_of_rows, scaled_row, row_difference, weighted, dots, column}
 use Rattle.ror_integers.proofs.Ring.{sums, product_assoc, product-sum, sum-product, product-zero, one-product, minus_one-product}
-use Rattle.ror_integers.proofs.Dots.{dot-row_sum_left, dot-scaled_row_left}
+use Rattle.ror_integers.proofs.Dots.{dot-sum_of_rows_left, dot-scaled_row_left}
 
 -- ---- entries
 pub entry_past : (xs : List ℤ) (j : ℕ) → length xs ≤ j → entry xs j ≡ pos 0
@@ -77,16 +77,16 @@ pub sum_of_rows-nil_right : (xs : List ℤ) → sum_of_rows xs [] ≡ xs
 sum_of_rows-nil_right [] = refl
 sum_of_rows-nil_right (x ∷ xs) = refl
 
-pub row_sum_comm : (xs ys : List ℤ) → sum_of_rows xs ys ≡ sum_of_rows ys xs
-row_sum_comm [] ys = sym (sum_of_rows-nil_right ys)
-row_sum_comm (x ∷ xs) [] = refl
-row_sum_comm (x ∷ xs) (y ∷ ys) = ap₂ (λ (a : ℤ) (r : List ℤ). a ∷ r) (omega (arith, sums)) (row_sum_comm xs ys)
+pub sum_of_rows_comm : (xs ys : List ℤ) → sum_of_rows xs ys ≡ sum_of_rows ys xs
+sum_of_rows_comm [] ys = sym (sum_of_rows-nil_right ys)
+sum_of_rows_comm (x ∷ xs) [] = refl
+sum_of_rows_comm (x ∷ xs) (y ∷ ys) = ap₂ (λ (a : ℤ) (r : List ℤ). a ∷ r) (omega (arith, sums)) (sum_of_rows_comm xs ys)
 
-pub row_sum_assoc : (xs ys zs : List ℤ) → sum_of_rows (sum_of_rows xs ys) zs ≡ sum_of_rows xs (sum_of_rows ys zs)
-row_sum_assoc [] ys zs = refl
-row_sum_assoc (x ∷ xs) [] zs = refl
-row_sum_assoc (x ∷ xs) (y ∷ ys) [] = refl
-row_sum_assoc (x ∷ xs) (y ∷ ys) (z ∷ zs) = ap₂ (λ (a : ℤ) (r : List ℤ). a ∷ r) (omega (arith, sums)) (row_sum_assoc xs ys zs)
+pub sum_of_rows_assoc : (xs ys zs : List ℤ) → sum_of_rows (sum_of_rows xs ys) zs ≡ sum_of_rows xs (sum_of_rows ys zs)
+sum_of_rows_assoc [] ys zs = refl
+sum_of_rows_assoc (x ∷ xs) [] zs = refl
+sum_of_rows_assoc (x ∷ xs) (y ∷ ys) [] = refl
+sum_of_rows_assoc (x ∷ xs) (y ∷ ys) (z ∷ zs) = ap₂ (λ (a : ℤ) (r : List ℤ). a ∷ r) (omega (arith, sums)) (sum_of_rows_assoc xs ys zs)
 
 pub scaled_row-sum_of_rows : (k : ℤ) (xs ys : List ℤ) → scaled_row k (sum_of_rows xs ys) ≡ sum_of_rows (scaled_row k xs) (scaled_row k ys)
 scaled_row-sum_of_rows k [] ys = refl
@@ -116,11 +116,11 @@ weighted-scaled_row k (m ∷ ms) [] = refl
 weighted-scaled_row k (m ∷ ms) (row ∷ rows) =
     ap₂ sum_of_rows (sym (scaled_row-scaled_row k m row)) (weighted-scaled_row k ms rows) ∙ sym (scaled_row-sum_of_rows k (scaled_row m row) (weighted ms rows))
 
-pub row_sum_crossed : (a b c d : List ℤ) → sum_of_rows (sum_of_rows a b) (sum_of_rows c d) ≡ sum_of_rows (sum_of_rows a c) (sum_of_rows b d)
-row_sum_crossed a b c d =
-    row_sum_assoc a b (sum_of_rows c d)
-    ∙ ap (sum_of_rows a) (sym (row_sum_assoc b c d) ∙ ap (λ (r : List ℤ). sum_of_rows r d) (row_sum_comm b c) ∙ row_sum_assoc c b d)
-    ∙ sym (row_sum_assoc a c (sum_of_rows b d))
+pub sum_of_rows_crossed : (a b c d : List ℤ) → sum_of_rows (sum_of_rows a b) (sum_of_rows c d) ≡ sum_of_rows (sum_of_rows a c) (sum_of_rows b d)
+sum_of_rows_crossed a b c d =
+    sum_of_rows_assoc a b (sum_of_rows c d)
+    ∙ ap (sum_of_rows a) (sym (sum_of_rows_assoc b c d) ∙ ap (λ (r : List ℤ). sum_of_rows r d) (sum_of_rows_comm b c) ∙ sum_of_rows_assoc c b d)
+    ∙ sym (sum_of_rows_assoc a c (sum_of_rows b d))
 
 pub weighted-sum_of_rows : (ms ns : List ℤ) (rows : List (List ℤ)) → weighted (sum_of_rows ms ns) rows ≡ sum_of_rows (weighted ms rows) (weighted ns rows)
 weighted-sum_of_rows [] ns rows = refl
@@ -128,7 +128,7 @@ weighted-sum_of_rows (m ∷ ms) [] rows = sym (sum_of_rows-nil_right (weighted (
 weighted-sum_of_rows (m ∷ ms) (n ∷ ns) [] = refl
 weighted-sum_of_rows (m ∷ ms) (n ∷ ns) (row ∷ rows) =
     ap₂ sum_of_rows (scaled_row-sum m n row) (weighted-sum_of_rows ms ns rows)
-    ∙ row_sum_crossed (scaled_row m row) (scaled_row n row) (weighted ms rows) (weighted ns rows)
+    ∙ sum_of_rows_crossed (scaled_row m row) (scaled_row n row) (weighted ms rows) (weighted ns rows)
 
 pub weighted-append : (ms ns : List ℤ) (rows more : List (List ℤ)) → length ms ≡ length rows → weighted (ms ++ ns) (rows ++ more) ≡ sum_of_rows (weighted ms rows) (weighted ns more)
 weighted-append [] ns [] more e = refl
@@ -136,7 +136,7 @@ weighted-append [] ns (row ∷ rows) more e = absurd (omega arith)
 weighted-append (m ∷ ms) ns [] more e = absurd (omega arith)
 weighted-append (m ∷ ms) ns (row ∷ rows) more e =
     ap (sum_of_rows (scaled_row m row)) (weighted-append ms ns rows more (omega arith))
-    ∙ sym (row_sum_assoc (scaled_row m row) (weighted ms rows) (weighted ns more))
+    ∙ sym (sum_of_rows_assoc (scaled_row m row) (weighted ms rows) (weighted ns more))
 
 -- where all rows have n entries, so has a combination of one or more of them
 pub length-weighted : (n : ℕ) (ms : List ℤ) (rows : List (List ℤ)) → AllByRecursion (λ row. length row ≡ n) rows → 0 < length ms → 0 < length rows → length (weighted ms rows) ≡ n
@@ -155,7 +155,7 @@ dot-weighted [] rows x = refl
 dot-weighted (m ∷ ms) [] x = refl
 dot-weighted (m ∷ ms) (row ∷ rows) x =
     let h = dot-weighted ms rows x in
-    omega (arith, sums, dot-row_sum_left (scaled_row m row) (weighted ms rows) x, dot-scaled_row_left m row x)
+    omega (arith, sums, dot-sum_of_rows_left (scaled_row m row) (weighted ms rows) x, dot-scaled_row_left m row x)
 
 pub dots-append : (rows more : List (List ℤ)) (x : List ℤ) → dots (rows ++ more) x ≡ dots rows x ++ dots more x
 dots-append [] more x = refl
