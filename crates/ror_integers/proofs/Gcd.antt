@@ -238,3 +238,7 @@ pub zeros_from_gcd_of : (xs : List ℤ) (j : ℕ) → gcd_of xs ≡ 0 → entry 
 zeros_from_gcd_of xs j e =
     let a = eq-zero_of_zero-dvd (subst (λ (g : ℕ). g ∣ unsigned_abs (entry xs j)) e (gcd_of-entry xs j)) in
     omega (arith, sums)
+
+-- a list with a 1 among its entries
+pub one_is_coprime : (xs : List ℤ) (j : ℕ) → entry xs j ≡ pos 1 → gcd_of xs ≡ 1
+one_is_coprime xs j e = eq-one_of_dvd-one (subst (λ (n : ℕ). gcd_of xs ∣ n) (ap unsigned_abs e) (gcd_of-entry xs j))

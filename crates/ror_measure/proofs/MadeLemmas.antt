@@ -1,5 +1,5 @@
 -- A row, and the rows, entry by entry and number by number.
-use Rattle.std.proofs.Common.{◌≡◌, ℕ, zero, suc, ◌+◌, ◌*◌, ◌/◌, ◌%◌, ◌^◌, ◌<◌, Bool, true, false, List, [], ◌∷◌, ◌++◌, length, map, ℤ, pos, ◌-ℤ◌, nat_lt, if◌then◌else◌, refl, ap, ap₂, sym, ◌∙◌, subst, rules, arith, add-one, mod-lt}
+use Rattle.std.proofs.Common.{◌≡◌, ℕ, zero, suc, ◌+◌, ◌*◌, ◌/◌, ◌%◌, ◌^◌, ◌<◌, Bool, true, false, List, [], ◌∷◌, ◌++◌, length, map, ℤ, pos, ◌-ℤ◌, nat_lt, if◌then◌else◌, refl, ap, ap₂, sym, ◌∙◌, rules, arith, add-one, mod-lt}
 use Rattle.std.specs.List.{range_with_len, AllByRecursion}
 use Rattle.std.proofs.lemmas.Int.{ints}
 use Rattle.std.proofs.lemmas.List.FromFn.{map-range_with_len_more, length-map-range_with_len}
@@ -7,7 +7,7 @@ use Rattle.ror_system.specs.System.{IsNarrow}
 use Rattle.ror_measure.specs.declared.systems.Kind.{Kind}
 use Rattle.ror_measure.specs.declared.systems.Kind.TheVariants.{Statements, Dense}
 use Rattle.ror_measure.specs.Numbers.{next_state, drawn, state_after, draw}
-use Rattle.ror_measure.specs.Made.{step_entry, statement_entry, dense_entry, made_entry, draws_of, made_row, made_rows}
+use Rattle.ror_measure.specs.Made.{step_entry, made_entry, draws_of, made_row, made_rows}
 
 -- ---- states
 pub state_at_start : (state : ℕ) → state ≡ state_after 0 state

@@ -1,8 +1,8 @@
 -- The number that is pushed is the next one's entry.
-use Rattle.std.proofs.Common.{rules, ◌≡◌, ◌+◌, ◌++◌, ◌∷◌, [], ℤ, pos, ◌-ℤ◌, to_z, FitsSigned, refl, ap, sym, ◌∙◌, subst, arith}
+use Rattle.std.proofs.Common.{rules, ◌≡◌, pos, ◌-ℤ◌, to_z, FitsSigned, ap, sym, ◌∙◌, subst}
 use Rattle.std.specs.Int.{w128}
 use Rattle.std.specs.List.{AllByRecursion}
-use Rattle.std.proofs.lemmas.Int.{ints, to_z-of_z}
+use Rattle.std.proofs.lemmas.Int.{to_z-of_z}
 use Rattle.ror_system.specs.System.{IsNarrow}
 use Rattle.ror_measure.specs.declared.systems.Kind.TheVariants.{Dense}
 use Rattle.ror_measure.specs.Numbers.{next_state, drawn}

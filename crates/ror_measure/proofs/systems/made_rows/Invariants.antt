@@ -1,4 +1,4 @@
-use Rattle.std.proofs.Common.{◌≡◌, ◌-◌}
+use Rattle.std.proofs.Common.{◌-◌}
 use Rattle.ror_measure.proofs.MadeLemmas.{AreMade}
 use Rattle.ror_measure.proofs.systems.made_rows.Given as goal
 

@@ -1,7 +1,6 @@
 -- Each row has an entry for each column, and there are as many as are planned.
-use Rattle.std.proofs.Common.{◌≡◌, ◌∷◌, ◌-◌, List, ℤ, length, rules, ap, sym, subst, arith}
+use Rattle.std.proofs.Common.{◌≡◌, ◌-◌, List, ℤ, length, rules, ap, sym, subst, arith}
 use Rattle.std.specs.List.{AllByRecursion}
-use Rattle.ror_measure.specs.Made.{made_rows}
 use Rattle.ror_measure.proofs.MadeLemmas.{made_rows_widths, length-made_rows}
 use Rattle.ror_measure.proofs.systems.made_system.Goals as goal
 

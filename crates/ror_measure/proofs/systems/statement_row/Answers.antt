@@ -1,5 +1,5 @@
 -- The entry that is pushed is that of the step, by the ranks of its criterion.
-use Rattle.std.proofs.Common.{rules, ◌≡◌, ◌+◌, FitsSigned, sym, subst, arith}
+use Rattle.std.proofs.Common.{rules, ◌+◌, FitsSigned, sym, subst, arith}
 use Rattle.std.specs.Int.{w128}
 use Rattle.std.proofs.lemmas.Int.{to_z-of_z}
 use Rattle.std.specs.List.{AllByRecursion}
