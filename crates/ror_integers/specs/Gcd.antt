@@ -46,12 +46,19 @@ pub record GcdLaws : Type 0 where
   pub multiple_of_first : (m n : ℕ) → m ∣ least_common_multiple m n
   pub multiple_of_second : (m n : ℕ) → n ∣ least_common_multiple m n
   pub multiple_positive : (m n : ℕ) → 0 < m → 0 < n → 0 < least_common_multiple m n
-  pub least_of_multiples : (m n k : ℕ) → 0 < m → 0 < n → m ∣ k → n ∣ k → least_common_multiple m n ∣ k
+  pub least_of_multiples :
+      (m n k : ℕ)
+      → 0 < m → 0 < n → m ∣ k → n ∣ k → least_common_multiple m n ∣ k
   pub divides_each : (xs : List ℤ) → DividesAll (gcd_of xs) xs
   pub greatest : (d : ℕ) (xs : List ℤ) → DividesAll d xs → d ∣ gcd_of xs
   pub scales : (k : ℤ) (xs : List ℤ) → gcd_of (scaled_row k xs) ≡ unsigned_abs k * gcd_of xs
   pub gauss : (a b c : ℕ) → gcd a b ≡ 1 → a ∣ b * c → a ∣ c
   pub quotient_is_exact : (x : ℤ) (d : ℕ) → d ∣ unsigned_abs x → exact_quotient x d *ℤ pos d ≡ x
-  pub divided_times : (xs : List ℤ) (d : ℕ) → DividesAll d xs → scaled_row (pos d) (divided xs d) ≡ xs
+  pub divided_times :
+      (xs : List ℤ) (d : ℕ)
+      → DividesAll d xs → scaled_row (pos d) (divided xs d) ≡ xs
   pub divided_coprime : (xs : List ℤ) → 0 < gcd_of xs → gcd_of (divided xs (gcd_of xs)) ≡ 1
-  pub quotients_coprime : (a b : ℤ) → 0 < int_gcd a b → int_gcd (exact_quotient a (int_gcd a b)) (exact_quotient b (int_gcd a b)) ≡ 1
+  pub quotients_coprime :
+      (a b : ℤ)
+      → 0 < int_gcd a b
+      → int_gcd (exact_quotient a (int_gcd a b)) (exact_quotient b (int_gcd a b)) ≡ 1

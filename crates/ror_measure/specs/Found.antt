@@ -14,8 +14,12 @@ use Rattle.ror_measure.specs.declared.systems.Found.TheVariants.{Solution, Multi
 -- rows, or how many pivots come before the first number that passes most
 abbrev pub IsFound : ℕ → LinearSystem → Found → Type 0
 IsFound most s (Solution sum) = (steps : List ℤ) × EndsFeasible most s steps × (sum ≡ total steps)
-IsFound most s (Multipliers sum) = (strict : List ℤ) × EndsInfeasible most s [] strict × MatchOption sum (((pos 0 <ℤ total strict) × IsNarrow (total strict)) → ⊥) (λ n. n ≡ total strict)
-IsFound most s (TooWide pivots) = (path : List (ℕ × ℕ)) × (place : Place) × IsWideNote most s path place × (pivots ≡ length path)
+IsFound most s (Multipliers sum) =
+    (strict : List ℤ) × EndsInfeasible most s [] strict
+    × MatchOption sum (((pos 0 <ℤ total strict) × IsNarrow (total strict)) → ⊥)
+    (λ n. n ≡ total strict)
+IsFound most s (TooWide pivots) =
+    (path : List (ℕ × ℕ)) × (place : Place) × IsWideNote most s path place × (pivots ≡ length path)
 
 -- it is found at the width of so many bits, of the plan's system
 abbrev pub IsFoundOfPlan : ℕ → Plan → Found → Type 0

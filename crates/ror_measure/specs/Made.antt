@@ -41,7 +41,8 @@ made_row kind columns state = map (made_entry kind state) (range_with_len 0 colu
 -- so many rows, one after the other
 abbrev pub made_rows : Kind → ℕ → ℕ → ℕ → List (List ℤ)
 made_rows kind columns number n =
-    map (λ i. made_row kind columns (state_after (i * draws_of kind columns) number)) (range_with_len 0 n)
+    map (λ i. made_row kind columns (state_after (i * draws_of kind columns) number))
+    (range_with_len 0 n)
 
 abbrev pub system_of_plan : Plan → LinearSystem
 system_of_plan plan = record {

@@ -97,7 +97,8 @@ pub(crate) fn plus_column<W: Word>(start: W, multipliers: &[W], rows: &[Row], j:
     requires lengths { length multipliers.now ≡ length rows.now }
     requires values { AllByRecursion (λ word. IsWithin W.most (W.value word)) multipliers.now }
     requires widths { AllByRecursion (λ row. j < length row) rows.now }
-    ensures { GivesExact W.value W.most result (W.value start +ℤ pos (absolute_dot (map W.value multipliers.now) (column rows.now j))) }
+    ensures { GivesExact W.value W.most result
+        (W.value start +ℤ pos (absolute_dot (map W.value multipliers.now) (column rows.now j))) }
 {
     let mut sum = start;
     for i in 0..rows.len() {
