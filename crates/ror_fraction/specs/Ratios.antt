@@ -23,7 +23,9 @@ lowest n d = record { numerator = lowest_numerator n d; denominator = lowest_den
 
 -- x + y in lowest terms
 abbrev pub sum_of : Ratio → Ratio → Ratio
-sum_of x y = lowest (x.numerator *ℤ y.denominator +ℤ y.numerator *ℤ x.denominator) (x.denominator *ℤ y.denominator)
+sum_of x y =
+    lowest (x.numerator *ℤ y.denominator +ℤ y.numerator *ℤ x.denominator)
+    (x.denominator *ℤ y.denominator)
 
 -- the numbers that a sum is made by: each numerator over the common denominator, their sum, the denominator
 abbrev pub sum_numbers : Ratio → Ratio → List (Part × ℤ)

@@ -8,8 +8,8 @@ ghost use Rattle.ror_fraction.specs.Wide.{unless_wide};
 use crate::divisors::common_divisor;
 use crate::fault::{FractionFault, Part};
 use crate::ratio::compare_ratios;
-use crate::signs::{is_negative, is_zero};
 use ror_word::Word;
+use ror_word::signs::{is_negative, is_zero};
 use std::cmp::Ordering;
 use std::marker::Model;
 
@@ -29,7 +29,8 @@ impl<W: Word> Model for Fraction<W> {
 
     ghost view = { λ f. record { numerator = W.value f.num; denominator = W.value f.den } };
 
-    ghost invariant = { λ f. IsLowest (record { numerator = W.value f.num; denominator = W.value f.den })
+    ghost invariant = { λ f.
+        IsLowest (record { numerator = W.value f.num; denominator = W.value f.den })
         × IsWithin W.most (W.value f.num) × IsWithin W.most (W.value f.den) };
 }
 
@@ -42,7 +43,8 @@ impl<W: Word> Fraction<W> {
     pub fn new(n: W, d: W) -> Result<Fraction<W>, FractionFault>
         requires n_value { IsWithin W.most (W.value n) }
         requires d_value { IsWithin W.most (W.value d) }
-        ensures exact { MatchResult result (λ f. (W.value d ≢ pos 0) × (f ≡ lowest (W.value n) (W.value d)))
+        ensures exact { MatchResult result
+            (λ f. (W.value d ≢ pos 0) × (f ≡ lowest (W.value n) (W.value d)))
             (λ e. (W.value d ≡ pos 0) × (e ≡ FractionFault.ZeroDenominator)) }
         ensures lowest { IfOk result IsLowest }
     {
@@ -118,7 +120,8 @@ impl<W: Word> Fraction<W> {
     ///
     /// As those of that sum.
     pub fn sub(&self, o: &Fraction<W>) -> Result<Fraction<W>, FractionFault>
-        ensures exact { result ≡ unless_wide FractionFault.Wide W.most (sum_numbers self.now (negated o.now))
+        ensures exact { result
+            ≡ unless_wide FractionFault.Wide W.most (sum_numbers self.now (negated o.now))
             (sum_of self.now (negated o.now)) }
         ensures lowest { IfOk result IsLowest }
     {
@@ -131,7 +134,8 @@ impl<W: Word> Fraction<W> {
     ///
     /// `Wide` at the first part of `Numerator` and `Denominator` that passes `MOST`.
     pub fn mul(&self, o: &Fraction<W>) -> Result<Fraction<W>, FractionFault>
-        ensures exact { result ≡ unless_wide FractionFault.Wide W.most (product_numbers self.now o.now)
+        ensures exact { result
+            ≡ unless_wide FractionFault.Wide W.most (product_numbers self.now o.now)
             (product_of self.now o.now) }
         ensures lowest { IfOk result IsLowest }
     {
@@ -158,7 +162,8 @@ impl<W: Word> Fraction<W> {
     pub fn div(&self, o: &Fraction<W>) -> Result<Fraction<W>, FractionFault>
         ensures by_zero { o.now.numerator ≡ pos 0 → result ≡ Err FractionFault.DivideByZero }
         ensures exact { o.now.numerator ≢ pos 0 →
-            result ≡ unless_wide FractionFault.Wide W.most (product_numbers self.now (reciprocal o.now))
+            result
+            ≡ unless_wide FractionFault.Wide W.most (product_numbers self.now (reciprocal o.now))
             (product_of self.now (reciprocal o.now)) }
         ensures lowest { IfOk result IsLowest }
     {

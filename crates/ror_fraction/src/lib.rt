@@ -8,7 +8,6 @@ mod fraction;
 pub mod laws;
 mod ratio;
 mod row;
-mod signs;
 
 pub use fault::{FractionFault, Part, RowFault, RowPart};
 pub use fraction::Fraction;

@@ -4,8 +4,8 @@ ghost use Rattle.std.specs.Prelude.{◌≡◌, pos, ◌<ℤ◌};
 ghost use Rattle.ror_integers.specs.FractionOrder.{fraction_cmp};
 ghost use Rattle.ror_word.specs.Within.{IsWithin};
 
-use crate::signs::is_zero;
 use ror_word::Word;
+use ror_word::signs::is_zero;
 use std::cmp::Ordering;
 
 /// How `a / p` compares with `b / q`. It takes no memory and never refuses.

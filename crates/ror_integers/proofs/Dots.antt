@@ -1,6 +1,6 @@
 -- Dot products are linear in both arguments; a loop's steps; the bound by absolute values.
 use Rattle.std.proofs.Common.{◌≡◌, ℕ, zero, suc, ◌+◌, ◌<◌, ◌≤◌, List, [], ◌∷◌, ◌++◌, length, take, drop, replicate, ℤ, pos, negsuc, ◌+ℤ◌, ◌-ℤ◌, ◌*ℤ◌, unsigned_abs, refl, ap, sym, ◌∙◌, arith, add-one, drop-cons}
-use Rattle.ror_integers.specs.Vectors.{entry, dot, absolute_dot, total, ones, row_sum, scaled_row, row_difference}
+use Rattle.ror_integers.specs.Vectors.{entry, dot, absolute_dot, total, ones, sum_of_rows, scaled_row, row_difference}
 use Rattle.ror_integers.proofs.Ring.{sums, product_comm, product_assoc, product-sum, sum-product, product-zero, zero-product, one-product, minus_one-product}
 
 pub dot-nil_right : (xs : List ℤ) → dot xs [] ≡ pos 0
@@ -12,16 +12,16 @@ dot_comm [] ys = sym (dot-nil_right ys)
 dot_comm (x ∷ xs) [] = refl
 dot_comm (x ∷ xs) (y ∷ ys) = let h = dot_comm xs ys in omega (arith, sums, product_comm x y)
 
-pub dot-row_sum_left : (xs ys zs : List ℤ) → dot (row_sum xs ys) zs ≡ dot xs zs +ℤ dot ys zs
-dot-row_sum_left [] ys zs = omega (arith, sums)
-dot-row_sum_left (x ∷ xs) [] zs = omega (arith, sums)
-dot-row_sum_left (x ∷ xs) (y ∷ ys) [] = refl
-dot-row_sum_left (x ∷ xs) (y ∷ ys) (z ∷ zs) = let h = dot-row_sum_left xs ys zs in omega (arith, sums, sum-product x y z)
+pub dot-sum_of_rows_left : (xs ys zs : List ℤ) → dot (sum_of_rows xs ys) zs ≡ dot xs zs +ℤ dot ys zs
+dot-sum_of_rows_left [] ys zs = omega (arith, sums)
+dot-sum_of_rows_left (x ∷ xs) [] zs = omega (arith, sums)
+dot-sum_of_rows_left (x ∷ xs) (y ∷ ys) [] = refl
+dot-sum_of_rows_left (x ∷ xs) (y ∷ ys) (z ∷ zs) = let h = dot-sum_of_rows_left xs ys zs in omega (arith, sums, sum-product x y z)
 
-pub dot-row_sum_right : (xs ys zs : List ℤ) → dot xs (row_sum ys zs) ≡ dot xs ys +ℤ dot xs zs
-dot-row_sum_right xs ys zs =
-    let h = dot-row_sum_left ys zs xs in
-    omega (arith, sums, dot_comm xs (row_sum ys zs), dot_comm xs ys, dot_comm xs zs)
+pub dot-sum_of_rows_right : (xs ys zs : List ℤ) → dot xs (sum_of_rows ys zs) ≡ dot xs ys +ℤ dot xs zs
+dot-sum_of_rows_right xs ys zs =
+    let h = dot-sum_of_rows_left ys zs xs in
+    omega (arith, sums, dot_comm xs (sum_of_rows ys zs), dot_comm xs ys, dot_comm xs zs)
 
 pub dot-scaled_row_left : (k : ℤ) (xs ys : List ℤ) → dot (scaled_row k xs) ys ≡ k *ℤ dot xs ys
 dot-scaled_row_left k [] ys = sym (product-zero k)
@@ -35,7 +35,7 @@ dot-scaled_row_right k xs ys = dot_comm xs (scaled_row k ys) ∙ dot-scaled_row_
 
 pub dot-row_difference_left : (xs ys zs : List ℤ) → dot (row_difference xs ys) zs ≡ dot xs zs -ℤ dot ys zs
 dot-row_difference_left xs ys zs =
-    dot-row_sum_left xs (scaled_row (negsuc 0) ys) zs ∙ ap (λ (d : ℤ). dot xs zs +ℤ d) (dot-scaled_row_left (negsuc 0) ys zs ∙ minus_one-product (dot ys zs))
+    dot-sum_of_rows_left xs (scaled_row (negsuc 0) ys) zs ∙ ap (λ (d : ℤ). dot xs zs +ℤ d) (dot-scaled_row_left (negsuc 0) ys zs ∙ minus_one-product (dot ys zs))
 
 pub dot-row_difference_right : (xs ys zs : List ℤ) → dot xs (row_difference ys zs) ≡ dot xs ys -ℤ dot xs zs
 dot-row_difference_right xs ys zs =
@@ -75,10 +75,10 @@ pub total-append : (xs ys : List ℤ) → total (xs ++ ys) ≡ total xs +ℤ tot
 total-append [] ys = omega (arith, sums)
 total-append (x ∷ xs) ys = let h = total-append xs ys in omega (arith, sums)
 
-pub total-row_sum : (xs ys : List ℤ) → total (row_sum xs ys) ≡ total xs +ℤ total ys
-total-row_sum [] ys = omega (arith, sums)
-total-row_sum (x ∷ xs) [] = omega (arith, sums)
-total-row_sum (x ∷ xs) (y ∷ ys) = let h = total-row_sum xs ys in omega (arith, sums)
+pub total-sum_of_rows : (xs ys : List ℤ) → total (sum_of_rows xs ys) ≡ total xs +ℤ total ys
+total-sum_of_rows [] ys = omega (arith, sums)
+total-sum_of_rows (x ∷ xs) [] = omega (arith, sums)
+total-sum_of_rows (x ∷ xs) (y ∷ ys) = let h = total-sum_of_rows xs ys in omega (arith, sums)
 
 pub total-scaled_row : (k : ℤ) (xs : List ℤ) → total (scaled_row k xs) ≡ k *ℤ total xs
 total-scaled_row k [] = sym (product-zero k)
@@ -87,7 +87,7 @@ total-scaled_row k (x ∷ xs) = let h = total-scaled_row k xs in omega (arith, s
 pub total-row_difference : (xs ys : List ℤ) → total (row_difference xs ys) ≡ total xs -ℤ total ys
 total-row_difference xs ys =
     let h = total-scaled_row (negsuc 0) ys in
-    omega (arith, sums, total-row_sum xs (scaled_row (negsuc 0) ys), minus_one-product (total ys))
+    omega (arith, sums, total-sum_of_rows xs (scaled_row (negsuc 0) ys), minus_one-product (total ys))
 
 pub total-ones : (n : ℕ) → total (ones n) ≡ pos n
 total-ones zero = refl

@@ -1,12 +1,12 @@
 -- Greatest common divisors of two numbers and of a list; Gauss's lemma; exact quotients.
-use Rattle.std.proofs.Common.{◌≡◌, ℕ, zero, suc, ◌+◌, ◌*◌, ◌/◌, ◌%◌, ◌<◌, ◌≤◌, List, [], ◌∷◌, ◌++◌, length, drop, ℤ, pos, negsuc, ◌*ℤ◌, neg_ℤ, unsigned_abs, refl, ap, ap₂, sym, ◌∙◌, subst, arith, add-one, drop-cons, mul_comm, mod-lt, mul-one, div-add-mod', mul-add}
+use Rattle.std.proofs.Common.{◌≡◌, ℕ, zero, suc, ◌+◌, ◌*◌, ◌/◌, ◌%◌, ◌<◌, ◌≤◌, List, [], ◌∷◌, ◌++◌, length, drop, ℤ, pos, negsuc, ◌*ℤ◌, neg_ℤ, unsigned_abs, refl, ap, ap₂, sym, ◌∙◌, subst, arith, add-one, drop-cons, mul_comm, mod-lt, mul-one, mul-pos, div-add-mod', mul-add}
 use Prim.Native.Nat.{◌∣◌}
 use Rattle.std.specs.Int.{IsGcd}
-use Rattle.std.proofs.Math.Nat.{dvd-zero, dvd_trans, dvd_antisymm, dvd-mul_left, dvd-mul_right_of_dvd, dvd-add_iff_right, mul-dvd-mul_left, mod-eq-zero_of_dvd, eq-zero_of_zero-dvd, eq-one_of_dvd-one, pos_of_dvd_of_pos}
+use Rattle.std.proofs.Math.Nat.{dvd-zero, dvd_trans, dvd_antisymm, dvd-mul_left, dvd-mul_right_of_dvd, dvd-add_iff_right, div-mul_cancel, mul-dvd-mul_left, mul-dvd-mul_right, dvd_of_mul-dvd-mul_right, mod-eq-zero_of_dvd, eq-zero_of_zero-dvd, eq-one_of_dvd-one, pos_of_dvd_of_pos}
 use Rattle.std.proofs.lemmas.Nat.Gcd.{IsGcd-from_zero, IsGcd-from_mod, same_from_IsGcd, IsGcd-swap}
 use Rattle.std.proofs.lemmas.Int.{ints, quot-rem, unsigned_abs-mul}
 use Rattle.ror_integers.specs.Vectors.{entry, scaled_row}
-use Rattle.ror_integers.specs.Gcd.{gcd_within, gcd, int_gcd, gcd_of, DividesAll, exact_quotient, divided}
+use Rattle.ror_integers.specs.Gcd.{gcd_within, gcd, least_common_multiple, int_gcd, gcd_of, DividesAll, exact_quotient, divided}
 use Rattle.ror_integers.proofs.Ring.{sums, product_comm}
 use Rattle.ror_integers.proofs.Order.{cancel}
 
@@ -99,6 +99,39 @@ coprime_product a b c e f =
     let q = gcd-dvd_right a (b * c) in
     let s = eq-one_of_dvd-one (subst (λ (x : ℕ). gcd d b ∣ x) e (dvd-gcd (gcd d b) a b (dvd_trans (gcd d b) (gcd-dvd_left d b) p) (gcd-dvd_right d b))) in
     eq-one_of_dvd-one (subst (λ (x : ℕ). d ∣ x) f (dvd-gcd d a c p (gauss d b c s q)))
+
+-- ---- least common multiples
+pub multiple_of_first : (m n : ℕ) → m ∣ least_common_multiple m n
+multiple_of_first m n =
+    let g = gcd m n in
+    let a : m / g * g ≡ m = div-mul_cancel g (gcd-dvd_left m n) in
+    let b : n / g * g ≡ n = div-mul_cancel g (gcd-dvd_right m n) in
+    let c : n / g * m ≡ m / g * n = omega (arith, ap (λ (x : ℕ). n / g * x) a, ap (λ (x : ℕ). m / g * x) b) in
+    subst (λ (x : ℕ). m ∣ x) c (dvd-mul_left m (n / g))
+
+pub multiple_of_second : (m n : ℕ) → n ∣ least_common_multiple m n
+multiple_of_second m n = dvd-mul_left n (m / gcd m n)
+
+pub multiple_positive : (m n : ℕ) → 0 < m → 0 < n → 0 < least_common_multiple m n
+multiple_positive m n hm hn =
+    let g = gcd m n in
+    let a : m / g * g ≡ m = div-mul_cancel g (gcd-dvd_left m n) in
+    mul-pos (factor_positive (m / g) g (omega arith)) hn
+  where
+    factor_positive : (a b : ℕ) → 0 < a * b → 0 < a
+    factor_positive zero b h = absurd (omega arith)
+    factor_positive (suc a) b h = omega arith
+
+-- the product of both is theirs times the greatest common divisor, and divides k times both
+pub least_of_multiples : (m n k : ℕ) → 0 < m → 0 < n → m ∣ k → n ∣ k → least_common_multiple m n ∣ k
+least_of_multiples m n k hm hn p q =
+    let g = gcd m n in
+    let a : m / g * g ≡ m = div-mul_cancel g (gcd-dvd_left m n) in
+    let b : m / g * n * g ≡ m * n = omega (arith, ap (λ (x : ℕ). x * n) a) in
+    let over_first : m * n ∣ k * m = subst (λ (x : ℕ). x ∣ k * m) (mul_comm n m) (mul-dvd-mul_right n q m) in
+    let over_second : m * n ∣ k * n = mul-dvd-mul_right m p n in
+    dvd_of_mul-dvd-mul_right (m / g * n) (gcd_positive_left m n hm)
+    (subst (λ (x : ℕ). x ∣ k * g) (sym b) (dvd-times_gcd m n k (m * n) over_first over_second))
 
 -- ---- exact quotients
 pub exact_quotient_times : (x : ℤ) (d : ℕ) → d ∣ unsigned_abs x → exact_quotient x d *ℤ pos d ≡ x
@@ -205,3 +238,7 @@ pub zeros_from_gcd_of : (xs : List ℤ) (j : ℕ) → gcd_of xs ≡ 0 → entry 
 zeros_from_gcd_of xs j e =
     let a = eq-zero_of_zero-dvd (subst (λ (g : ℕ). g ∣ unsigned_abs (entry xs j)) e (gcd_of-entry xs j)) in
     omega (arith, sums)
+
+-- a list with a 1 among its entries
+pub one_is_coprime : (xs : List ℤ) (j : ℕ) → entry xs j ≡ pos 1 → gcd_of xs ≡ 1
+one_is_coprime xs j e = eq-one_of_dvd-one (subst (λ (n : ℕ). gcd_of xs ∣ n) (ap unsigned_abs e) (gcd_of-entry xs j))

@@ -3,7 +3,7 @@ use Rattle.std.proofs.Common.{◌≡◌, ◌⊎◌, ◌↔◌, inl, inr, List, [
 use Rattle.std.specs.Ordering.{ordering_reverse, ordering_then}
 use Rattle.std.specs.Cmp.{IsTotalOrder}
 use Rattle.std.proofs.lemmas.Cmp.{int_cmp_total, lists_total, tied_itself}
-use Rattle.ror_integers.specs.Vectors.{row_sum, scaled_row, row_difference}
+use Rattle.ror_integers.specs.Vectors.{sum_of_rows, scaled_row, row_difference}
 use Rattle.ror_integers.specs.LexicographicOrder.{lexicographic_cmp, scaled_lexicographic_cmp, LexicographicallyPositive}
 use Rattle.ror_integers.proofs.Ring.{sums, product_comm, minus_one-product, product-zero}
 use Rattle.ror_integers.proofs.Order.{product_positive, positive_factor, cancel}
@@ -103,16 +103,16 @@ lexicographically_positive_from_scaled_row k [] h p = p
 lexicographically_positive_from_scaled_row k (x ∷ xs) h (inl p) = inl (positive_factor k x h p)
 lexicographically_positive_from_scaled_row k (x ∷ xs) h (inr p) = inr (cancel k x (pos 0) h (p.0 ∙ sym (product-zero k)), lexicographically_positive_from_scaled_row k xs h p.1)
 
-pub lexicographically_positive-row_sum : (xs ys : List ℤ) → LexicographicallyPositive xs → LexicographicallyPositive ys → LexicographicallyPositive (row_sum xs ys)
-lexicographically_positive-row_sum [] ys p q = q
-lexicographically_positive-row_sum (x ∷ xs) [] p q = p
-lexicographically_positive-row_sum (x ∷ xs) (y ∷ ys) (inl p) (inl q) = inl (omega (arith, sums))
-lexicographically_positive-row_sum (x ∷ xs) (y ∷ ys) (inl p) (inr q) = let e = q.0 in inl (omega (arith, sums))
-lexicographically_positive-row_sum (x ∷ xs) (y ∷ ys) (inr p) (inl q) = let e = p.0 in inl (omega (arith, sums))
-lexicographically_positive-row_sum (x ∷ xs) (y ∷ ys) (inr p) (inr q) =
+pub lexicographically_positive-sum_of_rows : (xs ys : List ℤ) → LexicographicallyPositive xs → LexicographicallyPositive ys → LexicographicallyPositive (sum_of_rows xs ys)
+lexicographically_positive-sum_of_rows [] ys p q = q
+lexicographically_positive-sum_of_rows (x ∷ xs) [] p q = p
+lexicographically_positive-sum_of_rows (x ∷ xs) (y ∷ ys) (inl p) (inl q) = inl (omega (arith, sums))
+lexicographically_positive-sum_of_rows (x ∷ xs) (y ∷ ys) (inl p) (inr q) = let e = q.0 in inl (omega (arith, sums))
+lexicographically_positive-sum_of_rows (x ∷ xs) (y ∷ ys) (inr p) (inl q) = let e = p.0 in inl (omega (arith, sums))
+lexicographically_positive-sum_of_rows (x ∷ xs) (y ∷ ys) (inr p) (inr q) =
     let e = p.0 in
     let f = q.0 in
-    inr (omega (arith, sums), lexicographically_positive-row_sum xs ys p.1 q.1)
+    inr (omega (arith, sums), lexicographically_positive-sum_of_rows xs ys p.1 q.1)
 
 -- of two lists of one length the second is greater exactly where it exceeds the first by a positive list
 pub lexicographic_less : (xs ys : List ℤ) → length xs ≡ length ys → (lexicographic_cmp xs ys ≡ Less) ↔ LexicographicallyPositive (row_difference ys xs)
@@ -138,11 +138,11 @@ lexicographic_less xs ys e = (out xs ys e, back xs ys e)
         ap (λ (o : Ordering). ordering_then o (lexicographic_cmp xs ys)) (is_equal x y (omega (arith, sums, minus_one-product x))) ∙ back xs ys (omega arith) p.1
 
 -- a list grows by a positive list of its length
-pub lexicographic_grows : (xs ys : List ℤ) → length xs ≡ length ys → LexicographicallyPositive ys → lexicographic_cmp xs (row_sum xs ys) ≡ Less
+pub lexicographic_grows : (xs ys : List ℤ) → length xs ≡ length ys → LexicographicallyPositive ys → lexicographic_cmp xs (sum_of_rows xs ys) ≡ Less
 lexicographic_grows [] [] e p = absurd p
 lexicographic_grows [] (y ∷ ys) e p = absurd (omega arith)
 lexicographic_grows (x ∷ xs) [] e p = absurd (omega arith)
-lexicographic_grows (x ∷ xs) (y ∷ ys) e (inl p) = ap (λ (o : Ordering). ordering_then o (lexicographic_cmp xs (row_sum xs ys))) (is_less x (x +ℤ y) (omega (arith, sums)))
+lexicographic_grows (x ∷ xs) (y ∷ ys) e (inl p) = ap (λ (o : Ordering). ordering_then o (lexicographic_cmp xs (sum_of_rows xs ys))) (is_less x (x +ℤ y) (omega (arith, sums)))
 lexicographic_grows (x ∷ xs) (y ∷ ys) e (inr p) =
     let q = p.0 in
-    ap (λ (o : Ordering). ordering_then o (lexicographic_cmp xs (row_sum xs ys))) (is_equal x (x +ℤ y) (omega (arith, sums))) ∙ lexicographic_grows xs ys (omega arith) p.1
+    ap (λ (o : Ordering). ordering_then o (lexicographic_cmp xs (sum_of_rows xs ys))) (is_equal x (x +ℤ y) (omega (arith, sums))) ∙ lexicographic_grows xs ys (omega arith) p.1

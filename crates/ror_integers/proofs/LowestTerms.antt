@@ -3,12 +3,12 @@ use Rattle.std.proofs.Common.{◌≡◌, ◌≢◌, ℕ, zero, suc, ◌*◌, ◌
 use Prim.Native.Nat.{◌∣◌}
 use Rattle.std.proofs.Math.Nat.{dvd_antisymm, dvd-mul_left}
 use Rattle.std.proofs.lemmas.Int.{ints, unsigned_abs-mul}
-use Rattle.ror_integers.specs.Vectors.{scaled_row}
+use Rattle.ror_integers.specs.Vectors.{entry, scaled_row}
 use Rattle.ror_integers.specs.Gcd.{gcd, int_gcd, gcd_of, DividesAll, exact_quotient, divided}
 use Rattle.ror_integers.specs.LowestTerms.{IsLowestTerms, signed_by, lowest_numerator, lowest_denominator, reduced}
 use Rattle.ror_integers.proofs.Ring.{product_comm, negation-product, product-negation}
 use Rattle.ror_integers.proofs.Order.{cancel, positive_factor}
-use Rattle.ror_integers.proofs.Gcd.{gcd-dvd_left, gcd-dvd_right, gcd_comm, gcd_scaled, gauss, gcd_positive_right, exact_quotient_times, exact_quotient_is, gcd_of-divides, gcd_of-scaled_row, one_from_same}
+use Rattle.ror_integers.proofs.Gcd.{gcd-dvd_left, gcd-dvd_right, gcd_comm, gcd_scaled, gauss, gcd_positive_right, exact_quotient_times, exact_quotient_is, gcd_of-divides, gcd_of-scaled_row, one_from_same, one_is_coprime, divided_one}
 use Rattle.ror_integers.proofs.Solver.{ring3, ◌⊗◌}
 
 -- ---- fractions
@@ -133,3 +133,7 @@ reduced-scaled_row (pos k) xs h p =
 pub exact_quotient_positive : (x : ℤ) (d : ℕ) → 0 < d → d ∣ unsigned_abs x → pos 0 <ℤ x → pos 0 <ℤ exact_quotient x d
 exact_quotient_positive x d hd h p =
     positive_factor (pos d) (exact_quotient x d) (omega (arith, ints)) (subst (λ (y : ℤ). pos 0 <ℤ y) (sym (product_comm (pos d) (exact_quotient x d) ∙ exact_quotient_times x d h)) p)
+
+-- a list with a 1 among its entries is in lowest terms
+pub reduced_with_one : (xs : List ℤ) (j : ℕ) → entry xs j ≡ pos 1 → reduced xs ≡ xs
+reduced_with_one xs j e = ap (divided xs) (one_is_coprime xs j e) ∙ divided_one xs

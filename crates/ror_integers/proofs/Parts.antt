@@ -1,23 +1,23 @@
 -- Parts of rows: fronts and rests, rows end to end, zeros, and one row picked out by multipliers.
 use Rattle.std.proofs.Common.{◌≡◌, ℕ, zero, suc, ◌<◌, ◌≤◌, List, [], ◌∷◌, ◌++◌, length, get_or, take, drop, replicate, ℤ, pos, negsuc, ◌+ℤ◌, ◌*ℤ◌, ◌≤ℤ◌, refl, ap, ap₂, sym, ◌∙◌, arith}
 use Rattle.std.specs.List.{AllByRecursion}
-use Rattle.ror_integers.specs.Vectors.{entry, dot, total, ones, row_sum, scaled_row, row_difference, weighted, column, NoneNegative}
+use Rattle.ror_integers.specs.Vectors.{entry, dot, total, ones, sum_of_rows, scaled_row, row_difference, weighted, column, NoneNegative}
 use Rattle.ror_integers.proofs.Ring.{sums, zero-product, one-product}
 use Rattle.ror_integers.proofs.Dots.{dot-nil_right, dot-zeros_left}
-use Rattle.ror_integers.proofs.Rows.{entry-row_difference, row_sum-nil_right, row_sum_comm, scaled_row-one, same_from_entries, entry-weighted, length-row_sum, length-scaled_row}
+use Rattle.ror_integers.proofs.Rows.{entry-row_difference, sum_of_rows-nil_right, sum_of_rows_comm, scaled_row-one, same_from_entries, entry-weighted, length-sum_of_rows, length-scaled_row}
 
 -- ---- fronts and rests
-pub take-row_sum : (n : ℕ) (xs ys : List ℤ) → take n (row_sum xs ys) ≡ row_sum (take n xs) (take n ys)
-take-row_sum zero xs ys = refl
-take-row_sum (suc n) [] ys = refl
-take-row_sum (suc n) (x ∷ xs) [] = refl
-take-row_sum (suc n) (x ∷ xs) (y ∷ ys) = ap (λ (zs : List ℤ). (x +ℤ y) ∷ zs) (take-row_sum n xs ys)
+pub take-sum_of_rows : (n : ℕ) (xs ys : List ℤ) → take n (sum_of_rows xs ys) ≡ sum_of_rows (take n xs) (take n ys)
+take-sum_of_rows zero xs ys = refl
+take-sum_of_rows (suc n) [] ys = refl
+take-sum_of_rows (suc n) (x ∷ xs) [] = refl
+take-sum_of_rows (suc n) (x ∷ xs) (y ∷ ys) = ap (λ (zs : List ℤ). (x +ℤ y) ∷ zs) (take-sum_of_rows n xs ys)
 
-pub drop-row_sum : (n : ℕ) (xs ys : List ℤ) → drop n (row_sum xs ys) ≡ row_sum (drop n xs) (drop n ys)
-drop-row_sum zero xs ys = refl
-drop-row_sum (suc n) [] ys = refl
-drop-row_sum (suc n) (x ∷ xs) [] = sym (row_sum-nil_right (drop n xs))
-drop-row_sum (suc n) (x ∷ xs) (y ∷ ys) = drop-row_sum n xs ys
+pub drop-sum_of_rows : (n : ℕ) (xs ys : List ℤ) → drop n (sum_of_rows xs ys) ≡ sum_of_rows (drop n xs) (drop n ys)
+drop-sum_of_rows zero xs ys = refl
+drop-sum_of_rows (suc n) [] ys = refl
+drop-sum_of_rows (suc n) (x ∷ xs) [] = sym (sum_of_rows-nil_right (drop n xs))
+drop-sum_of_rows (suc n) (x ∷ xs) (y ∷ ys) = drop-sum_of_rows n xs ys
 
 pub take-scaled_row : (n : ℕ) (k : ℤ) (xs : List ℤ) → take n (scaled_row k xs) ≡ scaled_row k (take n xs)
 take-scaled_row zero k xs = refl
@@ -30,10 +30,10 @@ drop-scaled_row (suc n) k [] = refl
 drop-scaled_row (suc n) k (x ∷ xs) = drop-scaled_row n k xs
 
 pub take-row_difference : (n : ℕ) (xs ys : List ℤ) → take n (row_difference xs ys) ≡ row_difference (take n xs) (take n ys)
-take-row_difference n xs ys = take-row_sum n xs (scaled_row (negsuc 0) ys) ∙ ap (row_sum (take n xs)) (take-scaled_row n (negsuc 0) ys)
+take-row_difference n xs ys = take-sum_of_rows n xs (scaled_row (negsuc 0) ys) ∙ ap (sum_of_rows (take n xs)) (take-scaled_row n (negsuc 0) ys)
 
 pub drop-row_difference : (n : ℕ) (xs ys : List ℤ) → drop n (row_difference xs ys) ≡ row_difference (drop n xs) (drop n ys)
-drop-row_difference n xs ys = drop-row_sum n xs (scaled_row (negsuc 0) ys) ∙ ap (row_sum (drop n xs)) (drop-scaled_row n (negsuc 0) ys)
+drop-row_difference n xs ys = drop-sum_of_rows n xs (scaled_row (negsuc 0) ys) ∙ ap (sum_of_rows (drop n xs)) (drop-scaled_row n (negsuc 0) ys)
 
 pub dot-take-drop : (n : ℕ) (xs ys : List ℤ) → dot xs ys ≡ dot (take n xs) (take n ys) +ℤ dot (drop n xs) (drop n ys)
 dot-take-drop zero xs ys = omega (arith, sums)
@@ -62,16 +62,16 @@ pub scaled_row-append : (k : ℤ) (xs ys : List ℤ) → scaled_row k (xs ++ ys)
 scaled_row-append k [] ys = refl
 scaled_row-append k (x ∷ xs) ys = ap (λ (zs : List ℤ). (k *ℤ x) ∷ zs) (scaled_row-append k xs ys)
 
-pub row_sum-append : (xs us ys vs : List ℤ) → length xs ≡ length ys → row_sum (xs ++ us) (ys ++ vs) ≡ row_sum xs ys ++ row_sum us vs
-row_sum-append [] us [] vs e = refl
-row_sum-append [] us (y ∷ ys) vs e = absurd (omega arith)
-row_sum-append (x ∷ xs) us [] vs e = absurd (omega arith)
-row_sum-append (x ∷ xs) us (y ∷ ys) vs e = ap (λ (zs : List ℤ). (x +ℤ y) ∷ zs) (row_sum-append xs us ys vs (omega arith))
+pub sum_of_rows-append : (xs us ys vs : List ℤ) → length xs ≡ length ys → sum_of_rows (xs ++ us) (ys ++ vs) ≡ sum_of_rows xs ys ++ sum_of_rows us vs
+sum_of_rows-append [] us [] vs e = refl
+sum_of_rows-append [] us (y ∷ ys) vs e = absurd (omega arith)
+sum_of_rows-append (x ∷ xs) us [] vs e = absurd (omega arith)
+sum_of_rows-append (x ∷ xs) us (y ∷ ys) vs e = ap (λ (zs : List ℤ). (x +ℤ y) ∷ zs) (sum_of_rows-append xs us ys vs (omega arith))
 
 pub row_difference-append : (xs us ys vs : List ℤ) → length xs ≡ length ys → row_difference (xs ++ us) (ys ++ vs) ≡ row_difference xs ys ++ row_difference us vs
 row_difference-append xs us ys vs e =
-    ap (row_sum (xs ++ us)) (scaled_row-append (negsuc 0) ys vs)
-    ∙ row_sum-append xs us (scaled_row (negsuc 0) ys) (scaled_row (negsuc 0) vs) (e ∙ sym (length-scaled_row (negsuc 0) ys))
+    ap (sum_of_rows (xs ++ us)) (scaled_row-append (negsuc 0) ys vs)
+    ∙ sum_of_rows-append xs us (scaled_row (negsuc 0) ys) (scaled_row (negsuc 0) vs) (e ∙ sym (length-scaled_row (negsuc 0) ys))
 
 -- of a vector whose length is not known the first list meets the front, the second the rest
 pub dot-append_left : (xs ys w : List ℤ) → dot (xs ++ ys) w ≡ dot xs (take (length xs) w) +ℤ dot ys (drop (length xs) w)
@@ -99,10 +99,10 @@ pub scaled_row-zero : (xs : List ℤ) → scaled_row (pos 0) xs ≡ replicate (l
 scaled_row-zero [] = refl
 scaled_row-zero (x ∷ xs) = ap₂ (λ (z : ℤ) (zs : List ℤ). z ∷ zs) (zero-product x) (scaled_row-zero xs)
 
-pub row_sum-zeros : (n : ℕ) (xs : List ℤ) → n ≤ length xs → row_sum (replicate n (pos 0)) xs ≡ xs
-row_sum-zeros zero xs h = refl
-row_sum-zeros (suc n) [] h = absurd (omega arith)
-row_sum-zeros (suc n) (x ∷ xs) h = ap₂ (λ (z : ℤ) (zs : List ℤ). z ∷ zs) (omega (arith, sums)) (row_sum-zeros n xs (omega arith))
+pub sum_of_rows-zeros : (n : ℕ) (xs : List ℤ) → n ≤ length xs → sum_of_rows (replicate n (pos 0)) xs ≡ xs
+sum_of_rows-zeros zero xs h = refl
+sum_of_rows-zeros (suc n) [] h = absurd (omega arith)
+sum_of_rows-zeros (suc n) (x ∷ xs) h = ap₂ (λ (z : ℤ) (zs : List ℤ). z ∷ zs) (omega (arith, sums)) (sum_of_rows-zeros n xs (omega arith))
 
 -- a list of zeros
 pub zeros_from_entries : (xs : List ℤ) → ((j : ℕ) → entry xs j ≡ pos 0) → xs ≡ replicate (length xs) (pos 0)
@@ -120,7 +120,7 @@ weighted-zeros zero n rows h = omega arith
 weighted-zeros (suc m) n [] h = omega arith
 weighted-zeros (suc m) n (row ∷ rows) h =
     let e = h.0 in
-    omega (arith, length-row_sum (scaled_row (pos 0) row) (weighted (replicate m (pos 0)) rows), length-scaled_row (pos 0) row, weighted-zeros m n rows h.1)
+    omega (arith, length-sum_of_rows (scaled_row (pos 0) row) (weighted (replicate m (pos 0)) rows), length-scaled_row (pos 0) row, weighted-zeros m n rows h.1)
 
 weighted_zero_entries : (m : ℕ) (rows : List (List ℤ)) → weighted (replicate m (pos 0)) rows ≡ replicate (length (weighted (replicate m (pos 0)) rows)) (pos 0)
 weighted_zero_entries m rows = zeros_from_entries (weighted (replicate m (pos 0)) rows) (λ j. entry-weighted (replicate m (pos 0)) rows j ∙ dot-zeros_left m (column rows j))
@@ -129,13 +129,13 @@ pub weighted-unit : (k m n : ℕ) (rows : List (List ℤ)) → AllByRecursion (�
 weighted-unit k m n [] h l = absurd (omega arith)
 weighted-unit zero m n (row ∷ rows) h l =
     let e = h.0 in
-    ap₂ row_sum (scaled_row-one row) (weighted_zero_entries m rows)
-    ∙ row_sum_comm row (replicate (length (weighted (replicate m (pos 0)) rows)) (pos 0))
-    ∙ row_sum-zeros (length (weighted (replicate m (pos 0)) rows)) row (omega (arith, weighted-zeros m n rows h.1))
+    ap₂ sum_of_rows (scaled_row-one row) (weighted_zero_entries m rows)
+    ∙ sum_of_rows_comm row (replicate (length (weighted (replicate m (pos 0)) rows)) (pos 0))
+    ∙ sum_of_rows-zeros (length (weighted (replicate m (pos 0)) rows)) row (omega (arith, weighted-zeros m n rows h.1))
 weighted-unit (suc k) m n (row ∷ rows) h l =
     let e = h.0 in
     let f = at n rows k h.1 (omega arith) in
-    ap₂ row_sum (scaled_row-zero row) (weighted-unit k m n rows h.1 (omega arith)) ∙ row_sum-zeros (length row) (get_or rows k []) (omega arith)
+    ap₂ sum_of_rows (scaled_row-zero row) (weighted-unit k m n rows h.1 (omega arith)) ∙ sum_of_rows-zeros (length row) (get_or rows k []) (omega arith)
   where
     at : (n : ℕ) (rows : List (List ℤ)) (k : ℕ) → AllByRecursion (λ row. length row ≡ n) rows → k < length rows → length (get_or rows k []) ≡ n
     at n [] k h l = absurd (omega arith)

@@ -1,9 +1,9 @@
 -- Sums of rows: entries, lengths, the laws of a module, and the exchange of sums.
 use Rattle.std.proofs.Common.{◌≡◌, ℕ, zero, suc, ◌<◌, ◌≤◌, max, List, [], ◌∷◌, ◌++◌, length, get_or, ℤ, pos, negsuc, ◌+ℤ◌, ◌-ℤ◌, ◌*ℤ◌, refl, ap, ap₂, sym, ◌∙◌, arith}
 use Rattle.std.specs.List.{AllByRecursion}
-use Rattle.ror_integers.specs.Vectors.{entry, dot, row_sum, scaled_row, row_difference, weighted, dots, column}
+use Rattle.ror_integers.specs.Vectors.{entry, dot, sum_of_rows, scaled_row, row_difference, weighted, dots, column}
 use Rattle.ror_integers.proofs.Ring.{sums, product_assoc, product-sum, sum-product, product-zero, one-product, minus_one-product}
-use Rattle.ror_integers.proofs.Dots.{dot-row_sum_left, dot-scaled_row_left}
+use Rattle.ror_integers.proofs.Dots.{dot-sum_of_rows_left, dot-scaled_row_left}
 
 -- ---- entries
 pub entry_past : (xs : List ℤ) (j : ℕ) → length xs ≤ j → entry xs j ≡ pos 0
@@ -11,11 +11,11 @@ entry_past [] j h = refl
 entry_past (x ∷ xs) zero h = absurd (omega arith)
 entry_past (x ∷ xs) (suc j) h = entry_past xs j (omega arith)
 
-pub entry-row_sum : (xs ys : List ℤ) (j : ℕ) → entry (row_sum xs ys) j ≡ entry xs j +ℤ entry ys j
-entry-row_sum [] ys j = omega (arith, sums)
-entry-row_sum (x ∷ xs) [] j = omega (arith, sums)
-entry-row_sum (x ∷ xs) (y ∷ ys) zero = refl
-entry-row_sum (x ∷ xs) (y ∷ ys) (suc j) = entry-row_sum xs ys j
+pub entry-sum_of_rows : (xs ys : List ℤ) (j : ℕ) → entry (sum_of_rows xs ys) j ≡ entry xs j +ℤ entry ys j
+entry-sum_of_rows [] ys j = omega (arith, sums)
+entry-sum_of_rows (x ∷ xs) [] j = omega (arith, sums)
+entry-sum_of_rows (x ∷ xs) (y ∷ ys) zero = refl
+entry-sum_of_rows (x ∷ xs) (y ∷ ys) (suc j) = entry-sum_of_rows xs ys j
 
 pub entry-scaled_row : (k : ℤ) (xs : List ℤ) (j : ℕ) → entry (scaled_row k xs) j ≡ k *ℤ entry xs j
 entry-scaled_row k [] j = sym (product-zero k)
@@ -24,14 +24,14 @@ entry-scaled_row k (x ∷ xs) (suc j) = entry-scaled_row k xs j
 
 pub entry-row_difference : (xs ys : List ℤ) (j : ℕ) → entry (row_difference xs ys) j ≡ entry xs j -ℤ entry ys j
 entry-row_difference xs ys j =
-    entry-row_sum xs (scaled_row (negsuc 0) ys) j ∙ ap (λ (e : ℤ). entry xs j +ℤ e) (entry-scaled_row (negsuc 0) ys j ∙ minus_one-product (entry ys j))
+    entry-sum_of_rows xs (scaled_row (negsuc 0) ys) j ∙ ap (λ (e : ℤ). entry xs j +ℤ e) (entry-scaled_row (negsuc 0) ys j ∙ minus_one-product (entry ys j))
 
 pub entry-weighted : (ms : List ℤ) (rows : List (List ℤ)) (j : ℕ) → entry (weighted ms rows) j ≡ dot ms (column rows j)
 entry-weighted [] rows j = refl
 entry-weighted (m ∷ ms) [] j = refl
 entry-weighted (m ∷ ms) (row ∷ rows) j =
     let h = entry-weighted ms rows j in
-    omega (arith, sums, entry-row_sum (scaled_row m row) (weighted ms rows) j, entry-scaled_row m row j)
+    omega (arith, sums, entry-sum_of_rows (scaled_row m row) (weighted ms rows) j, entry-scaled_row m row j)
 
 pub entry-dots : (rows : List (List ℤ)) (x : List ℤ) (k : ℕ) → entry (dots rows x) k ≡ dot (get_or rows k []) x
 entry-dots [] x k = refl
@@ -52,17 +52,17 @@ same_from_entries (x ∷ xs) (y ∷ ys) e h =
     ap₂ (λ (a : ℤ) (rest : List ℤ). a ∷ rest) (h 0 (omega arith)) (same_from_entries xs ys (omega arith) (λ j l. h (suc j) (omega arith)))
 
 -- ---- lengths
-pub length-row_sum : (xs ys : List ℤ) → length (row_sum xs ys) ≡ max (length xs) (length ys)
-length-row_sum [] ys = omega arith
-length-row_sum (x ∷ xs) [] = omega arith
-length-row_sum (x ∷ xs) (y ∷ ys) = let h = length-row_sum xs ys in omega arith
+pub length-sum_of_rows : (xs ys : List ℤ) → length (sum_of_rows xs ys) ≡ max (length xs) (length ys)
+length-sum_of_rows [] ys = omega arith
+length-sum_of_rows (x ∷ xs) [] = omega arith
+length-sum_of_rows (x ∷ xs) (y ∷ ys) = let h = length-sum_of_rows xs ys in omega arith
 
 pub length-scaled_row : (k : ℤ) (xs : List ℤ) → length (scaled_row k xs) ≡ length xs
 length-scaled_row k [] = refl
 length-scaled_row k (x ∷ xs) = ap suc (length-scaled_row k xs)
 
 pub length-row_difference : (xs ys : List ℤ) → length (row_difference xs ys) ≡ max (length xs) (length ys)
-length-row_difference xs ys = length-row_sum xs (scaled_row (negsuc 0) ys) ∙ ap (max (length xs)) (length-scaled_row (negsuc 0) ys)
+length-row_difference xs ys = length-sum_of_rows xs (scaled_row (negsuc 0) ys) ∙ ap (max (length xs)) (length-scaled_row (negsuc 0) ys)
 
 pub length-dots : (rows : List (List ℤ)) (x : List ℤ) → length (dots rows x) ≡ length rows
 length-dots [] x = refl
@@ -73,31 +73,31 @@ length-column [] j = refl
 length-column (row ∷ rows) j = ap suc (length-column rows j)
 
 -- ---- the rows are a module over the integers
-pub row_sum-nil_right : (xs : List ℤ) → row_sum xs [] ≡ xs
-row_sum-nil_right [] = refl
-row_sum-nil_right (x ∷ xs) = refl
+pub sum_of_rows-nil_right : (xs : List ℤ) → sum_of_rows xs [] ≡ xs
+sum_of_rows-nil_right [] = refl
+sum_of_rows-nil_right (x ∷ xs) = refl
 
-pub row_sum_comm : (xs ys : List ℤ) → row_sum xs ys ≡ row_sum ys xs
-row_sum_comm [] ys = sym (row_sum-nil_right ys)
-row_sum_comm (x ∷ xs) [] = refl
-row_sum_comm (x ∷ xs) (y ∷ ys) = ap₂ (λ (a : ℤ) (r : List ℤ). a ∷ r) (omega (arith, sums)) (row_sum_comm xs ys)
+pub sum_of_rows_comm : (xs ys : List ℤ) → sum_of_rows xs ys ≡ sum_of_rows ys xs
+sum_of_rows_comm [] ys = sym (sum_of_rows-nil_right ys)
+sum_of_rows_comm (x ∷ xs) [] = refl
+sum_of_rows_comm (x ∷ xs) (y ∷ ys) = ap₂ (λ (a : ℤ) (r : List ℤ). a ∷ r) (omega (arith, sums)) (sum_of_rows_comm xs ys)
 
-pub row_sum_assoc : (xs ys zs : List ℤ) → row_sum (row_sum xs ys) zs ≡ row_sum xs (row_sum ys zs)
-row_sum_assoc [] ys zs = refl
-row_sum_assoc (x ∷ xs) [] zs = refl
-row_sum_assoc (x ∷ xs) (y ∷ ys) [] = refl
-row_sum_assoc (x ∷ xs) (y ∷ ys) (z ∷ zs) = ap₂ (λ (a : ℤ) (r : List ℤ). a ∷ r) (omega (arith, sums)) (row_sum_assoc xs ys zs)
+pub sum_of_rows_assoc : (xs ys zs : List ℤ) → sum_of_rows (sum_of_rows xs ys) zs ≡ sum_of_rows xs (sum_of_rows ys zs)
+sum_of_rows_assoc [] ys zs = refl
+sum_of_rows_assoc (x ∷ xs) [] zs = refl
+sum_of_rows_assoc (x ∷ xs) (y ∷ ys) [] = refl
+sum_of_rows_assoc (x ∷ xs) (y ∷ ys) (z ∷ zs) = ap₂ (λ (a : ℤ) (r : List ℤ). a ∷ r) (omega (arith, sums)) (sum_of_rows_assoc xs ys zs)
 
-pub scaled_row-row_sum : (k : ℤ) (xs ys : List ℤ) → scaled_row k (row_sum xs ys) ≡ row_sum (scaled_row k xs) (scaled_row k ys)
-scaled_row-row_sum k [] ys = refl
-scaled_row-row_sum k (x ∷ xs) [] = refl
-scaled_row-row_sum k (x ∷ xs) (y ∷ ys) = ap₂ (λ (a : ℤ) (r : List ℤ). a ∷ r) (product-sum k x y) (scaled_row-row_sum k xs ys)
+pub scaled_row-sum_of_rows : (k : ℤ) (xs ys : List ℤ) → scaled_row k (sum_of_rows xs ys) ≡ sum_of_rows (scaled_row k xs) (scaled_row k ys)
+scaled_row-sum_of_rows k [] ys = refl
+scaled_row-sum_of_rows k (x ∷ xs) [] = refl
+scaled_row-sum_of_rows k (x ∷ xs) (y ∷ ys) = ap₂ (λ (a : ℤ) (r : List ℤ). a ∷ r) (product-sum k x y) (scaled_row-sum_of_rows k xs ys)
 
 pub scaled_row-scaled_row : (k l : ℤ) (xs : List ℤ) → scaled_row k (scaled_row l xs) ≡ scaled_row (k *ℤ l) xs
 scaled_row-scaled_row k l [] = refl
 scaled_row-scaled_row k l (x ∷ xs) = ap₂ (λ (a : ℤ) (r : List ℤ). a ∷ r) (sym (product_assoc k l x)) (scaled_row-scaled_row k l xs)
 
-pub scaled_row-sum : (k l : ℤ) (xs : List ℤ) → scaled_row (k +ℤ l) xs ≡ row_sum (scaled_row k xs) (scaled_row l xs)
+pub scaled_row-sum : (k l : ℤ) (xs : List ℤ) → scaled_row (k +ℤ l) xs ≡ sum_of_rows (scaled_row k xs) (scaled_row l xs)
 scaled_row-sum k l [] = refl
 scaled_row-sum k l (x ∷ xs) = ap₂ (λ (a : ℤ) (r : List ℤ). a ∷ r) (sum-product k l x) (scaled_row-sum k l xs)
 
@@ -114,40 +114,40 @@ pub weighted-scaled_row : (k : ℤ) (ms : List ℤ) (rows : List (List ℤ)) →
 weighted-scaled_row k [] rows = refl
 weighted-scaled_row k (m ∷ ms) [] = refl
 weighted-scaled_row k (m ∷ ms) (row ∷ rows) =
-    ap₂ row_sum (sym (scaled_row-scaled_row k m row)) (weighted-scaled_row k ms rows) ∙ sym (scaled_row-row_sum k (scaled_row m row) (weighted ms rows))
+    ap₂ sum_of_rows (sym (scaled_row-scaled_row k m row)) (weighted-scaled_row k ms rows) ∙ sym (scaled_row-sum_of_rows k (scaled_row m row) (weighted ms rows))
 
-pub row_sum_crossed : (a b c d : List ℤ) → row_sum (row_sum a b) (row_sum c d) ≡ row_sum (row_sum a c) (row_sum b d)
-row_sum_crossed a b c d =
-    row_sum_assoc a b (row_sum c d)
-    ∙ ap (row_sum a) (sym (row_sum_assoc b c d) ∙ ap (λ (r : List ℤ). row_sum r d) (row_sum_comm b c) ∙ row_sum_assoc c b d)
-    ∙ sym (row_sum_assoc a c (row_sum b d))
+pub sum_of_rows_crossed : (a b c d : List ℤ) → sum_of_rows (sum_of_rows a b) (sum_of_rows c d) ≡ sum_of_rows (sum_of_rows a c) (sum_of_rows b d)
+sum_of_rows_crossed a b c d =
+    sum_of_rows_assoc a b (sum_of_rows c d)
+    ∙ ap (sum_of_rows a) (sym (sum_of_rows_assoc b c d) ∙ ap (λ (r : List ℤ). sum_of_rows r d) (sum_of_rows_comm b c) ∙ sum_of_rows_assoc c b d)
+    ∙ sym (sum_of_rows_assoc a c (sum_of_rows b d))
 
-pub weighted-row_sum : (ms ns : List ℤ) (rows : List (List ℤ)) → weighted (row_sum ms ns) rows ≡ row_sum (weighted ms rows) (weighted ns rows)
-weighted-row_sum [] ns rows = refl
-weighted-row_sum (m ∷ ms) [] rows = sym (row_sum-nil_right (weighted (m ∷ ms) rows))
-weighted-row_sum (m ∷ ms) (n ∷ ns) [] = refl
-weighted-row_sum (m ∷ ms) (n ∷ ns) (row ∷ rows) =
-    ap₂ row_sum (scaled_row-sum m n row) (weighted-row_sum ms ns rows)
-    ∙ row_sum_crossed (scaled_row m row) (scaled_row n row) (weighted ms rows) (weighted ns rows)
+pub weighted-sum_of_rows : (ms ns : List ℤ) (rows : List (List ℤ)) → weighted (sum_of_rows ms ns) rows ≡ sum_of_rows (weighted ms rows) (weighted ns rows)
+weighted-sum_of_rows [] ns rows = refl
+weighted-sum_of_rows (m ∷ ms) [] rows = sym (sum_of_rows-nil_right (weighted (m ∷ ms) rows))
+weighted-sum_of_rows (m ∷ ms) (n ∷ ns) [] = refl
+weighted-sum_of_rows (m ∷ ms) (n ∷ ns) (row ∷ rows) =
+    ap₂ sum_of_rows (scaled_row-sum m n row) (weighted-sum_of_rows ms ns rows)
+    ∙ sum_of_rows_crossed (scaled_row m row) (scaled_row n row) (weighted ms rows) (weighted ns rows)
 
-pub weighted-append : (ms ns : List ℤ) (rows more : List (List ℤ)) → length ms ≡ length rows → weighted (ms ++ ns) (rows ++ more) ≡ row_sum (weighted ms rows) (weighted ns more)
+pub weighted-append : (ms ns : List ℤ) (rows more : List (List ℤ)) → length ms ≡ length rows → weighted (ms ++ ns) (rows ++ more) ≡ sum_of_rows (weighted ms rows) (weighted ns more)
 weighted-append [] ns [] more e = refl
 weighted-append [] ns (row ∷ rows) more e = absurd (omega arith)
 weighted-append (m ∷ ms) ns [] more e = absurd (omega arith)
 weighted-append (m ∷ ms) ns (row ∷ rows) more e =
-    ap (row_sum (scaled_row m row)) (weighted-append ms ns rows more (omega arith))
-    ∙ sym (row_sum_assoc (scaled_row m row) (weighted ms rows) (weighted ns more))
+    ap (sum_of_rows (scaled_row m row)) (weighted-append ms ns rows more (omega arith))
+    ∙ sym (sum_of_rows_assoc (scaled_row m row) (weighted ms rows) (weighted ns more))
 
 -- where all rows have n entries, so has a combination of one or more of them
 pub length-weighted : (n : ℕ) (ms : List ℤ) (rows : List (List ℤ)) → AllByRecursion (λ row. length row ≡ n) rows → 0 < length ms → 0 < length rows → length (weighted ms rows) ≡ n
 length-weighted n [] rows h p q = absurd (omega arith)
 length-weighted n (m ∷ ms) [] h p q = absurd (omega arith)
-length-weighted n (m ∷ []) (row ∷ rows) h p q = ap length (row_sum-nil_right (scaled_row m row)) ∙ length-scaled_row m row ∙ h.0
-length-weighted n (m ∷ k ∷ ms) (row ∷ []) h p q = ap length (row_sum-nil_right (scaled_row m row)) ∙ length-scaled_row m row ∙ h.0
+length-weighted n (m ∷ []) (row ∷ rows) h p q = ap length (sum_of_rows-nil_right (scaled_row m row)) ∙ length-scaled_row m row ∙ h.0
+length-weighted n (m ∷ k ∷ ms) (row ∷ []) h p q = ap length (sum_of_rows-nil_right (scaled_row m row)) ∙ length-scaled_row m row ∙ h.0
 length-weighted n (m ∷ k ∷ ms) (row ∷ more ∷ rows) h p q =
     let e = length-weighted n (k ∷ ms) (more ∷ rows) h.1 (omega arith) (omega arith) in
     let f = h.0 in
-    omega (arith, length-row_sum (scaled_row m row) (weighted (k ∷ ms) (more ∷ rows)), length-scaled_row m row)
+    omega (arith, length-sum_of_rows (scaled_row m row) (weighted (k ∷ ms) (more ∷ rows)), length-scaled_row m row)
 
 -- ---- the exchange of sums
 pub dot-weighted : (ms : List ℤ) (rows : List (List ℤ)) (x : List ℤ) → dot (weighted ms rows) x ≡ dot ms (dots rows x)
@@ -155,7 +155,7 @@ dot-weighted [] rows x = refl
 dot-weighted (m ∷ ms) [] x = refl
 dot-weighted (m ∷ ms) (row ∷ rows) x =
     let h = dot-weighted ms rows x in
-    omega (arith, sums, dot-row_sum_left (scaled_row m row) (weighted ms rows) x, dot-scaled_row_left m row x)
+    omega (arith, sums, dot-sum_of_rows_left (scaled_row m row) (weighted ms rows) x, dot-scaled_row_left m row x)
 
 pub dots-append : (rows more : List (List ℤ)) (x : List ℤ) → dots (rows ++ more) x ≡ dots rows x ++ dots more x
 dots-append [] more x = refl

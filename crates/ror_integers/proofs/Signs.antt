@@ -1,7 +1,7 @@
 -- Signs of entries, of dot products and of totals.
 use Rattle.std.proofs.Common.{◌⊎◌, inl, inr, ℕ, zero, suc, ◌<◌, ◌≤◌, List, [], ◌∷◌, ◌++◌, length, take, drop, replicate, ℤ, pos, ◌≤ℤ◌, ◌<ℤ◌, arith}
 use Rattle.std.specs.List.{AllByRecursion}
-use Rattle.ror_integers.specs.Vectors.{entry, dot, total, ones, row_sum, scaled_row, weighted, NoneNegative, SomePositive}
+use Rattle.ror_integers.specs.Vectors.{entry, dot, total, ones, sum_of_rows, scaled_row, weighted, NoneNegative, SomePositive}
 use Rattle.ror_integers.proofs.Ring.{sums, product_comm, product-zero}
 use Rattle.ror_integers.proofs.Order.{product_nonnegative, product_positive, mul_le, le_cases}
 use Rattle.ror_integers.proofs.Dots.{dot_comm}
@@ -37,10 +37,10 @@ NoneNegative-drop zero xs h = h
 NoneNegative-drop (suc n) [] h = tt
 NoneNegative-drop (suc n) (x ∷ xs) h = NoneNegative-drop n xs h.1
 
-pub NoneNegative-row_sum : (xs ys : List ℤ) → NoneNegative xs → NoneNegative ys → NoneNegative (row_sum xs ys)
-NoneNegative-row_sum [] ys h k = k
-NoneNegative-row_sum (x ∷ xs) [] h k = h
-NoneNegative-row_sum (x ∷ xs) (y ∷ ys) h k = let p = h.0 in let q = k.0 in (omega (arith, sums), NoneNegative-row_sum xs ys h.1 k.1)
+pub NoneNegative-sum_of_rows : (xs ys : List ℤ) → NoneNegative xs → NoneNegative ys → NoneNegative (sum_of_rows xs ys)
+NoneNegative-sum_of_rows [] ys h k = k
+NoneNegative-sum_of_rows (x ∷ xs) [] h k = h
+NoneNegative-sum_of_rows (x ∷ xs) (y ∷ ys) h k = let p = h.0 in let q = k.0 in (omega (arith, sums), NoneNegative-sum_of_rows xs ys h.1 k.1)
 
 pub NoneNegative-scaled_row : (k : ℤ) (xs : List ℤ) → pos 0 ≤ℤ k → NoneNegative xs → NoneNegative (scaled_row k xs)
 NoneNegative-scaled_row k [] p h = tt
@@ -50,7 +50,7 @@ pub NoneNegative-weighted : (ms : List ℤ) (rows : List (List ℤ)) → NoneNeg
 NoneNegative-weighted [] rows h k = tt
 NoneNegative-weighted (m ∷ ms) [] h k = tt
 NoneNegative-weighted (m ∷ ms) (row ∷ rows) h k =
-    NoneNegative-row_sum (scaled_row m row) (weighted ms rows) (NoneNegative-scaled_row m row h.0 k.0) (NoneNegative-weighted ms rows h.1 k.1)
+    NoneNegative-sum_of_rows (scaled_row m row) (weighted ms rows) (NoneNegative-scaled_row m row h.0 k.0) (NoneNegative-weighted ms rows h.1 k.1)
 
 pub NoneNegative-ones : (n : ℕ) → NoneNegative (ones n)
 NoneNegative-ones zero = tt

@@ -24,11 +24,30 @@ LexicographicallyPositive (x ∷ xs) = (pos 0 <ℤ x) ⊎ ((x ≡ pos 0) × Lexi
 pub record LexicographicOrder : Type 0 where
   pub total_order : IsTotalOrder lexicographic_cmp
   pub equal_only_itself : (xs ys : List ℤ) → (lexicographic_cmp xs ys ≡ Equal) ↔ (xs ≡ ys)
-  pub less : (xs ys : List ℤ) → length xs ≡ length ys → (lexicographic_cmp xs ys ≡ Less) ↔ LexicographicallyPositive (row_difference ys xs)
-  pub of_scaled_rows : (k : ℤ) (xs ys : List ℤ) → pos 0 <ℤ k → lexicographic_cmp (scaled_row k xs) (scaled_row k ys) ≡ lexicographic_cmp xs ys
-  pub scaled_is : (p q : ℤ) (xs ys : List ℤ) → scaled_lexicographic_cmp p xs q ys ≡ lexicographic_cmp (scaled_row q xs) (scaled_row p ys)
+  pub less :
+      (xs ys : List ℤ)
+      → length xs ≡ length ys
+      → (lexicographic_cmp xs ys ≡ Less) ↔ LexicographicallyPositive (row_difference ys xs)
+  pub of_scaled_rows :
+      (k : ℤ) (xs ys : List ℤ)
+      → pos 0 <ℤ k → lexicographic_cmp (scaled_row k xs) (scaled_row k ys) ≡ lexicographic_cmp xs ys
+  pub scaled_is :
+      (p q : ℤ) (xs ys : List ℤ)
+      → scaled_lexicographic_cmp p xs q ys ≡ lexicographic_cmp (scaled_row q xs) (scaled_row p ys)
   pub scaled_reflexive : (p : ℤ) (xs : List ℤ) → scaled_lexicographic_cmp p xs p xs ≡ Equal
-  pub scaled_reversed : (p q : ℤ) (xs ys : List ℤ) → scaled_lexicographic_cmp p xs q ys ≡ ordering_reverse (scaled_lexicographic_cmp q ys p xs)
-  pub scaled_transitive : (p q s : ℤ) (xs ys zs : List ℤ) → pos 0 <ℤ p → pos 0 <ℤ q → pos 0 <ℤ s → scaled_lexicographic_cmp p xs q ys ≡ Less → scaled_lexicographic_cmp q ys s zs ≡ Less → scaled_lexicographic_cmp p xs s zs ≡ Less
-  pub scaled_congruent : (p q s : ℤ) (xs ys zs : List ℤ) → pos 0 <ℤ p → pos 0 <ℤ q → scaled_lexicographic_cmp p xs q ys ≡ Equal → scaled_lexicographic_cmp p xs s zs ≡ scaled_lexicographic_cmp q ys s zs
-  pub scaled_by_factor : (k p q : ℤ) (xs ys : List ℤ) → pos 0 <ℤ k → scaled_lexicographic_cmp (k *ℤ p) (scaled_row k xs) q ys ≡ scaled_lexicographic_cmp p xs q ys
+  pub scaled_reversed :
+      (p q : ℤ) (xs ys : List ℤ)
+      → scaled_lexicographic_cmp p xs q ys ≡ ordering_reverse (scaled_lexicographic_cmp q ys p xs)
+  pub scaled_transitive :
+      (p q s : ℤ) (xs ys zs : List ℤ)
+      → pos 0 <ℤ p → pos 0 <ℤ q → pos 0 <ℤ s → scaled_lexicographic_cmp p xs q ys ≡ Less
+      → scaled_lexicographic_cmp q ys s zs ≡ Less → scaled_lexicographic_cmp p xs s zs ≡ Less
+  pub scaled_congruent :
+      (p q s : ℤ) (xs ys zs : List ℤ)
+      → pos 0 <ℤ p → pos 0 <ℤ q → scaled_lexicographic_cmp p xs q ys ≡ Equal
+      → scaled_lexicographic_cmp p xs s zs ≡ scaled_lexicographic_cmp q ys s zs
+  pub scaled_by_factor :
+      (k p q : ℤ) (xs ys : List ℤ)
+      → pos 0 <ℤ k
+      → scaled_lexicographic_cmp (k *ℤ p) (scaled_row k xs) q ys
+      ≡ scaled_lexicographic_cmp p xs q ys

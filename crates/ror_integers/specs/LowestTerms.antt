@@ -27,9 +27,21 @@ abbrev pub reduced : List ℤ → List ℤ
 reduced xs = divided xs (gcd_of xs)
 
 pub record LowestTermsLaws : Type 0 where
-  pub exist : (n d : ℤ) → d ≢ pos 0 → IsLowestTerms n d (lowest_numerator n d) (lowest_denominator n d)
-  pub unique : (n d p q r s : ℤ) → d ≢ pos 0 → IsLowestTerms n d p q → IsLowestTerms n d r s → (p ≡ r) × (q ≡ s)
-  pub same_from_same_value : (p q r s : ℤ) → pos 0 <ℤ q → pos 0 <ℤ s → int_gcd p q ≡ 1 → int_gcd r s ≡ 1 → p *ℤ s ≡ r *ℤ q → (p ≡ r) × (q ≡ s)
+  pub exist :
+      (n d : ℤ)
+      → d ≢ pos 0 → IsLowestTerms n d (lowest_numerator n d) (lowest_denominator n d)
+  pub unique :
+      (n d p q r s : ℤ)
+      → d ≢ pos 0 → IsLowestTerms n d p q → IsLowestTerms n d r s → (p ≡ r) × (q ≡ s)
+  pub same_from_same_value :
+      (p q r s : ℤ)
+      → pos 0 <ℤ q → pos 0 <ℤ s → int_gcd p q ≡ 1 → int_gcd r s ≡ 1 → p *ℤ s ≡ r *ℤ q
+      → (p ≡ r) × (q ≡ s)
   pub reduced_coprime : (xs : List ℤ) → 0 < gcd_of xs → gcd_of (reduced xs) ≡ 1
-  pub reduced_of_scaled : (k : ℤ) (xs : List ℤ) → pos 0 <ℤ k → 0 < gcd_of xs → reduced (scaled_row k xs) ≡ reduced xs
-  pub proportional_same : (a b : ℤ) (xs ys : List ℤ) → pos 0 <ℤ a → pos 0 <ℤ b → gcd_of xs ≡ 1 → gcd_of ys ≡ 1 → scaled_row a xs ≡ scaled_row b ys → xs ≡ ys
+  pub reduced_of_scaled :
+      (k : ℤ) (xs : List ℤ)
+      → pos 0 <ℤ k → 0 < gcd_of xs → reduced (scaled_row k xs) ≡ reduced xs
+  pub proportional_same :
+      (a b : ℤ) (xs ys : List ℤ)
+      → pos 0 <ℤ a → pos 0 <ℤ b → gcd_of xs ≡ 1 → gcd_of ys ≡ 1 → scaled_row a xs ≡ scaled_row b ys
+      → xs ≡ ys

@@ -19,4 +19,6 @@ pub record Refutes (weak strict : List (List ℤ)) (ms zs : List ℤ) : Type 0 w
 
 -- no rows have both
 abbrev pub NeverBoth : Type 0
-NeverBoth = (weak strict : List (List ℤ)) (ms zs x : List ℤ) → Refutes weak strict ms zs → ¬ (Solves weak strict x)
+NeverBoth =
+    (weak strict : List (List ℤ)) (ms zs x : List ℤ) → Refutes weak strict ms zs
+    → ¬ (Solves weak strict x)

@@ -28,10 +28,10 @@ abbrev pub ones : ℕ → List ℤ
 ones n = replicate n (pos 1)
 
 -- the sums of the entries at one place, as many as the longer list has
-abbrev pub row_sum : List ℤ → List ℤ → List ℤ
-row_sum [] ys = ys
-row_sum (x ∷ xs) [] = x ∷ xs
-row_sum (x ∷ xs) (y ∷ ys) = (x +ℤ y) ∷ row_sum xs ys
+abbrev pub sum_of_rows : List ℤ → List ℤ → List ℤ
+sum_of_rows [] ys = ys
+sum_of_rows (x ∷ xs) [] = x ∷ xs
+sum_of_rows (x ∷ xs) (y ∷ ys) = (x +ℤ y) ∷ sum_of_rows xs ys
 
 -- each entry times k
 abbrev pub scaled_row : ℤ → List ℤ → List ℤ
@@ -39,13 +39,13 @@ scaled_row k xs = map (λ x. k *ℤ x) xs
 
 -- the first row less the second
 abbrev pub row_difference : List ℤ → List ℤ → List ℤ
-row_difference xs ys = row_sum xs (scaled_row (neg_ℤ (pos 1)) ys)
+row_difference xs ys = sum_of_rows xs (scaled_row (neg_ℤ (pos 1)) ys)
 
 -- the sum of the rows, each times its multiplier
 abbrev pub weighted : List ℤ → List (List ℤ) → List ℤ
 weighted [] rows = []
 weighted (m ∷ ms) [] = []
-weighted (m ∷ ms) (row ∷ rows) = row_sum (scaled_row m row) (weighted ms rows)
+weighted (m ∷ ms) (row ∷ rows) = sum_of_rows (scaled_row m row) (weighted ms rows)
 
 -- the dot product of each row with x
 abbrev pub dots : List (List ℤ) → List ℤ → List ℤ

@@ -32,8 +32,9 @@ pub fn motzkin()
     ensures { NeverBoth }
 {}
 
-/// `gcd` and `gcd_of` are the greatest common divisors, of two numbers and of a list, in the sense of divisibility;
-/// Gauss's lemma holds, and quotients by a common divisor are exact.
+/// `gcd` and `gcd_of` are the greatest common divisors, of two numbers and of a list, in the sense of divisibility, and
+/// `least_common_multiple` is the least common multiple; Gauss's lemma holds, and quotients by a common divisor are
+/// exact.
 pub fn gcd_laws()
     ensures { GcdLaws }
 {}

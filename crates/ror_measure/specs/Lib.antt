@@ -1,2 +1,4 @@
 pub mod Numbers
+pub mod Made
 pub mod Found
+pub mod Cleared

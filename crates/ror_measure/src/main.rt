@@ -87,19 +87,18 @@ fn clear<R: Print + AllocGlobal>(
     entries: usize,
     times: usize,
 ) -> io::Result<()> {
-    // The factors of the rows are 4 and 3: products of entries of less than half of the width fit.
     let others = match bits {
         15 => clear_often::<i16>(rt.alloc(), 6, entries, times),
         31 => clear_often::<i32>(rt.alloc(), 14, entries, times),
         63 => clear_often::<i64>(rt.alloc(), 30, entries, times),
         127 => clear_often::<i128>(rt.alloc(), 62, entries, times),
-        _ => None,
+        _ => Ok(None),
     };
     match others {
-        Some(others) => println!(rt;
+        Ok(Some(others)) => println!(rt;
             "{bits} bits, cleared {times} times: {others} of {entries} entries are not 0"
         ),
-        None => println!(rt; "no such rows"),
+        _ => println!(rt; "no such rows"),
     }
 }
 

@@ -1,9 +1,10 @@
 //! Systems that are made by a number, and what they come to.
 
-ghost use Rattle.std.specs.Prelude.{[], ◌≡◌, ◌-◌, ◌≤◌, length, unsigned_abs, IfSome};
-ghost use Rattle.std.specs.List.{AllByRecursion};
-ghost use Rattle.ror_system.specs.System.{IsWellFormed};
-ghost use Rattle.ror_measure.specs.Found.{IsFound, IsMadeRow, IsMadeSystem};
+ghost use Rattle.std.specs.Prelude.{[], ◌≡◌, ◌⊎◌, ◌-◌, ◌<◌, ◌≤◌, IfSome, None};
+ghost use Rattle.ror_measure.specs.declared.systems.Kind.TheVariants.{Statements, Dense};
+ghost use Rattle.ror_measure.specs.Numbers.{state_after};
+ghost use Rattle.ror_measure.specs.Made.{draws_of, made_row, made_rows, step_entry, system_of_plan};
+ghost use Rattle.ror_measure.specs.Found.{IsFound};
 ghost use Rattle.ror_pivot.specs.Answers.{most_of};
 
 use crate::numbers::Numbers;
@@ -46,8 +47,8 @@ pub enum Found {
 /// The system of a plan: strict rows, the first of them the row of ones. There is none with no row or past the limits of
 /// 2,000 columns and 2,200 rows, nor where memory ran out.
 pub fn made_system(alloc: Global, plan: Plan) -> Option<System>
-    ensures made { IfSome result (IsMadeSystem plan) }
-    ensures form { IfSome result IsWellFormed }
+    ensures made { IfSome result (λ s. s ≡ system_of_plan plan) }
+    ensures limits { plan.rows ≡ 0 ⊎ (2200 < plan.rows ⊎ 2000 < plan.columns) → result ≡ None }
 {
     if plan.rows == 0 || plan.rows > 2_200 || plan.columns > 2_000 {
         return None;
@@ -61,25 +62,36 @@ pub fn made_system(alloc: Global, plan: Plan) -> Option<System>
 /// The rows of a plan after the row of ones.
 fn made_rows(alloc: Global, plan: Plan) -> Option<Vec<Row>>
     requires { 1 ≤ plan.rows }
-    ensures count { IfSome result (λ made. length made.items ≡ plan.rows - 1) }
-    ensures widths { IfSome result (λ made. AllByRecursion (λ row. length row ≡ plan.columns) made.items) }
+    ensures { IfSome result
+        (λ made. made.items ≡ made_rows plan.kind plan.columns plan.number (plan.rows - 1)) }
 {
     let mut numbers = Numbers::from_start(plan.number);
     let mut made = Vec::with_capacity(alloc, plan.rows - 1).ok()?;
     for _ in 1..plan.rows {
-        let row = match plan.kind {
-            Kind::Statements => statement_row(alloc, &mut numbers, plan.columns)?,
-            Kind::Dense => dense_row(alloc, &mut numbers, plan.columns)?,
-        };
-        made.push(row).ok()?;
+        made.push(made_row(alloc, &mut numbers, plan.kind, plan.columns)?)
+            .ok()?;
     }
     Some(made)
+}
+
+/// A row of this kind by the next numbers.
+fn made_row(alloc: Global, numbers: &mut Numbers, kind: Kind, columns: usize) -> Option<Row>
+    ensures row { IfSome result (λ row. row ≡ made_row kind columns numbers.old.state) }
+    ensures state { IfSome result
+        (λ _. numbers.new.state ≡ state_after (draws_of kind columns) numbers.old.state) }
+{
+    match kind {
+        Kind::Statements => statement_row(alloc, numbers, columns),
+        Kind::Dense => dense_row(alloc, numbers, columns),
+    }
 }
 
 /// The row of a statement: for each criterion the first steps up to one rank, less those up to another. Ranks are from 0
 /// to 3.
 fn statement_row(alloc: Global, numbers: &mut Numbers, columns: usize) -> Option<Row>
-    ensures { IfSome result (IsMadeRow 1 columns) }
+    ensures row { IfSome result (λ row. row ≡ made_row Statements columns numbers.old.state) }
+    ensures state { IfSome result
+        (λ _. numbers.new.state ≡ state_after (draws_of Statements columns) numbers.old.state) }
 {
     let mut entries = Vec::with_capacity(alloc, columns).ok()?;
     let mut first = 0;
@@ -97,7 +109,7 @@ fn statement_row(alloc: Global, numbers: &mut Numbers, columns: usize) -> Option
 
 /// The entry of a step: 1 below the first rank alone, -1 below the second alone, and else 0.
 fn step_entry(step: u64, first: u64, second: u64) -> i128
-    ensures { unsigned_abs result ≤ 1 }
+    ensures { result ≡ step_entry step first second }
 {
     match (step < first, step < second) {
         (true, false) => 1,
@@ -108,7 +120,9 @@ fn step_entry(step: u64, first: u64, second: u64) -> i128
 
 /// A row of entries from -3 to 3.
 fn dense_row(alloc: Global, numbers: &mut Numbers, columns: usize) -> Option<Row>
-    ensures { IfSome result (IsMadeRow 3 columns) }
+    ensures row { IfSome result (λ row. row ≡ made_row Dense columns numbers.old.state) }
+    ensures state { IfSome result
+        (λ _. numbers.new.state ≡ state_after (draws_of Dense columns) numbers.old.state) }
 {
     let mut entries = Vec::with_capacity(alloc, columns).ok()?;
     for _ in 0..columns {

@@ -1,3 +1,5 @@
+//! Made systems, solved at a width.
+
 use crate::solved;
 use crate::systems::{Found, Kind, Plan};
 use std::test::*;

@@ -33,4 +33,6 @@ pub mod NextSteps
 pub mod Bases
 pub mod PathEnds
 pub mod SomeAnswer
+pub mod FirstWideNote
+pub mod StartMeaning
 pub mod LawLemmas

@@ -1,5 +1,6 @@
 pub mod Tableau
 pub mod Pivoting
+pub mod Starts
 pub mod Ends
 pub mod Paths
 pub mod Notes

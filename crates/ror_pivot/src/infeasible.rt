@@ -32,8 +32,14 @@ pub(crate) fn infeasible_end<W: Word>(
     rows: &[FracRow<W>],
 ) -> Result<Multipliers, NumberFault>
     requires tableau { IsTableau (shape_of s.now) rows.now }
-    ensures exact { Gives {Y = List ℤ × List ℤ} (λ y. (y.weak, y.strict)) wide_place result (unless_too_wide W.most (infeasible_numbers s.now rows.now) (weak_multipliers_at (shape_of s.now) rows.now, strict_multipliers_at (shape_of s.now) rows.now)) }
-    ensures narrow { IfOk result (λ y. AllByRecursion (IsWithin W.most) y.weak × AllByRecursion (IsWithin W.most) y.strict) }
+    ensures exact { Gives {Y = List ℤ × List ℤ} (λ y. (y.weak, y.strict)) wide_place result
+        (unless_too_wide W.most (infeasible_numbers s.now rows.now) (
+          weak_multipliers_at (shape_of s.now) rows.now,
+          strict_multipliers_at (shape_of s.now)
+              rows.now,
+        )) }
+    ensures narrow { IfOk result (λ y. AllByRecursion (IsWithin W.most) y.weak
+        × AllByRecursion (IsWithin W.most) y.strict) }
 {
     let shape = Shape::of(s);
     let objective = &rows[shape.objective_row()];
@@ -63,8 +69,10 @@ fn entries_from<W: Word>(
 ) -> Result<Vec<W>, AllocError>
     requires within { first + count ≤ length row.now.entries }
     requires small { first + count < 2 ^ 64 }
-    ensures exact { IfOk result (λ words. map W.value words.items ≡ map (entry row.now.entries) (range_with_len first count)) }
-    ensures within { IfOk result (λ words. AllByRecursion (λ word. IsWithin W.most (W.value word)) words.items) }
+    ensures exact { IfOk result (λ words. map W.value words.items
+        ≡ map (entry row.now.entries) (range_with_len first count)) }
+    ensures within { IfOk result (λ words. AllByRecursion (λ word. IsWithin W.most (W.value word))
+        words.items) }
 {
     let mut words = Vec::with_capacity(alloc, count)?;
     for k in 0..count {
@@ -80,7 +88,9 @@ fn column_sum<W: Word>(s: &System, weak: &[W], strict: &[W], j: usize) -> Option
     requires strict_length { length strict.now ≡ length s.now.strict }
     requires weak_values { AllByRecursion (λ word. IsWithin W.most (W.value word)) weak.now }
     requires strict_values { AllByRecursion (λ word. IsWithin W.most (W.value word)) strict.now }
-    ensures { GivesExact W.value W.most result (pos (absolute_dot (map W.value weak.now ++ map W.value strict.now) (column (rows_of s.now) j))) }
+    ensures { GivesExact W.value W.most result
+        (pos (absolute_dot (map W.value weak.now ++ map W.value strict.now)
+        (column (rows_of s.now) j))) }
 {
     let weak_sum = plus_column(W::ZERO, weak, s.weak(), j)?;
     plus_column(weak_sum, strict, s.strict(), j)

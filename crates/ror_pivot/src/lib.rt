@@ -10,7 +10,6 @@ mod note;
 mod path;
 mod pivot;
 mod shape;
-mod signs;
 mod start;
 mod sums;
 

@@ -31,8 +31,8 @@ pub enum Outcome {
 }
 
 /// Where a number of a path stands. The rows of `Start`, `Step` and `Denominator` are those of the tableau, that of `RowSum`
-/// is one of the system, weak rows first. Rows of the tableau are below weak + strict + 2, columns below
-/// steps + weak + strict + 4.
+/// is one of the system, weak rows first. Rows of the tableau are below weak + strict + 2, that of `Denominator` below
+/// weak + strict + 1, and columns below steps + weak + strict + 4.
 #[derive(Clone, Copy, Debug, PartialEq, Eq)]
 pub enum Place {
     /// An entry of the starting tableau, by its row and its column.

@@ -2,7 +2,7 @@
 
 ghost use Rattle.std.specs.Prelude.{◌≡◌, ◌<◌, ◌≤◌};
 ghost use Rattle.ror_system.specs.System.{IsWellFormed};
-ghost use Rattle.ror_pivot.specs.Tableau.{shape_of, slack_count, slack_column, objective_column, right_side, objective_row, row_count, column_count};
+ghost use Rattle.ror_pivot.specs.Tableau.{shape_of, slack_count, slack_column, objective_column, right_side_column, objective_row, tableau_height, column_count};
 ghost use Rattle.ror_pivot.specs.Calls.{IsSmall};
 
 use ror_system::System;
@@ -55,9 +55,9 @@ impl Shape {
     }
 
     /// The column of the right-hand sides, which is the last.
-    pub(crate) fn right_side(self) -> usize
+    pub(crate) fn right_side_column(self) -> usize
         requires { IsSmall self }
-        ensures { result ≡ right_side self }
+        ensures { result ≡ right_side_column self }
     {
         self.objective_column() + 1
     }
@@ -67,13 +67,13 @@ impl Shape {
         requires { IsSmall self }
         ensures { result ≡ column_count self }
     {
-        self.right_side() + 1
+        self.right_side_column() + 1
     }
 
     /// How many rows there are.
-    pub(crate) fn row_count(self) -> usize
+    pub(crate) fn tableau_height(self) -> usize
         requires { IsSmall self }
-        ensures { result ≡ row_count self }
+        ensures { result ≡ tableau_height self }
     {
         self.objective_row() + 1
     }

@@ -5,9 +5,9 @@ ghost use Rattle.std.specs.List.{AllByRecursion};
 ghost use Rattle.ror_integers.specs.Vectors.{absolute_dot, column};
 ghost use Rattle.ror_word.specs.Within.{IsWithin, GivesExact};
 
-use crate::signs::{is_negative, is_zero};
 use ror_system::Row;
 use ror_word::Word;
+use ror_word::signs::{is_negative, is_zero};
 use std::marker::Model;
 
 /// The exact product of two words, which may pass `MOST`.
@@ -79,7 +79,7 @@ fn absolute<W: Word>(word: W) -> W
 }
 
 /// The sum of the absolute terms of a row over these values, or `None` where it passes `MOST`.
-pub(crate) fn row_sum<W: Word>(row: &Row, values: &[Product<W>]) -> Option<W>
+pub(crate) fn absolute_row_sum<W: Word>(row: &Row, values: &[Product<W>]) -> Option<W>
     requires { length values.now ≡ length row.now }
     ensures { GivesExact W.value W.most result (pos (absolute_dot row.now values.now)) }
 {
@@ -97,7 +97,8 @@ pub(crate) fn plus_column<W: Word>(start: W, multipliers: &[W], rows: &[Row], j:
     requires lengths { length multipliers.now ≡ length rows.now }
     requires values { AllByRecursion (λ word. IsWithin W.most (W.value word)) multipliers.now }
     requires widths { AllByRecursion (λ row. j < length row) rows.now }
-    ensures { GivesExact W.value W.most result (W.value start +ℤ pos (absolute_dot (map W.value multipliers.now) (column rows.now j))) }
+    ensures { GivesExact W.value W.most result
+        (W.value start +ℤ pos (absolute_dot (map W.value multipliers.now) (column rows.now j))) }
 {
     let mut sum = start;
     for i in 0..rows.len() {

@@ -1,3 +1,5 @@
+//! Small systems and a made one, decided at each width.
+
 ghost use Rattle.std.specs.Prelude.{◌≡◌, ◌<◌, ◌≤◌, ◌*◌, length, IfSome};
 ghost use Rattle.std.specs.List.{AllByRecursion};
 ghost use Rattle.ror_system.specs.System.{IsNarrow};

@@ -2,6 +2,7 @@
 #![tactic(auto)]
 
 mod divisors;
+pub mod signs;
 mod word;
 mod word_128;
 mod word_16;

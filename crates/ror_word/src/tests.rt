@@ -1,6 +1,7 @@
 //! Each call at the edges of each width, through the bound, and values worked by hand.
 
 use crate::Word;
+use crate::signs::{is_negative, is_one, is_positive, is_zero};
 use std::process::Abort;
 
 fn values_at_the_edges<W: Word>(rt: &impl Abort) {
@@ -11,6 +12,9 @@ fn values_at_the_edges<W: Word>(rt: &impl Abort) {
     assert!(rt; W::ZERO.is_value());
     assert!(rt; least < W::ZERO);
     assert!(rt; W::ZERO < W::ONE);
+    assert!(rt; is_zero(W::ZERO) && is_one(W::ONE));
+    assert!(rt; is_negative(least) && is_positive(most));
+    assert!(rt; !is_negative(W::ZERO) && !is_positive(W::ZERO));
     assert!(rt; W::ONE < most);
     assert!(rt; least.neg() == most);
     assert!(rt; W::ZERO.neg() == W::ZERO);

@@ -122,7 +122,8 @@ pub trait Word: Copy + Ord {
     /// Words are ordered as their values are.
     ghost order: { (a b : Self) → Self.cmp a b ≡ int_cmp (value a) (value b) };
 
-    ghost partial_order: { (a b : Self) → Self.partial_cmp a b ≡ Some (int_cmp (value a) (value b)) };
+    ghost partial_order: { (a b : Self)
+        → Self.partial_cmp a b ≡ Some (int_cmp (value a) (value b)) };
 
     ghost same: { (a b : Self) → IsTrue (Self.eq a b) ↔ (value a ≡ value b) };
 }
