@@ -8,3 +8,4 @@ pub mod CursorLemmas
 pub mod NumberLemmas
 pub mod IdLemmas
 pub mod ListLemmas
+pub mod Everywhere
