@@ -1,5 +1,5 @@
 -- The lines and the words of a text of UTF-8 are UTF-8.
-use Rattle.std.proofs.Common.{◌≡◌, ℕ, zero, suc, ◌+◌, ◌-◌, ◌<◌, ◌≤◌, Bool, true, not, ltb, filter, map, List, [], ◌∷◌, length, get_or, refl, sym, subst, arith, inl, inr, length-drop}
+use Rattle.std.proofs.Common.{◌≡◌, ℕ, zero, suc, ◌+◌, ◌-◌, ◌<◌, ◌≤◌, Bool, true, not, ltb, filter, map, List, [], ◌∷◌, length, get_or, sym, subst, arith, inl, inr, length-drop}
 use Rattle.std.specs.Prelude.{◌==◌}
 use Rattle.std.specs.List.{AllByRecursion, slice_split, enumerate_from, position_or_len, after_first}
 use Rattle.std.specs.Str.{IsUtf8}
