@@ -1,3 +1,5 @@
+//! Tests of the crate's public calls.
+
 use crate::{
     Bench, MOST_REPORT_BYTES, Reason, ReportError, check_report, question_of, statement_of,
 };

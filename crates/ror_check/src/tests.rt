@@ -1,3 +1,5 @@
+//! Tests of the crate's public calls.
+
 ghost use Rattle.std.specs.Prelude.{length};
 ghost use Rattle.ror_statement.specs.Statement.{IsLawful, IsValidQuestion};
 

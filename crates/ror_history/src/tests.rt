@@ -1,3 +1,5 @@
+//! Tests of the crate's public calls.
+
 use crate::{History, HistoryFault};
 use ror_statement::{Numbered, Statement};
 use std::test::Fail;

@@ -1,3 +1,5 @@
+//! Tests of the crate's public calls.
+
 use super::*;
 use std::alloc::Global;
 use std::test::Fail;

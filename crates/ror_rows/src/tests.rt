@@ -1,3 +1,5 @@
+//! Tests of the crate's public calls.
+
 use crate::{Extra, Form, question_systems, system_of};
 use ror_statement::{Question, Statement};
 use ror_system::Row;

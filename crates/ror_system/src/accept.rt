@@ -1,3 +1,5 @@
+//! What a certificate is accepted by.
+
 ghost use Rattle.std.specs.Prelude.{◌≡◌, ◌+◌, ◌<◌, ◌≤◌, ◌^◌, ◌++◌, ◌<ℤ◌, pos, length, unsigned_abs, IsTrue, IsOk, ◌↔◌, IfErr, OnOk, MatchOption, MatchResult};
 ghost use Rattle.ror_integers.specs.Vectors.{dot, absolute_dot, total, column, NoneNegative, SomePositive};
 ghost use Rattle.ror_text.specs.FirstFault.{IsFirst};

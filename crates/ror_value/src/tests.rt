@@ -1,3 +1,5 @@
+//! Tests of the crate's public calls.
+
 use crate::{ValueFault, ValueFunction};
 use ror_statement::Statement;
 use ror_table::read_plain;
