@@ -1,4 +1,5 @@
 -- What three files lead to is one thing: where a status shows it, the files decide the status.
+use Rattle.ror_bench.specs.declared.report.TheConstants.{MOST_REPORT_BYTES}
 use Rattle.std.proofs.Common.{◌≡◌, ◌≢◌, ℕ, ◌≤◌, List, length, Some, Ok, Err, refl, sym, ap, subst, inl, inr, arith}
 use Rattle.ror_io.specs.Files.{Files, file}
 use Rattle.ror_table.specs.Table.{DecisionTable}
@@ -69,7 +70,7 @@ proved_or_not files names n a b =
     let sessions : a.session ≡ b.session = one_session files names b.table a.session b.session read b.session_read in
     let moved : IsProvedReport (bench_for b.table a.session) a.session.lines a.bytes n = subst (λ (x : DecisionTable). IsProvedReport (bench_for x a.session) a.session.lines a.bytes n) tables a.proved in
     let again : IsProvedReport (bench_for b.table b.session) b.session.lines a.bytes n = subst (λ (x : Session). IsProvedReport (bench_for b.table x) x.lines a.bytes n) sessions moved in
-    b.not_proved n (subst (λ (xs : List ℕ). length xs ≤ 268435456) same a.short) (subst (λ (xs : List ℕ). IsProvedReport (bench_for b.table b.session) b.session.lines xs n) same again)
+    b.not_proved n (subst (λ (xs : List ℕ). length xs ≤ MOST_REPORT_BYTES) same a.short) (subst (λ (xs : List ℕ). IsProvedReport (bench_for b.table b.session) b.session.lines xs n) same again)
 
 long_is_not_proved : (files : Files) (names : CheckNames) → IsLongReport files names → IsNotProved files names
 long_is_not_proved files names long =

@@ -1,4 +1,5 @@
 -- What a fetch and the reading of its bytes say of the files of a shelf.
+use Rattle.ror_bench.specs.declared.report.TheConstants.{MOST_REPORT_BYTES}
 use Rattle.std.proofs.Common.{◌≡◌, ◌≢◌, ℕ, ◌<◌, ◌≤◌, ◌⊎◌, List, length, Option, Some, None, Result, Ok, Err, refl, sym, arith, inl, inr, subst, ap}
 use Rattle.ror_io.specs.Files.{Files, file, HasFile, Lacks}
 use Rattle.ror_io.specs.Counts.{Rose, DidNotRise}
@@ -64,13 +65,13 @@ work_shown files names t s bytes (Err (stops.BadSession fault)) session found ju
 work_shown files names t s bytes (Err (stops.Rejected rejection)) session found judges =
     record {
       not_proved = record { table = t; session = s; session_read = session; bytes = bytes; there = found; not_proved = judges.0 };
-      too_long = λ other. judges.1 (let same : other.bytes ≡ bytes = let at = other.there in cc in subst (λ (xs : List ℕ). 268435456 < length xs) same other.long);
+      too_long = λ other. judges.1 (let same : other.bytes ≡ bytes = let at = other.there in cc in subst (λ (xs : List ℕ). MOST_REPORT_BYTES < length xs) same other.long);
     }
 work_shown files names t s bytes (Err stops.ReadFault) session found judges = absurd judges
 work_shown files names t s bytes (Err stops.Memory) session found judges = tt
 
 -- what is refused of the bytes that were fetched is not proved
-pub judged : (t : DecisionTable) (s : Session) (bench : Workbench) (lines : List Line) (got bytes : List ℕ) (error : ReportError) → bench ≡ bench_for t s → lines ≡ s.lines → got ≡ bytes → length got ≤ 268435456 → (error ≢ report_errors.Memory → (n : ℕ) → IsProvedReport bench lines got n → ⊥) → Judges t s bytes (Err (stop_at_report error))
+pub judged : (t : DecisionTable) (s : Session) (bench : Workbench) (lines : List Line) (got bytes : List ℕ) (error : ReportError) → bench ≡ bench_for t s → lines ≡ s.lines → got ≡ bytes → length got ≤ MOST_REPORT_BYTES → (error ≢ report_errors.Memory → (n : ℕ) → IsProvedReport bench lines got n → ⊥) → Judges t s bytes (Err (stop_at_report error))
 judged t s bench lines got bytes (report_errors.Rejected rejection) benches same whole short refuted =
     (λ n within proved. refuted (λ e. cc) n (subst (λ (b : Workbench). IsProvedReport b lines got n) (sym benches) (subst (λ (ls : List Line). IsProvedReport (bench_for t s) ls got n) (sym same) (subst (λ (bs : List ℕ). IsProvedReport (bench_for t s) s.lines bs n) (sym whole) proved))), λ long. absurd (omega (arith, long, short, ap length whole)))
 judged t s bench lines got bytes report_errors.Memory benches same whole short refuted = tt

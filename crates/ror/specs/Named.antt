@@ -4,4 +4,5 @@ use Rattle.ror.specs.Words.{CheckNames}
 
 -- the names themselves
 abbrev pub names_of : FileNames → CheckNames
-names_of names = record { table = names.table.now; session = names.session.now; report = names.report.now }
+names_of names =
+    record { table = names.table.now; session = names.session.now; report = names.report.now }

@@ -13,14 +13,15 @@ use Rattle.ror_bench.specs.Reports.{IsFreeOfMemory}
 use Rattle.ror.specs.States.{ShelfState, SinkState}
 use Rattle.ror.specs.Words.{CheckNames, check_of}
 use Rattle.ror.specs.Statuses.{status_text, accepted_text}
-use Rattle.ror.specs.Work.{RefusesTable, RefusesSession, ProvesReport, RefutesReport, IsNotProved, IsLongReport, IsTrue, Misses, LacksOne}
+use Rattle.ror.specs.Work.{RefusesTable, RefusesSession, ProvesReport, RefutesReport, IsNotProved, IsLongReport, AnswersTrue, Misses, LacksOne}
 
 -- a told map lacks a file that the words name; lacks the table
 abbrev pub LacksNamed : Option Files → List (List ℕ) → Type 0
 LacksNamed told words = (names : CheckNames) × (check_of words ≡ Some names) × LacksOne told names
 
 abbrev pub LacksTable : Option Files → List (List ℕ) → Type 0
-LacksTable told words = (names : CheckNames) × (check_of words ≡ Some names) × Lacks told names.table
+LacksTable told words =
+    (names : CheckNames) × (check_of words ≡ Some names) × Lacks told names.table
 
 abbrev pub IsRejected : Status → Type 0
 IsRejected (statuses.Rejected r) = Unit {0}
@@ -45,7 +46,8 @@ EndsAfter _ n = n ≡ 3
 
 -- what the files are like where a run ends with the status; want of memory says nothing
 abbrev pub ShowsStatus : Files → CheckNames → Status → Type 0
-ShowsStatus files names statuses.Done = ((n : ℕ) × ProvesReport files names n) × IsTrue files names
+ShowsStatus files names statuses.Done =
+    ((n : ℕ) × ProvesReport files names n) × AnswersTrue files names
 ShowsStatus files names statuses.Usage = ⊥
 ShowsStatus files names (statuses.BadTable fault) = RefusesTable files names fault
 ShowsStatus files names (statuses.BadSession fault) = RefusesSession files names fault
@@ -56,43 +58,60 @@ ShowsStatus files names statuses.Memory = Unit {0}
 
 -- which status files of this kind lead to, unless memory runs out
 pub record Decides (files : Files) (names : CheckNames) (status : Status) : Type 0 where
-  pub bad_table : (fault : TableFault) → RefusesTable files names fault → status ≡ statuses.BadTable fault
-  pub bad_session : (fault : SessionFault) → RefusesSession files names fault → status ≡ statuses.BadSession fault
+  pub bad_table : (fault : TableFault) → RefusesTable files names fault
+      → status ≡ statuses.BadTable fault
+  pub bad_session : (fault : SessionFault) → RefusesSession files names fault
+      → status ≡ statuses.BadSession fault
   pub missing : Misses files names → status ≡ statuses.ReadFault
   pub rejected : IsNotProved files names → IsRejected status
-  pub too_long : IsLongReport files names → status ≡ statuses.Rejected (record { block = 0; reason = TooLong })
-  pub done : (n : ℕ) → ProvesReport files names n → (status ≡ statuses.Done) ⊎ (status ≡ statuses.WriteFault)
+  pub too_long : IsLongReport files names
+      → status ≡ statuses.Rejected (record { block = 0; reason = TooLong })
+  pub done : (n : ℕ) → ProvesReport files names n → (status ≡ statuses.Done)
+      ⊎ (status ≡ statuses.WriteFault)
 
 -- a shelf that tells its files, and whose count did not rise, is of files that the status shows
 abbrev pub ShowsFiles : Option Files → ℕ → ℕ → List (List ℕ) → Status → Type 0
-ShowsFiles told before now words status = (files : Files) (names : CheckNames) → told ≡ Some files → check_of words ≡ Some names → DidNotRise before now → ShowsStatus files names status
+ShowsFiles told before now words status =
+    (files : Files) (names : CheckNames) → told ≡ Some files → check_of words ≡ Some names
+    → DidNotRise before now → ShowsStatus files names status
 
 -- and those files decide the status
 abbrev pub DecidesStatus : Option Files → ℕ → ℕ → List (List ℕ) → Status → Type 0
-DecidesStatus told before now words status = (files : Files) (names : CheckNames) → told ≡ Some files → check_of words ≡ Some names → DidNotRise before now → status ≢ statuses.Memory → Decides files names status
+DecidesStatus told before now words status =
+    (files : Files) (names : CheckNames) → told ≡ Some files → check_of words ≡ Some names
+    → DidNotRise before now → status ≢ statuses.Memory → Decides files names status
 
 -- the report that such files prove has so many answers
 abbrev pub CountsAnswers : Option Files → ℕ → ℕ → List (List ℕ) → ℕ → Type 0
-CountsAnswers told before now words n = (files : Files) (names : CheckNames) → told ≡ Some files → check_of words ≡ Some names → DidNotRise before now → ProvesReport files names n
+CountsAnswers told before now words n =
+    (files : Files) (names : CheckNames) → told ≡ Some files → check_of words ≡ Some names
+    → DidNotRise before now → ProvesReport files names n
 
 -- What is written on standard output, where it is told: the line of the accepted report where the work was done, a
 -- proper beginning of that line where a write failed, and nothing under every other status.
-abbrev pub Writes : Option Files → ℕ → ℕ → List (List ℕ) → Option (List ℕ) → Option (List ℕ) → Status → Type 0
-Writes told before now words old new statuses.Done = (n : ℕ) × CountsAnswers told before now words n × Grew old new (accepted_text n)
-Writes told before now words old new statuses.WriteFault = (n : ℕ) × CountsAnswers told before now words n × GrewShort old new (accepted_text n)
+abbrev pub Writes : Option Files → ℕ → ℕ → List (List ℕ) → Option (List ℕ) → Option (List ℕ)
+    → Status → Type 0
+Writes told before now words old new statuses.Done =
+    (n : ℕ) × CountsAnswers told before now words n × Grew old new (accepted_text n)
+Writes told before now words old new statuses.WriteFault =
+    (n : ℕ) × CountsAnswers told before now words n × GrewShort old new (accepted_text n)
 Writes told before now words old new _ = new ≡ old
 
 -- What is written on standard error, where it is told: the text of the status, or a proper beginning of it where its
 -- own count rose, which changes no status.
 abbrev pub Says : ℕ → ℕ → Option (List ℕ) → Option (List ℕ) → Status → Type 0
-Says before now old new status = ((now ≡ before) × Grew old new (status_text status)) ⊎ (Rose before now × GrewShort old new (status_text status))
+Says before now old new status =
+    ((now ≡ before) × Grew old new (status_text status))
+    ⊎ (Rose before now × GrewShort old new (status_text status))
 
 -- How a run over the words ends with the status: what the shelf and standard output told before it, and what they tell then.
-pub record IsRun (words : List (List ℕ)) (before now : ShelfState) (old new : SinkState) (status : Status) : Type 0 where
+pub record IsRun (words : List (List ℕ)) (before now : ShelfState) (old new : SinkState)
+    (status : Status) : Type 0 where
   -- the words decide usage, and nothing else does
   pub usage : (status ≡ statuses.Usage) ↔ (check_of words ≡ None)
   -- faults of the outside come only with a cause, and a count that rose decides the status
-  pub read_fault : status ≡ statuses.ReadFault → Rose before.faults now.faults ⊎ LacksNamed before.told words
+  pub read_fault : status ≡ statuses.ReadFault → Rose before.faults now.faults
+      ⊎ LacksNamed before.told words
   pub write_fault : status ≡ statuses.WriteFault → Rose old.faults new.faults
   pub shelf_rose : before.faults < now.faults → status ≡ statuses.ReadFault
   pub out_rose : old.faults < new.faults → status ≡ statuses.WriteFault

@@ -12,3 +12,9 @@ pub record ShelfState : Type 0 where
 pub record SinkState : Type 0 where
   pub written : Option (List ℕ)
   pub faults : ℕ
+
+abbrev pub shelf_state : Option Files → ℕ → ℕ → ShelfState
+shelf_state told faults fetches = record { told = told; faults = faults; fetches = fetches }
+
+abbrev pub sink_state : Option (List ℕ) → ℕ → SinkState
+sink_state written faults = record { written = written; faults = faults }

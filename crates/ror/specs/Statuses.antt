@@ -79,13 +79,15 @@ reason_text (reasons.Answer k f) = codes "answer " ++ decimal k ++ codes " " ++ 
 
 -- the lines of the three refusals
 abbrev pub table_line : TableFault → List ℕ
-table_line f = codes "bad table: " ++ kind_text f.kind ++ codes " line " ++ decimal f.line ++ codes "\n"
+table_line f =
+    codes "bad table: " ++ kind_text f.kind ++ codes " line " ++ decimal f.line ++ codes "\n"
 
 abbrev pub session_line : SessionFault → List ℕ
 session_line f = codes "bad session: " ++ session_text f ++ codes "\n"
 
 abbrev pub rejection_line : Rejection → List ℕ
-rejection_line r = codes "rejected: block " ++ decimal r.block ++ codes " " ++ reason_text r.reason ++ codes "\n"
+rejection_line r =
+    codes "rejected: block " ++ decimal r.block ++ codes " " ++ reason_text r.reason ++ codes "\n"
 
 -- the line of a status; nothing where the work was done
 unfoldable pub status_text : Status → List ℕ

@@ -1,4 +1,5 @@
 -- Where the work on the three files stops, and what the files are like there.
+use Rattle.ror_bench.specs.declared.report.TheConstants.{MOST_REPORT_BYTES}
 use Rattle.std.specs.Prelude.{◌≡◌, ◌≢◌, ℕ, ◌<◌, ◌≤◌, ◌⊎◌, List, length, Option, Some, Result, Ok, Err, IfErr, IsErr, IsErrOf}
 use Rattle.ror_io.specs.Files.{Files, Lacks}
 use Rattle.ror_io.specs.Counts.{Rose, DidNotRise, next_count, count_after}
@@ -23,7 +24,7 @@ use Rattle.ror.specs.declared.work.Stop.TheVariants as stops
 use Rattle.ror.specs.States.{ShelfState}
 use Rattle.ror.specs.Words.{CheckNames}
 use Rattle.ror.specs.Statuses.{accepted_text}
-use Rattle.ror.specs.Work.{bench_for, ReadsTable, ReadsSession, RefusesTable, RefusesSession, ProvesReport, RefutesReport, IsTrue, Misses, LacksOne}
+use Rattle.ror.specs.Work.{bench_for, ReadsTable, ReadsSession, RefusesTable, RefusesSession, ProvesReport, RefutesReport, AnswersTrue, Misses, LacksOne}
 
 -- the stop that a fault of the shelf leads to, and those of the readers
 abbrev pub stop_at_shelf : ShelfFault → Stop
@@ -106,16 +107,20 @@ ReadsSessionAs reading (Err stops.Memory) = Unit {0}
 
 -- what a step answered of a report's bytes: the number of answers, of which each is true, or that none is proved
 abbrev pub Judges : DecisionTable → Session → List ℕ → Result ℕ Stop → Type 0
-Judges t s bytes (Ok n) = (length bytes ≤ 268435456) × IsAcceptedReport (bench_for t s) s.lines bytes n
+Judges t s bytes (Ok n) =
+    (length bytes ≤ MOST_REPORT_BYTES) × IsAcceptedReport (bench_for t s) s.lines bytes n
 Judges t s bytes (Err (stops.BadTable fault)) = ⊥
 Judges t s bytes (Err (stops.BadSession fault)) = ⊥
-Judges t s bytes (Err (stops.Rejected rejection)) = ((n : ℕ) → length bytes ≤ 268435456 → IsProvedReport (bench_for t s) s.lines bytes n → ⊥) × (268435456 < length bytes → rejection ≡ record { block = 0; reason = TooLong })
+Judges t s bytes (Err (stops.Rejected rejection)) =
+    ((n : ℕ) → length bytes ≤ MOST_REPORT_BYTES → IsProvedReport (bench_for t s) s.lines bytes n
+    → ⊥) × (MOST_REPORT_BYTES < length bytes → rejection ≡ record { block = 0; reason = TooLong })
 Judges t s bytes (Err stops.ReadFault) = ⊥
 Judges t s bytes (Err stops.Memory) = Unit {0}
 
 -- P of the files, where they are told and the count of faults did not rise
 abbrev pub OfToldFiles : Option Files → ℕ → ℕ → (Files → Type 0) → Type 0
-OfToldFiles told before now P = (files : Files) → told ≡ Some files → DidNotRise before now → P files
+OfToldFiles told before now P =
+    (files : Files) → told ≡ Some files → DidNotRise before now → P files
 
 -- what a table, a session, and the number of a proved report's answers show, or else the stop
 abbrev pub ShowsTable : CheckNames → Result DecisionTable Stop → Files → Type 0
@@ -127,27 +132,31 @@ ShowsSession names t (Ok s) files = ReadsSession files names t s
 ShowsSession names t (Err stop) files = ShowsStop files names stop
 
 abbrev pub ShowsWork : CheckNames → Result ℕ Stop → Files → Type 0
-ShowsWork names (Ok n) files = ProvesReport files names n × IsTrue files names
+ShowsWork names (Ok n) files = ProvesReport files names n × AnswersTrue files names
 ShowsWork names (Err stop) files = ShowsStop files names stop
 
 -- Fetching the file with this name, the next after so many that were read, and reading it: what the shelf was and is, and
 -- what came of it.
-pub record IsFetchOf {A : Type 0} (name : List ℕ) (place : ℕ) (before now : ShelfState) (result : Result A Stop) : Type 0 where
+pub record IsFetchOf {A : Type 0} (name : List ℕ) (place : ℕ) (before now : ShelfState)
+    (result : Result A Stop) : Type 0 where
   pub never_falls : before.faults ≤ now.faults
   pub told_stays : now.told ≡ before.told
   pub counted : now.fetches ≡ next_count before.fetches
-  pub read_fault : IsErrOf result stops.ReadFault → Rose before.faults now.faults ⊎ Lacks before.told name
+  pub read_fault : IsErrOf result stops.ReadFault → Rose before.faults now.faults
+      ⊎ Lacks before.told name
   pub missing : Lacks before.told name → IsErrOf result stops.ReadFault
   pub rose : before.faults < now.faults → IsErrOf result stops.ReadFault
   pub pure : IfErr result IsPure
   pub stop : IfErr result (λ stop. StopsAfter stop place)
 
 -- the whole work on the files of these names
-pub record IsWorkOn (names : CheckNames) (before now : ShelfState) (result : Result ℕ Stop) : Type 0 where
+pub record IsWorkOn (names : CheckNames) (before now : ShelfState)
+    (result : Result ℕ Stop) : Type 0 where
   pub never_falls : before.faults ≤ now.faults
   pub told_stays : now.told ≡ before.told
   pub counted : (n : ℕ) × WorksAfter result n × (now.fetches ≡ count_after n before.fetches)
-  pub read_fault : IsErrOf result stops.ReadFault → Rose before.faults now.faults ⊎ LacksOne before.told names
+  pub read_fault : IsErrOf result stops.ReadFault → Rose before.faults now.faults
+      ⊎ LacksOne before.told names
   pub rose : before.faults < now.faults → IsErrOf result stops.ReadFault
   pub lacking : LacksOne before.told names → IsErr result
   pub no_table : Lacks before.told names.table → IsErrOf result stops.ReadFault
@@ -157,5 +166,9 @@ pub record IsWorkOn (names : CheckNames) (before now : ShelfState) (result : Res
 -- How a run ends after the work, and what it writes: the line of the accepted report or a proper front of it where the
 -- work was done, and nothing where it stopped.
 abbrev pub Concludes : ℕ → ℕ → Option (List ℕ) → Option (List ℕ) → Result ℕ Stop → Status → Type 0
-Concludes before now old new (Ok n) status = ((status ≡ statuses.Done) × (now ≡ before) × Grew old new (accepted_text n)) ⊎ ((status ≡ statuses.WriteFault) × (before ≤ now) × Rose before now × GrewShort old new (accepted_text n))
-Concludes before now old new (Err stop) status = (status ≡ status_at stop) × (now ≡ before) × (new ≡ old)
+Concludes before now old new (Ok n) status =
+    ((status ≡ statuses.Done) × (now ≡ before) × Grew old new (accepted_text n))
+    ⊎ ((status ≡ statuses.WriteFault) × (before ≤ now) × Rose before now
+    × GrewShort old new (accepted_text n))
+Concludes before now old new (Err stop) status =
+    (status ≡ status_at stop) × (now ≡ before) × (new ≡ old)

@@ -1,4 +1,6 @@
 -- What the bytes of the three files lead to.
+use Rattle.ror_statement.specs.declared.statement.TheConstants.{MOST_STATEMENTS}
+use Rattle.ror_bench.specs.declared.report.TheConstants.{MOST_REPORT_BYTES}
 use Rattle.std.specs.Prelude.{◌≡◌, ℕ, ◌<◌, ◌≤◌, ◌⊎◌, Bool, true, false, ◌||◌, ◌&&◌, nat_le, if◌then◌else◌, List, [], ◌∷◌, ◌++◌, length, Option, Some, None, is_none, Result, Ok, Err}
 use Rattle.std.specs.List.{filter}
 use Rattle.ror_text.specs.Reading.{◌>>=◌}
@@ -36,12 +38,15 @@ statement_count lines = length (filter (λ line. is_statement line.command) line
 -- The lines that a session over the table may not have: one with a name that the table lacks, and one that states after
 -- 200 others did.
 abbrev pub is_refused : DecisionTable → ℕ → Line → Bool
-is_refused t stated line = names_nothing t line.command || (is_statement line.command && nat_le 200 stated)
+is_refused t stated line =
+    names_nothing t line.command || (is_statement line.command && nat_le MOST_STATEMENTS stated)
 
 -- the first such line, after those before
 abbrev pub first_refused : DecisionTable → List Line → List Line → Option Line
 first_refused t before [] = None
-first_refused t before (line ∷ more) = if is_refused t (statement_count before) line then Some line else first_refused t (before ++ line ∷ []) more
+first_refused t before (line ∷ more) =
+    if is_refused t (statement_count before) line then Some line
+    else first_refused t (before ++ line ∷ []) more
 
 -- the session, unless a line is refused: the first such line is a bad one
 abbrev pub refuse_line : Option Line → Session → Result Session SessionFault
@@ -67,7 +72,8 @@ pub record RefusesTable (files : Files) (names : CheckNames) (fault : TableFault
   pub refused : plain_table bytes ≡ Err fault
 
 -- the table was read, and the session's bytes are a session over it; are refused
-pub record ReadsSession (files : Files) (names : CheckNames) (t : DecisionTable) (s : Session) : Type 0 where
+pub record ReadsSession (files : Files) (names : CheckNames) (t : DecisionTable)
+    (s : Session) : Type 0 where
   pub table : ReadsTable files names t
   pub bytes : List ℕ
   pub there : file files names.session ≡ Some bytes
@@ -88,7 +94,7 @@ pub record ProvesReport (files : Files) (names : CheckNames) (answers : ℕ) : T
   pub session_read : ReadsSession files names table session
   pub bytes : List ℕ
   pub there : file files names.report ≡ Some bytes
-  pub short : length bytes ≤ 268435456
+  pub short : length bytes ≤ MOST_REPORT_BYTES
   pub proved : IsProvedReport (bench_for table session) session.lines bytes answers
 
 -- table and session were read, and the report's bytes are too many, or the text of no report that is proved for them
@@ -98,7 +104,8 @@ pub record IsNotProved (files : Files) (names : CheckNames) : Type 0 where
   pub session_read : ReadsSession files names table session
   pub bytes : List ℕ
   pub there : file files names.report ≡ Some bytes
-  pub not_proved : (answers : ℕ) → length bytes ≤ 268435456 → IsProvedReport (bench_for table session) session.lines bytes answers → ⊥
+  pub not_proved : (answers : ℕ) → length bytes ≤ MOST_REPORT_BYTES
+      → IsProvedReport (bench_for table session) session.lines bytes answers → ⊥
 
 -- table and session were read, and the report's bytes are too many
 pub record IsLongReport (files : Files) (names : CheckNames) : Type 0 where
@@ -107,7 +114,7 @@ pub record IsLongReport (files : Files) (names : CheckNames) : Type 0 where
   pub session_read : ReadsSession files names table session
   pub bytes : List ℕ
   pub there : file files names.report ≡ Some bytes
-  pub long : 268435456 < length bytes
+  pub long : MOST_REPORT_BYTES < length bytes
 
 -- the report is not proved; where its bytes are too many, that is the reason that is named
 pub record RefutesReport (files : Files) (names : CheckNames) (rejection : Rejection) : Type 0 where
@@ -115,7 +122,7 @@ pub record RefutesReport (files : Files) (names : CheckNames) (rejection : Rejec
   pub too_long : IsLongReport files names → rejection ≡ record { block = 0; reason = TooLong }
 
 -- every answer of the report is true of all compatible value functions
-pub record IsTrue (files : Files) (names : CheckNames) : Type 0 where
+pub record AnswersTrue (files : Files) (names : CheckNames) : Type 0 where
   pub table : DecisionTable
   pub session : Session
   pub session_read : ReadsSession files names table session
@@ -127,8 +134,10 @@ pub record IsTrue (files : Files) (names : CheckNames) : Type 0 where
 -- the first file that is due and not there, the files before it having been read
 pub data Misses (files : Files) (names : CheckNames) : Type 0 where
   no_table : file files names.table ≡ None → Misses files names
-  no_session : (t : DecisionTable) → ReadsTable files names t → file files names.session ≡ None → Misses files names
-  no_report : (t : DecisionTable) (s : Session) → ReadsSession files names t s → file files names.report ≡ None → Misses files names
+  no_session : (t : DecisionTable) → ReadsTable files names t → file files names.session ≡ None
+      → Misses files names
+  no_report : (t : DecisionTable) (s : Session) → ReadsSession files names t s
+      → file files names.report ≡ None → Misses files names
 
 -- a told map lacks one of the three files
 abbrev pub LacksOne : Option Files → CheckNames → Type 0

@@ -6,10 +6,8 @@ ghost use Rattle.ror_table.specs.Table.{alternative_named};
 ghost use Rattle.ror.specs.Work as spec;
 
 use ror_session::{Asked, Command, Line, Named};
+use ror_statement::MOST_STATEMENTS;
 use ror_table::Table;
-
-/// How many statements a session may make.
-const MOST_STATEMENTS: usize = 200;
 
 /// The first line that names an alternative which the table lacks, or that states after 200 others did.
 pub fn first_refused<'a>(table: &Table, lines: &'a [Line]) -> Option<&'a Line>

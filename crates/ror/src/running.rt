@@ -2,7 +2,7 @@
 
 ghost use Rattle.std.specs.Prelude.{◌≤◌, map};
 ghost use Rattle.std.specs.String.{string_bytes};
-ghost use Rattle.ror.specs.States.{ShelfState, SinkState};
+ghost use Rattle.ror.specs.States.{shelf_state, sink_state};
 ghost use Rattle.ror.specs.Stops.{Concludes};
 ghost use Rattle.ror.specs.Running.{IsRun, Says};
 
@@ -22,10 +22,10 @@ pub fn run<F: Shelf, O: Sink, E: Sink>(
     err: &mut E,
 ) -> Status
     ensures run { IsRun (map string_bytes words.now)
-        (record { told = F.told shelf.old; faults = F.faults shelf.old; fetches = F.fetch_count shelf.old })
-        (record { told = F.told shelf.new; faults = F.faults shelf.new; fetches = F.fetch_count shelf.new })
-        (record { written = O.written out.old; faults = O.faults out.old })
-        (record { written = O.written out.new; faults = O.faults out.new }) result }
+        (shelf_state (F.told shelf.old) (F.faults shelf.old) (F.fetch_count shelf.old))
+        (shelf_state (F.told shelf.new) (F.faults shelf.new) (F.fetch_count shelf.new))
+        (sink_state (O.written out.old) (O.faults out.old))
+        (sink_state (O.written out.new) (O.faults out.new)) result }
     ensures err_never_falls { E.faults err.old ≤ E.faults err.new }
     ensures errors { Says (E.faults err.old) (E.faults err.new)
         (E.written err.old) (E.written err.new) result }
@@ -44,10 +44,10 @@ fn status_of<F: Shelf, O: Sink>(
     out: &mut O,
 ) -> Status
     ensures run { IsRun (map string_bytes words.now)
-        (record { told = F.told shelf.old; faults = F.faults shelf.old; fetches = F.fetch_count shelf.old })
-        (record { told = F.told shelf.new; faults = F.faults shelf.new; fetches = F.fetch_count shelf.new })
-        (record { written = O.written out.old; faults = O.faults out.old })
-        (record { written = O.written out.new; faults = O.faults out.new }) result }
+        (shelf_state (F.told shelf.old) (F.faults shelf.old) (F.fetch_count shelf.old))
+        (shelf_state (F.told shelf.new) (F.faults shelf.new) (F.fetch_count shelf.new))
+        (sink_state (O.written out.old) (O.faults out.old))
+        (sink_state (O.written out.new) (O.faults out.new)) result }
 {
     let Some(names) = check_names(words) else {
         return Status::Usage;

@@ -75,7 +75,8 @@ fn write_numbered<S: Sink, N: Integer>(
     after: &[u8],
 ) -> Result<(), SinkFault>
     ensures { Prints (S.faults sink.old) (S.faults sink.new)
-        (S.written sink.old) (S.written sink.new) (before.now ++ N.text number ++ after.now) result }
+        (S.written sink.old) (S.written sink.new)
+        (before.now ++ N.text number ++ after.now) result }
 {
     let mut digits = Buffer::new();
     write_pieces(sink, &[before, digits.format(number).as_bytes(), after])

@@ -6,26 +6,21 @@ ghost use Rattle.ror_io.specs.Fetching.{Fetches, IsNoLonger};
 ghost use Rattle.ror_table.specs.Plain.{plain_table};
 ghost use Rattle.ror_bench.specs.Reports.{NamesADesk};
 ghost use Rattle.ror.specs.Named.{names_of};
-ghost use Rattle.ror.specs.States.{ShelfState};
+ghost use Rattle.ror.specs.States.{shelf_state};
 ghost use Rattle.ror.specs.Work.{session_over, ReadsTable, ReadsSession};
 ghost use Rattle.ror.specs.Stops.{IsOfBytes, IsFetchOf, IsWorkOn, ReadsTableAs, ReadsSessionAs, Judges, OfToldFiles, ShowsTable, ShowsSession, ShowsWork};
 
 use crate::names::first_refused;
 use crate::status::Status;
 use crate::words::FileNames;
-use ror_bench::{Bench, Reason, Rejection, ReportError, check_report};
+use ror_bench::{Bench, MOST_REPORT_BYTES, Reason, Rejection, ReportError, check_report};
 use ror_io::{Fetched, Shelf, ShelfFault};
 use ror_session::{Session, SessionFault, read_session};
 use ror_table::{Table, TableError, TableFault, TableKind, read_plain};
 use ror_text::Items;
+use ror_text::lines::MOST_TEXT_BYTES;
 use ror_value::Input;
 use std::alloc::{AllocError, Global};
-
-/// The greatest number of bytes of a table, and of a session.
-const TEXT_BYTES: usize = 16_777_216;
-
-/// The greatest number of bytes of a report.
-const REPORT_BYTES: usize = 268_435_456;
 
 /// Why the work came to no accepted report.
 #[derive(Debug, Drop)]
@@ -128,8 +123,8 @@ pub fn check_files<F: Shelf>(
     shelf: &mut F,
 ) -> Result<u64, Stop>
     ensures work { IsWorkOn (names_of names.now)
-        (record { told = F.told shelf.old; faults = F.faults shelf.old; fetches = F.fetch_count shelf.old })
-        (record { told = F.told shelf.new; faults = F.faults shelf.new; fetches = F.fetch_count shelf.new }) result }
+        (shelf_state (F.told shelf.old) (F.faults shelf.old) (F.fetch_count shelf.old))
+        (shelf_state (F.told shelf.new) (F.faults shelf.new) (F.fetch_count shelf.new)) result }
 {
     let table = fetch_table(alloc, names, shelf)?;
     let session = fetch_session(alloc, names, shelf, &table)?;
@@ -138,7 +133,7 @@ pub fn check_files<F: Shelf>(
 
 /// Reads a table that was fetched.
 fn table_in(alloc: Global, fetched: Fetched) -> Result<Table, Stop>
-    ensures reads { (bytes : List ℕ) → Fetches bytes 16777216 fetched
+    ensures reads { (bytes : List ℕ) → Fetches bytes MOST_TEXT_BYTES fetched
         → ReadsTableAs (plain_table bytes) result }
     ensures stop { IfErr result (IsOfBytes 1) }
 {
@@ -154,7 +149,7 @@ fn table_in(alloc: Global, fetched: Fetched) -> Result<Table, Stop>
 /// Reads a session that was fetched, and refuses the first line that names an alternative which
 /// the table lacks, or that states after 200 others did.
 fn session_in(alloc: Global, table: &Table, fetched: Fetched) -> Result<Session, Stop>
-    ensures reads { (bytes : List ℕ) → Fetches bytes 16777216 fetched
+    ensures reads { (bytes : List ℕ) → Fetches bytes MOST_TEXT_BYTES fetched
         → ReadsSessionAs (session_over table.now bytes) result }
     ensures stop { IfErr result (IsOfBytes 2) }
     ensures desks { IfOk result (λ s. AllByRecursion (NamesADesk (length s.desks)) s.lines) }
@@ -174,8 +169,8 @@ fn session_in(alloc: Global, table: &Table, fetched: Fetched) -> Result<Session,
 fn answers_in(alloc: Global, table: Table, session: &Session, fetched: Fetched) -> Result<u64, Stop>
     requires desks { AllByRecursion (NamesADesk (length session.now.desks)) session.now.lines }
     requires few_desks { length session.now.desks ≤ 64 }
-    requires within { IsNoLonger 268435456 fetched }
-    ensures judges { (bytes : List ℕ) → Fetches bytes 268435456 fetched
+    requires within { IsNoLonger MOST_REPORT_BYTES fetched }
+    ensures judges { (bytes : List ℕ) → Fetches bytes MOST_REPORT_BYTES fetched
         → Judges table session.now bytes result }
     ensures stop { IfErr result (IsOfBytes 3) }
 {
@@ -195,12 +190,12 @@ fn answers_in(alloc: Global, table: Table, session: &Session, fetched: Fetched) 
 /// Fetches and reads the table.
 fn fetch_table<F: Shelf>(alloc: Global, names: &FileNames<'_>, shelf: &mut F) -> Result<Table, Stop>
     ensures fetch { IsFetchOf names.now.table.now 1
-        (record { told = F.told shelf.old; faults = F.faults shelf.old; fetches = F.fetch_count shelf.old })
-        (record { told = F.told shelf.new; faults = F.faults shelf.new; fetches = F.fetch_count shelf.new }) result }
+        (shelf_state (F.told shelf.old) (F.faults shelf.old) (F.fetch_count shelf.old))
+        (shelf_state (F.told shelf.new) (F.faults shelf.new) (F.fetch_count shelf.new)) result }
     ensures shows { OfToldFiles (F.told shelf.old) (F.faults shelf.old) (F.faults shelf.new)
         (ShowsTable (names_of names.now) result) }
 {
-    table_in(alloc, shelf.fetch(alloc, names.table, TEXT_BYTES)?)
+    table_in(alloc, shelf.fetch(alloc, names.table, MOST_TEXT_BYTES)?)
 }
 
 /// Fetches and reads the session.
@@ -211,15 +206,19 @@ fn fetch_session<F: Shelf>(
     table: &Table,
 ) -> Result<Session, Stop>
     ensures fetch { IsFetchOf names.now.session.now 2
-        (record { told = F.told shelf.old; faults = F.faults shelf.old; fetches = F.fetch_count shelf.old })
-        (record { told = F.told shelf.new; faults = F.faults shelf.new; fetches = F.fetch_count shelf.new }) result }
+        (shelf_state (F.told shelf.old) (F.faults shelf.old) (F.fetch_count shelf.old))
+        (shelf_state (F.told shelf.new) (F.faults shelf.new) (F.fetch_count shelf.new)) result }
     ensures shows { OfToldFiles (F.told shelf.old) (F.faults shelf.old) (F.faults shelf.new)
         (λ files. ReadsTable files (names_of names.now) table.now
         → ShowsSession (names_of names.now) table.now result files) }
     ensures desks { IfOk result (λ s. AllByRecursion (NamesADesk (length s.desks)) s.lines) }
     ensures few_desks { IfOk result (λ s. length s.desks ≤ 64) }
 {
-    session_in(alloc, table, shelf.fetch(alloc, names.session, TEXT_BYTES)?)
+    session_in(
+        alloc,
+        table,
+        shelf.fetch(alloc, names.session, MOST_TEXT_BYTES)?,
+    )
 }
 
 /// Fetches and checks the report, and gives the number of its answers.
@@ -233,12 +232,12 @@ fn check_fetched<F: Shelf>(
     requires desks { AllByRecursion (NamesADesk (length session.now.desks)) session.now.lines }
     requires few_desks { length session.now.desks ≤ 64 }
     ensures fetch { IsFetchOf names.now.report.now 3
-        (record { told = F.told shelf.old; faults = F.faults shelf.old; fetches = F.fetch_count shelf.old })
-        (record { told = F.told shelf.new; faults = F.faults shelf.new; fetches = F.fetch_count shelf.new }) result }
+        (shelf_state (F.told shelf.old) (F.faults shelf.old) (F.fetch_count shelf.old))
+        (shelf_state (F.told shelf.new) (F.faults shelf.new) (F.fetch_count shelf.new)) result }
     ensures shows { OfToldFiles (F.told shelf.old) (F.faults shelf.old) (F.faults shelf.new)
         (λ files. ReadsSession files (names_of names.now) table session.now
         → ShowsWork (names_of names.now) result files) }
 {
-    let fetched = shelf.fetch(alloc, names.report, REPORT_BYTES)?;
+    let fetched = shelf.fetch(alloc, names.report, MOST_REPORT_BYTES)?;
     answers_in(alloc, table, session, fetched)
 }
