@@ -1,8 +1,8 @@
 //! The lines that a run writes. To write them takes no memory.
 
-ghost use Rattle.std.specs.Prelude.{◌≡◌, ◌++◌, decimal};
+ghost use Rattle.std.specs.Prelude.{◌≡◌, ◌++◌};
 ghost use Rattle.ror.specs.Printing.{Prints};
-ghost use Rattle.ror.specs.Statuses.{kind_text, session_text, reject_text, fault_text, reason_text, table_line, session_line, rejection_line, status_text, accepted_text};
+ghost use Rattle.ror.specs.Statuses.{kind_text, reject_text, fault_text, reason_text, table_line, session_line, rejection_line, status_text, accepted_text};
 
 use crate::status::Status;
 use itoa::{Buffer, Integer};
