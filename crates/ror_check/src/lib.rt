@@ -1,3 +1,4 @@
+#![tactic(auto)]
 //! The separate checker: whether an answer's proof proves it. It multiplies out what it is given
 //! and never searches.
 //!
@@ -22,7 +23,6 @@
 //! weighed by 1 each, it and the row of the statement sum to 0 in each column, so no compatible
 //! function is against the answer. With the base 0 0 0 1 the answer is refused: the base's row 1
 //! comes to -1.
-#![tactic(auto)]
 
 mod check;
 mod fault;

@@ -1,3 +1,4 @@
+#![tactic(auto)]
 //! Decision tables: alternatives evaluated on criteria, each with a direction.
 //!
 //! [`read_plain`] reads the plain text of a table, or names its first fault as a [`TableFault`]. A
@@ -23,7 +24,6 @@
 //! // The one step of `p` is the second of all columns.
 //! assert_eq!(table.column(1, 1), 1);
 //! ```
-#![tactic(auto)]
 
 mod direction;
 mod draft;
