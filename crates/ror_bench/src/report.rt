@@ -1,9 +1,7 @@
 //! The check of a report, block by block.
 
 ghost use Rattle.std.specs.Prelude.{◌≡◌, ◌≢◌, ◌<◌, ◌≤◌, ◌+◌, ◌-◌, min, ℕ, drop, length, IfOk, IfErr, OnOk, OnErr};
-ghost use Rattle.std.specs.Bool.{MatchBool};
 ghost use Rattle.std.specs.List.{AllByRecursion};
-ghost use Rattle.std.specs.Str.{IsUtf8};
 ghost use Rattle.ror_text.specs.Lines.{line_of};
 ghost use Rattle.ror_table.specs.Table.{IsTable};
 ghost use Rattle.ror_report.specs.Text.{end_text};
@@ -17,7 +15,7 @@ use ror_check::CheckFault;
 use ror_report::{ReportFault, begins_end, read_block, read_end, read_header};
 use ror_session::Line;
 use ror_table::Table;
-use ror_text::lines::line_number;
+use ror_text::lines::{is_utf8, line_number};
 use std::alloc::Global;
 use thiserror::Error;
 
@@ -79,22 +77,13 @@ pub fn check_report(
 {
     // What is read back is what was written only over a table, and each table has alternatives.
     prove!(bench.table().alternatives() > 0);
-    if !is_text(bytes) {
+    if !is_utf8(bytes) {
         return Err(ReportError::Rejected(Rejection {
             block: 0,
             reason: Reason::NotUtf8,
         }));
     }
     check_blocks(alloc, bench, lines, bytes)
-}
-
-fn is_text(bytes: &[u8]) -> bool
-    ensures { MatchBool result (IsUtf8 bytes.now) (¬ (IsUtf8 bytes.now)) }
-{
-    match std::str::from_utf8(bytes) {
-        Ok(_) => true,
-        Err(_) => false,
-    }
 }
 
 /// Checks the blocks of a report, whatever its bytes are.
