@@ -33,9 +33,9 @@ HidesNoMemory (statuses.BadSession fault) = fault ≢ session_faults.Memory
 HidesNoMemory (statuses.Rejected rejection) = IsFreeOfMemory rejection.reason
 HidesNoMemory _ = Unit {0}
 
--- The run ends after so many fetches, at most one for each file and in their order: none where the words name no files,
--- one where the table is refused, two where the session is, and three where the report is read. A file that could not be
--- read, and want of memory, may come at each.
+-- The run ends after so many fetches: none where the words name no files, one where the table is refused, two where the
+-- session is, and three where the report is read. A file that could not be read ends it after one to three, and want of
+-- memory after three at most. Of which files they are this says nothing.
 abbrev pub EndsAfter : Status → ℕ → Type 0
 EndsAfter statuses.Usage n = n ≡ 0
 EndsAfter (statuses.BadTable fault) n = n ≡ 1

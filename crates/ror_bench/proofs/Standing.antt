@@ -6,8 +6,8 @@ use Rattle.std.proofs.lemmas.List.{length-map, map-append, length-append, set-ge
 use Rattle.std.proofs.Math.Seq.{map-set_same}
 use Rattle.ror_statement.specs.declared.statement.Statement.{Statement}
 use Rattle.ror_statement.specs.declared.statement.Numbered.{Numbered}
-use Rattle.ror_statement.specs.Statement.{IsLawful, IsValid}
 use Rattle.ror_table.specs.Table.{DecisionTable}
+use Rattle.ror_value.specs.Over.{IsLawfulIn, IsValidIn}
 use Rattle.ror_session.specs.declared.session.Command.TheVariants.{State, Ask}
 use Rattle.ror_session.specs.declared.session.Named.{Named}
 use Rattle.ror_session.specs.declared.session.Asked.{Asked}
@@ -31,30 +31,30 @@ stand : (r : Revisions) → length (statements_of r) ≡ length (standing r)
 stand r = simp length-map
 
 -- with a statement that can be added a list stays lawful
-pub added-lawful : (alternatives : ℕ) (r : Revisions) (n : ℕ) (s : Statement) → IsLawful alternatives (statements_of r) → IsValid alternatives s → CanBeAdded r s → IsLawful alternatives (statements_of (with_revision r (addition n s)))
-added-lawful alternatives r n s lawful valid can =
-    subst (IsLawful alternatives) (sym (statements-added r n s)) (record {
+pub added-lawful : (t : DecisionTable) (r : Revisions) (n : ℕ) (s : Statement) → IsLawfulIn t (statements_of r) → IsValidIn t s → CanBeAdded r s → IsLawfulIn t (statements_of (with_revision r (addition n s)))
+added-lawful t r n s lawful valid can =
+    subst (IsLawfulIn t) (sym (statements-added r n s)) (record {
       few = let few = can.few in omega (arith, length-append (statements_of r) (s ∷ []), stand r);
       rows = can.rows;
-      each_valid = all-append (IsValid alternatives) (statements_of r) s lawful.each_valid valid;
+      each_valid = all-append (IsValidIn t) (statements_of r) s lawful.each_valid valid;
     })
 
 abbrev pub bench_with : DecisionTable → List Revisions → Workbench
 bench_with t state = record { table = t; state = state }
 
 -- histories that begin with a lawful list hold lawful lists
-pub all-begin : (alternatives : ℕ) (opening : List Statement) (views : List HistoryView) (count : ℕ) → map (λ (h : HistoryView). h.state) views ≡ replicate count (record { opening = opening; surviving = [] }) → IsLawful alternatives opening → AllByRecursion (λ (h : HistoryView). IsLawful alternatives (statements_of h.state)) views
-all-begin alternatives opening [] count e lawful = tt
-all-begin alternatives opening (h ∷ hs) zero e lawful = absurd cc
-all-begin alternatives opening (h ∷ hs) (suc count) e lawful =
+pub all-begin : (t : DecisionTable) (opening : List Statement) (views : List HistoryView) (count : ℕ) → map (λ (h : HistoryView). h.state) views ≡ replicate count (record { opening = opening; surviving = [] }) → IsLawfulIn t opening → AllByRecursion (λ (h : HistoryView). IsLawfulIn t (statements_of h.state)) views
+all-begin t opening [] count e lawful = tt
+all-begin t opening (h ∷ hs) zero e lawful = absurd cc
+all-begin t opening (h ∷ hs) (suc count) e lawful =
     let first : h.state ≡ record { opening = opening; surviving = [] } = cc in
     let others : map (λ (h : HistoryView). h.state) hs ≡ replicate count (record { opening = opening; surviving = [] }) = cc in
-    (subst (λ (r : Revisions). IsLawful alternatives (statements_of r)) (sym first) (subst (IsLawful alternatives) (sym (with_numbers_from-statements 1 opening)) lawful), all-begin alternatives opening hs count others lawful)
+    (subst (λ (r : Revisions). IsLawfulIn t (statements_of r)) (sym first) (subst (IsLawfulIn t) (sym (with_numbers_from-statements 1 opening)) lawful), all-begin t opening hs count others lawful)
 
 -- and what they hold is what stands at the desks
-pub lawful_states : (alternatives : ℕ) (views : List HistoryView) → AllByRecursion (λ (h : HistoryView). IsLawful alternatives (statements_of h.state)) views → AllByRecursion (λ (r : Revisions). IsLawful alternatives (statements_of r)) (map (λ (h : HistoryView). h.state) views)
-lawful_states alternatives [] h = tt
-lawful_states alternatives (v ∷ vs) h = (h.0, lawful_states alternatives vs h.1)
+pub lawful_states : (t : DecisionTable) (views : List HistoryView) → AllByRecursion (λ (h : HistoryView). IsLawfulIn t (statements_of h.state)) views → AllByRecursion (λ (r : Revisions). IsLawfulIn t (statements_of r)) (map (λ (h : HistoryView). h.state) views)
+lawful_states t [] h = tt
+lawful_states t (v ∷ vs) h = (h.0, lawful_states t vs h.1)
 
 -- a history that is changed at its place changes the desk there
 pub history-set : (views : List HistoryView) (desk : ℕ) (old new : HistoryView) (r : Revisions) → desk < length views → old ≡ get_or views desk old → (old.state ≡ get_or (map (λ (h : HistoryView). h.state) views) desk r) × (map (λ (h : HistoryView). h.state) (slice_set views desk new) ≡ slice_set (map (λ (h : HistoryView). h.state) views) desk new.state)

@@ -6,11 +6,10 @@ use Rattle.std.proofs.lemmas.Option.{none-some, same_Some, option_and_then_some}
 use Rattle.std.specs.List.{AllByRecursion}
 use Rattle.ror_statement.specs.declared.statement.Statement.{Statement}
 use Rattle.ror_statement.specs.declared.statement.Statement.TheVariants as statements
-use Rattle.ror_statement.specs.declared.statement.Question.{Question}
-use Rattle.ror_statement.specs.declared.statement.Question.TheVariants as questions
-use Rattle.ror_statement.specs.Statement.{IsLawful, IsValid, IsValidQuestion}
+use Rattle.ror_statement.specs.declared.question.Question.{Question}
+use Rattle.ror_statement.specs.declared.question.Question.TheVariants as questions
 use Rattle.ror_table.specs.Table.{DecisionTable}
-use Rattle.ror_value.specs.Meaning as meaning
+use Rattle.ror_value.specs.Over.{IsLawfulIn, IsValidIn, IsAskedIn}
 use Rattle.ror_session.specs.declared.session.Line.{Line}
 use Rattle.ror_session.specs.declared.session.Command.{Command}
 use Rattle.ror_session.specs.declared.session.Command.TheVariants.{State, Ask}
@@ -21,7 +20,7 @@ use Rattle.ror_session.specs.declared.session.Asked.TheVariants.{Necessary}
 use Rattle.ror_proof.specs.declared.answer.Answer.{Answer}
 use Rattle.ror_table.specs.Table.{alternative_named}
 use Rattle.ror_table.proofs.NameLemmas.{alternative_named-sound}
-use Rattle.ror_check.specs.Proof.{IsProvedAnswer, conclusion_of}
+use Rattle.ror_check.specs.Proof.{HasItsProof, IsTrueVerdict}
 use Rattle.ror_check.proofs.Checking.{answer_is_true}
 use Rattle.ror_report.specs.declared.block.Block.{Block}
 use Rattle.ror_report.specs.declared.block.Body.{Body}
@@ -37,7 +36,7 @@ use Rattle.ror_bench.proofs.Standing.{added-lawful}
 use Rattle.ror_bench.proofs.ReportProofs.{number_cases, then_at_own, then_at_other}
 
 abbrev HasLawful : DecisionTable → Revisions → Type 0
-HasLawful t r = IsLawful (length t.alternatives) (statements_of r)
+HasLawful t r = IsLawfulIn t (statements_of r)
 
 -- ---- names
 
@@ -52,30 +51,27 @@ pair_valid make P t a b x made e =
     let second = mapped_some (λ j. make i j) (alternative_named t b) x rest in
     subst P second.2 (made i second.0 (alternative_named-sound t a i first).0 (alternative_named-sound t b second.0 second.1).0))
 
-pub statement_valid : (t : DecisionTable) (named : Named) (s : Statement) → statement_of t named ≡ Some s → IsValid (length t.alternatives) s
-statement_valid t (Prefer a b) s e = pair_valid (λ i j. statements.Prefer i j) (IsValid (length t.alternatives)) t a b s (λ i j l m. (l, m)) e
+pub statement_valid : (t : DecisionTable) (named : Named) (s : Statement) → statement_of t named ≡ Some s → IsValidIn t s
+statement_valid t (Prefer a b) s e = pair_valid (λ i j. statements.Prefer i j) (IsValidIn t) t a b s (λ i j l m. record { compared = (l, m); assigned = tt }) e
 
-pub question_valid : (t : DecisionTable) (asked : Asked) (q : Question) → question_of t asked ≡ Some q → IsValidQuestion (length t.alternatives) q
-question_valid t (Necessary a b) q e = pair_valid (λ i j. questions.Necessary i j) (IsValidQuestion (length t.alternatives)) t a b q (λ i j l m. (l, m)) e
+pub question_valid : (t : DecisionTable) (asked : Asked) (q : Question) → question_of t asked ≡ Some q → IsAskedIn t q
+question_valid t (Necessary a b) q e = pair_valid (λ i j. questions.Necessary i j) (IsAskedIn t) t a b q (λ i j l m. (l, m)) e
 
-questions_valid : (t : DecisionTable) (asked : Asked) (qs : List Question) → questions_of t asked ≡ Some qs → AllByRecursion (IsValidQuestion (length t.alternatives)) qs
+questions_valid : (t : DecisionTable) (asked : Asked) (qs : List Question) → questions_of t asked ≡ Some qs → AllByRecursion (IsAskedIn t) qs
 questions_valid t asked qs e =
     let one = mapped_some (λ (q : Question). q ∷ []) (question_of t asked) qs e in
-    subst (AllByRecursion (IsValidQuestion (length t.alternatives))) one.2 (question_valid t asked one.0 one.1, tt)
+    subst (AllByRecursion (IsAskedIn t)) one.2 (question_valid t asked one.0 one.1, tt)
 
 -- ---- a block
 
 abbrev IsTrueAnswer : DecisionTable → List Statement → Answer → Type 0
-IsTrueAnswer t list x = meaning.Answers t list x.question (conclusion_of x.verdict)
+IsTrueAnswer t list x = IsTrueVerdict t list x.question x.verdict
 
-abbrev IsProvedOwn : DecisionTable → List Statement → Answer → Type 0
-IsProvedOwn t list x = IsProvedAnswer t list x.question x
-
-answers_true : (t : DecisionTable) (list : List Statement) (xs : List Answer) → IsLawful (length t.alternatives) list → AllByRecursion (IsValidQuestion (length t.alternatives)) (map (λ x. x.question) xs) → AllByRecursion (IsProvedOwn t list) xs → AllByRecursion (IsTrueAnswer t list) xs
+answers_true : (t : DecisionTable) (list : List Statement) (xs : List Answer) → IsLawfulIn t list → AllByRecursion (IsAskedIn t) (map (λ x. x.question) xs) → AllByRecursion (HasItsProof t list) xs → AllByRecursion (IsTrueAnswer t list) xs
 answers_true t list [] lawful valid proved = tt
 answers_true t list (x ∷ xs) lawful valid proved = (answer_is_true t list x.question x lawful valid.0 proved.0, answers_true t list xs lawful valid.1 proved.1)
 
-body_true : (t : DecisionTable) (r : Revisions) (command : Command) (body : Body) → HasLawful t r → IsOfCommand t r command body → AllByRecursion (IsProvedOwn t (statements_of r)) (answers_of body) → AllByRecursion (IsTrueAnswer t (statements_of r)) (answers_of body)
+body_true : (t : DecisionTable) (r : Revisions) (command : Command) (body : Body) → HasLawful t r → IsOfCommand t r command body → AllByRecursion (HasItsProof t (statements_of r)) (answers_of body) → AllByRecursion (IsTrueAnswer t (statements_of r)) (answers_of body)
 body_true t r (State named) (Added n) lawful of proved = tt
 body_true t r (State named) (Answers xs) lawful of proved = absurd of
 body_true t r (Ask asked) (Added n) lawful of proved = absurd of
@@ -88,7 +84,7 @@ block_true t r line block lawful proved = body_true t r line.command block.body 
 
 moved_lawful : (t : DecisionTable) (r : Revisions) (command : Command) (body : Body) → HasLawful t r → IsOfCommand t r command body → HasLawful t (revisions_with t r command body)
 moved_lawful t r (State named) (Added n) lawful of =
-    subst (λ (o : Option Statement). HasLawful t (with_statement r n o)) (sym of.1) (added-lawful (length t.alternatives) r n of.0 lawful (statement_valid t named of.0 of.1) of.2)
+    subst (λ (o : Option Statement). HasLawful t (with_statement r n o)) (sym of.1) (added-lawful t r n of.0 lawful (statement_valid t named of.0 of.1) of.2)
 moved_lawful t r (State named) (Answers xs) lawful of = absurd of
 moved_lawful t r (Ask asked) (Added n) lawful of = absurd of
 moved_lawful t r (Ask asked) (Answers xs) lawful of = lawful
@@ -98,8 +94,8 @@ lawful_at P [] desk none h all = h
 lawful_at P (r ∷ rs) zero none h all = all.0
 lawful_at P (r ∷ rs) (suc desk) none h all = lawful_at P rs desk none h all.1
 
-nothing_lawful : (n : ℕ) → IsLawful n []
-nothing_lawful n = record { few = omega arith; rows = omega arith; each_valid = tt }
+nothing_lawful : (t : DecisionTable) → IsLawfulIn t []
+nothing_lawful t = record { few = omega arith; rows = omega arith; each_valid = tt }
 
 -- ---- a report
 
@@ -119,7 +115,7 @@ true_after bench before (line ∷ lines) (block ∷ blocks) lawful h =
 
 pub report_true : ProvedReportsAreTrue
 report_true bench lines bytes answers lawful report =
-    true_after bench [] lines report.blocks (λ desk. lawful_at (HasLawful bench.table) bench.state desk (record { opening = []; surviving = [] }) (nothing_lawful (length bench.table.alternatives)) lawful) report.proved
+    true_after bench [] lines report.blocks (λ desk. lawful_at (HasLawful bench.table) bench.state desk (record { opening = []; surviving = [] }) (nothing_lawful bench.table) lawful) report.proved
 
 pub report_accepted : (bench : Workbench) (lines : List Line) (bytes : List ℕ) (result : Result ℕ ReportError) → IsLawfulBench bench → IfOk result (IsProvedReport bench lines bytes) → IfOk result (IsAcceptedReport bench lines bytes)
 report_accepted bench lines bytes (Ok n) lawful proved = record { proved = proved; answers_true = report_true bench lines bytes n lawful proved }

@@ -1,9 +1,9 @@
 -- A workbench: a table, and what each desk holds.
-use Rattle.std.specs.Prelude.{ℕ, List, [], length, replicate, slice_index_or}
+use Rattle.std.specs.Prelude.{ℕ, List, [], replicate, slice_index_or}
 use Rattle.std.specs.List.{AllByRecursion}
-use Rattle.ror_statement.specs.Statement.{IsLawful}
 use Rattle.ror_table.specs.Table.{DecisionTable}
 use Rattle.ror_value.specs.declared.input.Input.{Input}
+use Rattle.ror_value.specs.Over.{IsLawfulIn}
 use Rattle.ror_history.specs.History.{Revisions, statements_of}
 
 -- a table that no line changes, and the state of the desks: the statements that each began with and its surviving
@@ -26,4 +26,4 @@ revisions_at bench desk = slice_index_or bench.state desk (record { opening = []
 -- what stands at each desk is lawful
 abbrev pub IsLawfulBench : Workbench → Type 0
 IsLawfulBench bench =
-    AllByRecursion (λ r. IsLawful (length bench.table.alternatives) (statements_of r)) bench.state
+    AllByRecursion (λ r. IsLawfulIn bench.table (statements_of r)) bench.state

@@ -1,14 +1,13 @@
 -- Which block is proved for a line, and each test of one that may fail.
-use Rattle.std.specs.Prelude.{◌≡◌, ℕ, ◌+◌, List, [], ◌∷◌, length, map, Option, Some, None, slice_get, slice_set}
+use Rattle.std.specs.Prelude.{◌≡◌, ℕ, List, [], ◌∷◌, length, map, Option, Some, None, slice_set}
 use Rattle.std.specs.Option.{option_and_then, option_map}
 use Rattle.std.specs.List.{AllByRecursion}
-use Rattle.ror_text.specs.FirstFault.{IsFirst, IsEarlier}
+use Rattle.ror_text.specs.FirstFault.{IsEarlier}
 use Rattle.ror_statement.specs.declared.statement.Statement.{Statement}
 use Rattle.ror_statement.specs.declared.statement.Statement.TheVariants as statements
-use Rattle.ror_statement.specs.declared.statement.Question.{Question}
-use Rattle.ror_statement.specs.declared.statement.Question.TheVariants as questions
+use Rattle.ror_statement.specs.declared.question.Question.{Question}
+use Rattle.ror_statement.specs.declared.question.Question.TheVariants as questions
 use Rattle.ror_table.specs.Table.{DecisionTable}
-use Rattle.ror_value.specs.Meaning as meaning
 use Rattle.ror_session.specs.declared.session.Line.{Line}
 use Rattle.ror_session.specs.declared.session.Command.{Command}
 use Rattle.ror_session.specs.declared.session.Command.TheVariants.{State, Ask}
@@ -18,9 +17,8 @@ use Rattle.ror_session.specs.declared.session.Asked.{Asked}
 use Rattle.ror_session.specs.declared.session.Asked.TheVariants.{Necessary}
 use Rattle.ror_proof.specs.declared.answer.Answer.{Answer}
 use Rattle.ror_table.specs.Table.{alternative_named}
-use Rattle.ror_check.specs.declared.fault.CheckFault.{CheckFault}
-use Rattle.ror_check.specs.Proof.{IsProvedAnswer, conclusion_of}
-use Rattle.ror_check.specs.Faults.{FailsAnswer, IsEarlierFault}
+use Rattle.ror_check.specs.Proof.{HasItsProof, IsTrueVerdict}
+use Rattle.ror_check.specs.Faults.{FailsAnswerAt}
 use Rattle.ror_report.specs.declared.block.Block.{Block}
 use Rattle.ror_report.specs.declared.block.Body.{Body}
 use Rattle.ror_report.specs.declared.block.Body.TheVariants.{Added, Answers}
@@ -65,8 +63,7 @@ IsForLine t r line block = (block.line ≡ line.number) × IsOfCommand t r line.
 pub record IsProvedBlock (t : DecisionTable) (r : Revisions) (line : Line)
     (block : Block) : Type 0 where
   pub for_line : IsForLine t r line block
-  pub answers : AllByRecursion (λ x. IsProvedAnswer t (statements_of r) x.question x)
-      (answers_of block.body)
+  pub answers : AllByRecursion (HasItsProof t (statements_of r)) (answers_of block.body)
 
 -- what a desk's revisions are after a statement got a number; after any other body they are as before
 abbrev pub with_statement : Revisions → ℕ → Option Statement → Revisions
@@ -94,17 +91,8 @@ answer_count block = length (answers_of block.body)
 -- each answer is true of all compatible value functions
 abbrev pub AreTrue : DecisionTable → List Statement → Block → Type 0
 AreTrue t list block =
-    AllByRecursion (λ x. meaning.Answers t list x.question (conclusion_of x.verdict))
+    AllByRecursion (λ x. IsTrueVerdict t list x.question x.verdict)
     (answers_of block.body)
-
--- the answer at a place, counted from 1, has this fault first
-pub record FailsAnswerAt (t : DecisionTable) (list : List Statement) (answers : List Answer) (k : ℕ)
-    (fault : CheckFault) : Type 0 where
-  pub answer : Answer
-  pub before : ℕ
-  pub counted : k ≡ before + 1
-  pub there : slice_get answers before ≡ Some answer
-  pub first : IsFirst (FailsAnswer t list answer.question answer) IsEarlierFault fault
 
 -- what each test of a block finds at fault, each taken alone
 abbrev pub FailsBlock : DecisionTable → Revisions → Line → Block → BlockFault → Type 0

@@ -1,10 +1,10 @@
 -- What each step of a check leaves to the next: the answers that passed, the block that was read, what is left, and the
 -- error that a fault is.
-use Rattle.std.specs.Prelude.{◌≡◌, ℕ, ◌+◌, ◌<◌, min, true, List, length, ◌++◌, drop, map, slice_get, Some}
+use Rattle.std.specs.Prelude.{◌≡◌, ℕ, ◌+◌, min, true, List, length, ◌++◌, drop, map, Some}
 use Rattle.std.specs.List.{AllByRecursion, flat_map, sum_by}
 use Rattle.ror_text.specs.Lines.{line_of}
+use Rattle.ror_text.specs.FirstFault.{IsFirst}
 use Rattle.ror_statement.specs.declared.statement.Statement.{Statement}
-use Rattle.ror_statement.specs.Statement.{IsValidQuestion}
 use Rattle.ror_table.specs.Table.{DecisionTable}
 use Rattle.ror_session.specs.declared.session.Line.{Line}
 use Rattle.ror_session.specs.declared.session.Command.TheVariants.{State}
@@ -12,9 +12,9 @@ use Rattle.ror_session.specs.declared.session.Named.{Named}
 use Rattle.ror_session.specs.declared.session.Asked.{Asked}
 use Rattle.ror_history.specs.History.{Revisions}
 use Rattle.ror_proof.specs.declared.answer.Answer.{Answer}
-use Rattle.ror_check.specs.declared.fault.CheckFault.{CheckFault}
-use Rattle.ror_check.specs.declared.fault.CheckFault.TheVariants as checks
-use Rattle.ror_check.specs.Proof.{IsProvedAnswer}
+use Rattle.ror_check.specs.declared.fault.AnswersFault.{AnswersFault}
+use Rattle.ror_check.specs.declared.fault.AnswersFault.TheVariants as checks
+use Rattle.ror_check.specs.Faults.{FailsAnswers, IsEarlierAnswersFault}
 use Rattle.ror_report.specs.declared.block.Block.{Block}
 use Rattle.ror_report.specs.declared.block.Body.TheVariants.{Added}
 use Rattle.ror_report.specs.declared.read.ReportFault.{ReportFault}
@@ -28,40 +28,23 @@ use Rattle.ror_bench.specs.declared.report.Reason.TheVariants as reasons
 use Rattle.ror_bench.specs.declared.report.ReportError.{ReportError}
 use Rattle.ror_bench.specs.declared.report.ReportError.TheVariants as errors
 use Rattle.ror_bench.specs.Bench.{Workbench, revisions_at}
-use Rattle.ror_bench.specs.Blocks.{IsProvedBlock, IsOfCommand, FailsAnswerAt, answer_count, questions_of, with_block}
+use Rattle.ror_bench.specs.Blocks.{IsProvedBlock, IsOfCommand, answer_count, questions_of, with_block}
 use Rattle.ror_bench.specs.Reports.{EachHolds}
 
 -- the answers are to what is asked, in order
 abbrev pub AreAsked : DecisionTable → Asked → List Answer → Type 0
 AreAsked t asked answers = questions_of t asked ≡ Some (map (λ x. x.question) answers)
 
--- each answer before the place is proved, to the question that it names
-abbrev pub AreProvedBefore : DecisionTable → List Statement → List Answer → ℕ → Type 0
-AreProvedBefore t list answers n = (j : ℕ) (x : Answer) → j < n → slice_get answers j ≡ Some x
-    → IsProvedAnswer t list x.question x
+-- the fault of a block of which an answer is refused
+abbrev pub fault_of_answers : AnswersFault → BlockFault
+fault_of_answers (checks.Answer k fault) = faults.Answer k fault
+fault_of_answers checks.Memory = faults.Memory
 
--- each answer is to a question on a table of so many alternatives
-abbrev pub AreOfTheTable : ℕ → List Answer → Type 0
-AreOfTheTable alternatives answers = (j : ℕ) (x : Answer) → slice_get answers j ≡ Some x
-    → IsValidQuestion alternatives x.question
-
--- the fault of a block of which the answer at a place is refused
-abbrev pub refused_answer : ℕ → CheckFault → BlockFault
-refused_answer k checks.Memory = faults.Memory
-refused_answer k fault = faults.Answer k fault
-
--- an answer is refused, and those before it are proved; or memory ran out
-abbrev pub RefusesAnswers : DecisionTable → List Statement → List Answer → BlockFault → Type 0
-RefusesAnswers t list answers faults.WrongBlock = ⊥
-RefusesAnswers t list answers (faults.Answer k fault) = FailsAnswerAt t list answers k fault
-    × ((before : ℕ) → k ≡ before + 1 → AreProvedBefore t list answers before)
-RefusesAnswers t list answers faults.Memory = Unit {0}
-
--- the answers are not to what is asked, or one is refused, those before it being proved; or memory ran out
+-- the answers are not to what is asked, or one is the first that is refused; or memory ran out
 abbrev pub RefusesAsked : DecisionTable → List Statement → Asked → List Answer → BlockFault → Type 0
 RefusesAsked t list asked answers faults.WrongBlock = AreAsked t asked answers → ⊥
 RefusesAsked t list asked answers (faults.Answer k fault) = AreAsked t asked answers
-    × RefusesAnswers t list answers (faults.Answer k fault)
+    × IsFirst (FailsAnswers t list answers) IsEarlierAnswersFault (checks.Answer k fault)
 RefusesAsked t list asked answers faults.Memory = Unit {0}
 
 -- the statement can't be added with this number; or memory ran out

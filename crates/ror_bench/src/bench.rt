@@ -4,7 +4,9 @@ ghost use Rattle.std.specs.Prelude.{◌≡◌, ◌≢◌, ◌<◌, ◌≤◌, �
 ghost use Rattle.std.specs.List.{AllByRecursion};
 ghost use Rattle.std.specs.Option.{option_map};
 ghost use Rattle.ror_text.specs.FirstFault.{IsRefusedBy};
-ghost use Rattle.ror_statement.specs.Statement.{row_count, IsLawful, IsValid, IsValidQuestion};
+ghost use Rattle.ror_statement.specs.RowNumbers.{row_count};
+ghost use Rattle.ror_value.specs.Over.{IsLawfulIn, IsAskedIn};
+ghost use Rattle.ror_check.specs.Proof.{HasItsProof};
 ghost use Rattle.ror_history.specs.History.{statements_of};
 ghost use Rattle.ror_session.specs.declared.session.Command.TheVariants.{State};
 ghost use Rattle.ror_report.specs.declared.block.Body.TheVariants.{Added};
@@ -12,11 +14,11 @@ ghost use Rattle.ror_bench.specs.Bench.{Workbench, revisions_at, bench_of, IsLaw
 ghost use Rattle.ror_bench.specs.Blocks as blocks;
 ghost use Rattle.ror_bench.specs.Blocks.{IsProvedBlock, IsOfCommand, answer_count, AreTrue, FailsBlock, IsEarlierBlockFault, with_body, with_block};
 ghost use Rattle.ror_bench.specs.Steps as steps;
-ghost use Rattle.ror_bench.specs.Steps.{AreAsked, AreProvedBefore, AreOfTheTable, RefusesAnswers, RefusesAsked, RefusesAdded};
+ghost use Rattle.ror_bench.specs.Steps.{AreAsked, RefusesAsked, RefusesAdded};
 ghost use Rattle.ror_bench.specs.declared.bench.BlockFault.TheVariants.{Memory};
 
 use crate::names::{question_of, statement_of};
-use ror_check::{CheckFault, check_answer};
+use ror_check::{AnswersFault, CheckFault, check_answers};
 use ror_history::{History, HistoryFault};
 use ror_proof::Answer;
 use ror_report::{Block, Body};
@@ -28,7 +30,8 @@ use std::alloc::{AllocError, AllocFailed, Global};
 use std::marker::Model;
 use thiserror::Error;
 
-/// How many answers of a block passed, and how many were too wide to be decided.
+/// How many answers of a block passed, and how many were too wide to be decided: none, since such an answer proves
+/// nothing and is refused.
 #[derive(Clone, Copy, Debug, PartialEq, Eq)]
 pub struct Passed {
     pub answers: u32,
@@ -65,6 +68,17 @@ impl<T: Drop> From<AllocFailed<T>> for BlockFault {
     }
 }
 
+impl From<AnswersFault> for BlockFault {
+    ghost from_gives = { λ fault e. e ≡ steps.fault_of_answers fault };
+
+    fn from(fault: AnswersFault) -> BlockFault {
+        match fault {
+            AnswersFault::Answer(number, fault) => BlockFault::Answer(number, fault),
+            AnswersFault::Memory => BlockFault::Memory,
+        }
+    }
+}
+
 /// A table and the desks over it.
 #[derive(Drop)]
 pub struct Bench {
@@ -74,9 +88,9 @@ pub struct Bench {
 }
 
 impl Model for Bench {
-    ghost use Rattle.std.specs.Prelude.{map, length};
+    ghost use Rattle.std.specs.Prelude.{map};
     ghost use Rattle.std.specs.List.{AllByRecursion};
-    ghost use Rattle.ror_statement.specs.Statement.{IsLawful};
+    ghost use Rattle.ror_value.specs.Over.{IsLawfulIn};
     ghost use Rattle.ror_history.specs.History.{statements_of};
     ghost use Rattle.ror_bench.specs.Bench.{Workbench};
 
@@ -84,7 +98,7 @@ impl Model for Bench {
 
     ghost view = { λ b. record { table = b.table; state = map (λ h. h.state) b.desks.items } };
 
-    ghost invariant = { λ b. AllByRecursion (λ h. IsLawful (length b.table.alternatives)
+    ghost invariant = { λ b. AllByRecursion (λ h. IsLawfulIn b.table
         (statements_of h.state)) b.desks.items };
 }
 
@@ -92,7 +106,7 @@ impl Bench {
     /// So many desks over the input's table, each of which begins with the opening statements.
     pub fn new(alloc: Global, input: Input, desks: u32) -> Result<Bench, AllocError>
         requires few { desks ≤ 64 }
-        requires lawful { IsLawful (length input.table.alternatives) input.opening }
+        requires lawful { IsLawfulIn input.table input.opening }
         ensures { IfOk result (λ bench. bench ≡ bench_of input desks) }
     {
         let Input { table, opening } = input;
@@ -188,9 +202,9 @@ impl Bench {
     ) -> Result<Passed, BlockFault>
         requires { desk < length self.now.state }
         ensures asked { OnOk result (AreAsked self.now.table asked.now answers.now) }
-        ensures proved { OnOk result (AreProvedBefore self.now.table
-            (statements_of (revisions_at self.now desk)) answers.now (length answers.now)) }
-        ensures lawful { OnOk result (IsLawful (length self.now.table.alternatives)
+        ensures proved { OnOk result (AllByRecursion (HasItsProof self.now.table
+            (statements_of (revisions_at self.now desk))) answers.now) }
+        ensures lawful { OnOk result (IsLawfulIn self.now.table
             (statements_of (revisions_at self.now desk))) }
         ensures counted { IfOk result (λ passed. passed
             ≡ record { answers = length answers.now; wide = 0 }) }
@@ -214,7 +228,7 @@ impl Bench {
         ensures exact { IfOk result (λ list. list.items
             ≡ statements_of (revisions_at self.now desk)) }
         ensures lawful { IfOk result (λ list.
-            IsLawful (length self.now.table.alternatives) list.items) }
+            IsLawfulIn self.now.table list.items) }
     {
         let standing = self.desks[desk as usize].standing()?;
         statements(self.alloc, standing.as_slice())
@@ -255,7 +269,7 @@ fn are_asked(
 ) -> Result<bool, AllocError>
     ensures exact { IfOk result (λ are. IsTrue are ↔ AreAsked table.now asked.now answers.now) }
     ensures valid { IfOk result (λ are. IsTrue are
-        → AreOfTheTable (length table.now.alternatives) answers.now) }
+        → AllByRecursion (λ x. IsAskedIn table.now x.question) answers.now) }
     ensures few { IfOk result (λ are. IsTrue are → length answers.now < 2 ^ 32 - 1) }
 {
     match questions_of(alloc, table, asked)? {
@@ -273,7 +287,7 @@ fn questions_of(
     ensures exact { IfOk result (λ questions. option_map (λ v. v.items) questions
         ≡ blocks.questions_of table.now asked.now) }
     ensures valid { IfOk result (λ questions. IfSome questions
-        (λ v. AllByRecursion (IsValidQuestion (length table.now.alternatives)) v.items)) }
+        (λ v. AllByRecursion (IsAskedIn table.now) v.items)) }
     ensures few { IfOk result (λ questions. IfSome questions (λ v. length v.items ≤ 1)) }
 {
     match question_of(table, asked) {
@@ -294,38 +308,8 @@ fn are_to(questions: &[Question], answers: &[Answer]) -> bool
         [] => answers.is_empty(),
         [question, questions @ ..] => match answers {
             [] => false,
-            [answer, answers @ ..] => answer.question == *question && are_to(questions, answers),
+            [answer, answers @ ..] => answer.question.is_same(*question)
+                && are_to(questions, answers),
         },
-    }
-}
-
-/// Checks each answer, from the first on.
-fn check_answers(
-    alloc: Global,
-    table: &Table,
-    list: &[Statement],
-    answers: &[Answer],
-) -> Result<(), BlockFault>
-    requires lawful { IsLawful (length table.now.alternatives) list.now }
-    requires valid { AreOfTheTable (length table.now.alternatives) answers.now }
-    requires few { length answers.now < 2 ^ 32 - 1 }
-    ensures ok { OnOk result (AreProvedBefore table.now list.now answers.now (length answers.now)) }
-    ensures err { IfErr result (RefusesAnswers table.now list.now answers.now) }
-{
-    for (i, answer) in answers.iter().enumerate() {
-        if let Err(fault) = check_answer(alloc, table, list, &answer.question, answer) {
-            return Err(refused_answer(i as u32 + 1, fault));
-        }
-    }
-    Ok(())
-}
-
-/// The fault of a block of which an answer is refused; want of memory is no fault of an answer.
-fn refused_answer(number: u32, fault: CheckFault) -> BlockFault
-    ensures { result ≡ steps.refused_answer number fault }
-{
-    match fault {
-        CheckFault::Memory => BlockFault::Memory,
-        _ => BlockFault::Answer(number, fault),
     }
 }

@@ -1,7 +1,7 @@
 //! The statements and questions of names, over a table.
 
 ghost use Rattle.std.specs.Prelude.{◌≡◌, ◌<◌, length, IfSome};
-ghost use Rattle.ror_statement.specs.Statement.{IsValid, IsValidQuestion};
+ghost use Rattle.ror_value.specs.Over.{IsValidIn, IsAskedIn};
 ghost use Rattle.ror_table.specs.Table as reading;
 ghost use Rattle.ror_bench.specs.Blocks as blocks;
 
@@ -13,7 +13,7 @@ use ror_text::Text;
 /// The statement of these names, or none where the table lacks one of them. It takes no memory.
 pub fn statement_of(table: &Table, named: &Named) -> Option<Statement>
     ensures exact { result ≡ blocks.statement_of table.now named.now }
-    ensures valid { IfSome result (IsValid (length table.now.alternatives)) }
+    ensures valid { IfSome result (IsValidIn table.now) }
 {
     match named {
         Named::Prefer(first, second) => {
@@ -27,7 +27,7 @@ pub fn statement_of(table: &Table, named: &Named) -> Option<Statement>
 /// The question of these names, or none where the table lacks one of them. It takes no memory.
 pub fn question_of(table: &Table, asked: &Asked) -> Option<Question>
     ensures exact { result ≡ blocks.question_of table.now asked.now }
-    ensures valid { IfSome result (IsValidQuestion (length table.now.alternatives)) }
+    ensures valid { IfSome result (IsAskedIn table.now) }
 {
     match asked {
         Asked::Necessary(first, second) => {

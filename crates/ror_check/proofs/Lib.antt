@@ -1,2 +1,4 @@
 pub mod Checking
+pub mod Bases
 pub mod FirstFaults
+pub mod ManyAnswers

@@ -1,28 +1,43 @@
 -- What each step of a check leaves to the next: the certificates that were accepted, and the one that was not.
-use Rattle.std.specs.Prelude.{◌≡◌, ℕ, ◌+◌, ◌<◌, ◌≤◌, true, List, length, map, slice_get, Some}
+use Rattle.std.specs.Prelude.{IfSome, ◌≡◌, ℕ, ◌+◌, ◌<◌, ◌≤◌, true, false, List, length, map, slice_get, Some}
 use Rattle.smallvec.specs.SmallVec.{SmallVec}
 use Rattle.std.specs.List.{AllByRecursion}
 use Rattle.ror_statement.specs.declared.statement.Statement.{Statement}
-use Rattle.ror_statement.specs.declared.statement.Question.{Question}
-use Rattle.ror_statement.specs.declared.statement.Conclusion.{Conclusion}
-use Rattle.ror_statement.specs.Statement.{NamesWithin}
+use Rattle.ror_statement.specs.declared.question.Question.{Question}
+use Rattle.ror_statement.specs.declared.question.Conclusion.{Conclusion}
 use Rattle.ror_table.specs.Table.{DecisionTable}
 use Rattle.ror_system.specs.System.{LinearSystem}
+use Rattle.ror_value.specs.Over.{IsNamedIn}
 use Rattle.ror_rows.specs.declared.extra.Extra.{Extra}
-use Rattle.ror_rows.specs.Rows.{system_for, comparison_of_extra, extras_of}
+use Rattle.ror_rows.specs.Rows.{system_for, extras_of}
+use Rattle.ror_system.specs.Acceptance.{IsAcceptedSolution, AreAcceptedMultipliers}
 use Rattle.ror_proof.specs.declared.answer.Certificate.{Certificate}
+use Rattle.ror_proof.specs.declared.answer.Certificate.TheVariants as certificates
 use Rattle.ror_proof.specs.declared.answer.Part.{Part}
 use Rattle.ror_proof.specs.declared.answer.Proof.{Proof}
 use Rattle.ror_check.specs.declared.fault.CheckFault.{CheckFault}
 use Rattle.ror_check.specs.declared.fault.CheckFault.TheVariants as faults
+use Rattle.ror_check.specs.declared.fault.AnswersFault.{AnswersFault}
+use Rattle.ror_check.specs.declared.fault.AnswersFault.TheVariants as answers
+use Rattle.ror_check.specs.declared.base.Base.{Base}
 use Rattle.ror_check.specs.declared.side.Side.{Side}
-use Rattle.ror_check.specs.Proof.{Shows, ShowsOfItsSystem, base_side, AreNumberedFor, base_system, question_systems_of}
-use Rattle.ror_check.specs.Faults.{IsRejectedFor, FailsPart, is_side}
+use Rattle.ror_proof.specs.declared.answer.Answer.{Answer}
+use Rattle.ror_check.specs.Proof.{HasItsProof, Shows, ShowsOfItsSystem, base_side, AreNumberedFor, base_system, question_systems_of}
+use Rattle.ror_check.specs.Faults.{IsRejectedFor, FailsPart, is_side, has_kinds}
+
+-- the system accepts the certificate, whichever of the two kinds it is
+abbrev pub IsAcceptedFor : LinearSystem → Certificate → Type 0
+IsAcceptedFor s (certificates.Solution x) = IsAcceptedSolution s x.steps
+IsAcceptedFor s (certificates.Multipliers m) = AreAcceptedMultipliers s m.weak m.strict
+
+-- the base is of this system, which accepts the certificate that is known
+pub record IsBaseOf (s : LinearSystem) (base : Base) : Type 0 where
+  pub system : base.system.now ≡ s
+  pub known : IfSome base.known (λ c. IsAcceptedFor s c.now)
 
 -- at most 200 extra rows, each with names of the table
-abbrev pub AreUsable : ℕ → SmallVec Extra → Type 0
-AreUsable alternatives extras = (length extras.items ≤ 200)
-    × AllByRecursion (λ e. NamesWithin alternatives (comparison_of_extra e).difference) extras.items
+abbrev pub AreUsable : DecisionTable → SmallVec Extra → Type 0
+AreUsable t extras = (length extras.items ≤ 200) × AllByRecursion (λ e. IsNamedIn t e.form) extras.items
 
 -- the system of the statements with each of these extra rows
 abbrev pub systems_with : DecisionTable → List Statement → List (SmallVec Extra) → List LinearSystem
@@ -50,16 +65,29 @@ RefusesParts systems parts (faults.Part k r) = FailsPart systems parts k r
 RefusesParts systems parts faults.Memory = Unit {0}
 RefusesParts systems parts _ = ⊥
 
--- a proof whose certificates are of the right kinds is refused, each earlier test having been passed; or memory ran out
+-- a proof is refused, each earlier test having been passed; or memory ran out
 abbrev pub RefusesProof : DecisionTable → List Statement → Question → Conclusion → Proof
     → CheckFault → Type 0
-RefusesProof t list q c proof faults.PartCount = AreNumberedFor q c proof.parts → ⊥
-RefusesProof t list q c proof (faults.Base r) = AreNumberedFor q c proof.parts
-    × IsRejectedFor (base_system t list) proof.base r
-RefusesProof t list q c proof (faults.Part k r) = AreNumberedFor q c proof.parts
+RefusesProof t list q c proof faults.WrongVerdict = has_kinds q c proof ≡ false
+RefusesProof t list q c proof faults.PartCount = (has_kinds q c proof ≡ true)
+    × (AreNumberedFor list q c proof.parts → ⊥)
+RefusesProof t list q c proof (faults.Base r) = (has_kinds q c proof ≡ true)
+    × AreNumberedFor list q c proof.parts × IsRejectedFor (base_system t list) proof.base r
+RefusesProof t list q c proof (faults.Part k r) = (has_kinds q c proof ≡ true)
+    × AreNumberedFor list q c proof.parts
     × Shows (base_side c) (base_system t list) proof.base
     × FailsPart (question_systems_of t list q) proof.parts k r
     × ((before : ℕ) → k ≡ before + 1
     → AreShownBefore (question_systems_of t list q) proof.parts before)
 RefusesProof t list q c proof faults.Memory = Unit {0}
 RefusesProof t list q c proof _ = ⊥
+
+-- the fault of answers of which the one at a place is refused
+abbrev pub refused_at : ℕ → CheckFault → AnswersFault
+refused_at k faults.Memory = answers.Memory
+refused_at k fault = answers.Answer k fault
+
+-- each answer before the place has its proof
+abbrev pub AreProvedBefore : DecisionTable → List Statement → List Answer → ℕ → Type 0
+AreProvedBefore t list xs n = (j : ℕ) (x : Answer) → j < n → slice_get xs j ≡ Some x
+    → HasItsProof t list x

@@ -1,33 +1,30 @@
 //! The check of an answer, test by test.
 
-ghost use Rattle.std.specs.Prelude.{◌≡◌, ◌≢◌, ℕ, [], ◌∷◌, ◌≤◌, ◌<◌, ◌+◌, ◌-◌, ◌^◌, ◌↔◌, length, map, true, IsTrue, OnOk, IfErr};
+ghost use Rattle.std.specs.Prelude.{◌≡◌, ◌≢◌, ℕ, [], ◌∷◌, ◌≤◌, ◌<◌, ◌+◌, ◌-◌, ◌^◌, ◌↔◌, length, map, true, IsTrue, OnOk, IfErr, IfOk, MatchOption};
 ghost use Rattle.std.specs.List.{AllByRecursion, range_with_len};
 ghost use Rattle.ror_text.specs.FirstFault.{IsRefusedBy};
-ghost use Rattle.ror_statement.specs.Statement.{IsLawful, IsValidQuestion, asked_of};
-ghost use Rattle.ror_value.specs.Meaning.{Answers};
-ghost use Rattle.ror_proof.specs.Text as text;
-ghost use Rattle.ror_check.specs.declared.side.Side.{Side};
-ghost use Rattle.ror_check.specs.Proof as spec;
-ghost use Rattle.ror_check.specs.Proof.{IsProvedAnswer, Proves, Shows, AreNumbersFor, base_system};
-ghost use Rattle.ror_check.specs.Faults as kinds;
-ghost use Rattle.ror_check.specs.Faults.{FailsAnswer, IsEarlierFault, IsRejectedFor};
-ghost use Rattle.ror_check.specs.Steps.{AreUsable, AreShownBefore, NameSystems, RefusesBase, RefusesParts, RefusesProof, systems_with};
+ghost use Rattle.ror_value.specs.Over.{IsLawfulIn, IsAskedIn};
+ghost use Rattle.ror_check.specs.Proof.{IsWide, OfProof, verdict_with, IsProvedAnswer, HasItsProof, IsTrueVerdict, Proves, AreNumbersFor, base_system};
+ghost use Rattle.ror_check.specs.Faults.{FailsProof, FailsVerdict, FailsAnswer, IsEarlierFault, FailsAnswers, IsEarlierAnswersFault};
+ghost use Rattle.ror_check.specs.Steps as steps;
+ghost use Rattle.ror_check.specs.Steps.{IsAcceptedFor, IsBaseOf, AreUsable, AreShownBefore, NameSystems, RefusesBase, RefusesParts, systems_with};
 
-use crate::fault::CheckFault;
+use crate::base::{Base, accept};
+use crate::fault::{AnswersFault, CheckFault};
 use crate::side::has_kinds;
 use ror_proof::{Answer, Certificate, Part, Proof, Verdict};
 use ror_rows::{Extras, question_systems, system_of};
-use ror_statement::{Conclusion, Question, Statement};
-use ror_system::{Reject, System, accept_multipliers, accept_solution};
+use ror_statement::{Conclusion, Question, QuestionKind, Statement, kind_of};
 use ror_table::Table;
 use std::alloc::Global;
 
-/// Whether the answer's proof proves its verdict on the question, over the statements: for yes and for no a solution of
-/// the system of the statements alone, and for a contradiction multipliers that refute it; besides multipliers for each
-/// of the question's systems where the answer is yes, and a solution of one of them where it is no.
+/// Whether the answer's proof proves its verdict on the question, over the statements. The base is a solution of the
+/// system of the statements alone or, where the verdict is a contradiction, multipliers that refute it. The parts are
+/// certificates of the question's systems: on every compatible function multipliers of each for yes, a solution of one
+/// for no; on some compatible function a solution of its one system for yes, multipliers for no.
 ///
-/// The statements are lawful and the question is valid for the table. An answer that is accepted is true of all value
-/// functions that are compatible with the statements.
+/// The statements are lawful and the question is valid for the table. The verdict of an answer that is accepted
+/// answers the question.
 ///
 /// # Errors
 ///
@@ -39,12 +36,11 @@ pub fn check_answer(
     asked: &Question,
     x: &Answer,
 ) -> Result<(), CheckFault>
-    requires lawful { IsLawful (length table.now.alternatives) list.now }
-    requires named { IsValidQuestion (length table.now.alternatives) asked.now }
+    requires lawful { IsLawfulIn table.now list.now }
+    requires named { IsAskedIn table.now asked.now }
 
     ensures accepted { OnOk result (IsProvedAnswer table.now list.now asked.now x.now) }
-    ensures true_answer { OnOk result (Answers table.now list.now asked.now
-        (spec.conclusion_of x.now.verdict)) }
+    ensures true_answer { OnOk result (IsTrueVerdict table.now list.now asked.now x.now.verdict) }
 
     // Nothing that is proved is refused, and a refusal names the first test that fails.
     ensures not_proved { IfErr result (λ e. e ≢ CheckFault.Memory
@@ -52,70 +48,150 @@ pub fn check_answer(
     ensures refused { IfErr result (IsRefusedBy (FailsAnswer table.now list.now asked.now x.now)
         IsEarlierFault CheckFault.Memory) }
 {
-    if x.question != *asked {
+    if !x.question.is_same(*asked) {
         return Err(CheckFault::WrongQuestion);
     }
-    let conclusion = conclusion_of(&x.verdict);
-    let proof = proof_of(&x.verdict);
-    if !has_kinds(asked, conclusion, proof) {
-        return Err(CheckFault::WrongVerdict);
-    }
-    check_proof(alloc, table, list, asked, conclusion, proof)
+    let base = system_of(alloc, table, list, &[])?;
+    check_verdict(alloc, table, list, Base::new(&base), asked, &x.verdict)?;
+    Ok(())
 }
 
-fn conclusion_of(verdict: &Verdict) -> Conclusion
-    ensures { result ≡ spec.conclusion_of verdict.now }
-{
-    match verdict {
-        Verdict::Yes(_) => Conclusion::Yes,
-        Verdict::No(_) => Conclusion::No,
-        Verdict::Contradiction(_) => Conclusion::Contradiction,
-    }
-}
-
-fn proof_of(verdict: &Verdict) -> &Proof
-    ensures { result.now ≡ text.proof_of verdict.now }
-{
-    match verdict {
-        Verdict::Yes(proof) | Verdict::No(proof) | Verdict::Contradiction(proof) => proof,
-    }
-}
-
-/// Whether the certificates of a proof, which are of the right kinds, are accepted.
-fn check_proof(
+/// Whether each answer's proof proves its verdict on the question that it names, over the same statements, as
+/// `check_answer` has it. The system of the statements is made once, and a base that is the one before it again is not
+/// tested again.
+///
+/// The statements are lawful, the questions are valid for the table, and there are fewer than 2^32 - 1 answers.
+///
+/// # Errors
+///
+/// The first answer that is not accepted, by its place from 1, with the first test that it fails.
+pub fn check_answers(
     alloc: Global,
     table: &Table,
     list: &[Statement],
+    answers: &[Answer],
+) -> Result<(), AnswersFault>
+    requires lawful { IsLawfulIn table.now list.now }
+    requires named { AllByRecursion (λ x. IsAskedIn table.now x.question) answers.now }
+    requires few { length answers.now < 2 ^ 32 - 1 }
+
+    ensures accepted { OnOk result (AllByRecursion (HasItsProof table.now list.now) answers.now) }
+    ensures true_answers { OnOk result (AllByRecursion
+        (λ x. IsTrueVerdict table.now list.now x.question x.verdict) answers.now) }
+
+    ensures not_proved { IfErr result (λ e. e ≢ AnswersFault.Memory
+        → AllByRecursion (HasItsProof table.now list.now) answers.now → ⊥) }
+    ensures refused { IfErr result (IsRefusedBy (FailsAnswers table.now list.now answers.now)
+        IsEarlierAnswersFault AnswersFault.Memory) }
+{
+    let system = system_of(alloc, table, list, &[])?;
+    let mut base = Base::new(&system);
+    for (place, answer) in answers.iter().enumerate() {
+        match check_verdict(alloc, table, list, base, &answer.question, &answer.verdict) {
+            Ok(accepted) => base = accepted,
+            Err(fault) => return Err(refused_at(place as u32 + 1, fault)),
+        }
+    }
+    Ok(())
+}
+
+/// The fault of answers of which the one at a place is refused; want of memory is no fault of an answer.
+fn refused_at(place: u32, fault: CheckFault) -> AnswersFault
+    ensures { result ≡ steps.refused_at place fault }
+{
+    match fault {
+        CheckFault::Memory => AnswersFault::Memory,
+        fault => AnswersFault::Answer(place, fault),
+    }
+}
+
+/// Whether the verdict has a proof that proves it, where the statements have this base; the base then knows the
+/// certificate of it.
+fn check_verdict<'a>(
+    alloc: Global,
+    table: &Table,
+    list: &[Statement],
+    base: Base<'a>,
+    asked: &Question,
+    verdict: &'a Verdict,
+) -> Result<Base<'a>, CheckFault>
+    requires lawful { IsLawfulIn table.now list.now }
+    requires named { IsAskedIn table.now asked.now }
+    requires base { IsBaseOf (base_system table.now list.now) base }
+    ensures ok { OnOk result (OfProof (Proves table.now list.now asked.now) verdict.now) }
+    ensures base { IfOk result (IsBaseOf (base_system table.now list.now)) }
+    ensures err { IfErr result (IsRefusedBy
+        (FailsVerdict table.now list.now asked.now verdict.now)
+        IsEarlierFault CheckFault.Memory) }
+{
+    match concluded(verdict) {
+        Some((conclusion, proof)) => {
+            check_proof(alloc, table, list, base, asked, conclusion, proof)
+        }
+        None => Err(CheckFault::WrongVerdict),
+    }
+}
+
+/// The conclusion of a verdict and its proof, if it has one.
+fn concluded(verdict: &Verdict) -> Option<(Conclusion, &Proof)>
+    ensures { MatchOption result (IsWide verdict.now)
+        (λ p. verdict.now ≡ verdict_with p.0 p.1.now) }
+{
+    match verdict {
+        Verdict::Yes(proof) => Some((Conclusion::Yes, proof)),
+        Verdict::No(proof) => Some((Conclusion::No, proof)),
+        Verdict::Contradiction(proof) => Some((Conclusion::Contradiction, proof)),
+        Verdict::Wide { .. } => None,
+    }
+}
+
+/// Whether the proof proves the conclusion.
+fn check_proof<'a>(
+    alloc: Global,
+    table: &Table,
+    list: &[Statement],
+    base: Base<'a>,
     asked: &Question,
     conclusion: Conclusion,
-    proof: &Proof,
-) -> Result<(), CheckFault>
-    requires lawful { IsLawful (length table.now.alternatives) list.now }
-    requires named { IsValidQuestion (length table.now.alternatives) asked.now }
-    requires kinds { kinds.has_kinds asked.now conclusion proof.now ≡ true }
+    proof: &'a Proof,
+) -> Result<Base<'a>, CheckFault>
+    requires lawful { IsLawfulIn table.now list.now }
+    requires named { IsAskedIn table.now asked.now }
+    requires base { IsBaseOf (base_system table.now list.now) base }
     ensures ok { OnOk result (Proves table.now list.now asked.now conclusion proof.now) }
-    ensures err { IfErr result (RefusesProof table.now list.now asked.now conclusion proof.now) }
+    ensures base { IfOk result (IsBaseOf (base_system table.now list.now)) }
+    ensures err { IfErr result (IsRefusedBy
+        (FailsProof table.now list.now asked.now conclusion proof.now)
+        IsEarlierFault CheckFault.Memory) }
 {
+    if !has_kinds(asked, conclusion, proof) {
+        return Err(CheckFault::WrongVerdict);
+    }
     let systems = question_systems(alloc, table, list, asked)?;
     let extras = systems.as_slice();
     let parts = proof.parts.as_slice();
-    if !are_numbered_for(asked, conclusion, extras.len(), parts) {
+    if !are_numbered_for(kind_of(asked), conclusion, extras.len(), parts) {
         return Err(CheckFault::PartCount);
     }
-    check_base(alloc, table, list, &proof.base)?;
-    check_parts(alloc, table, list, extras, parts)
+    let base = check_base(base, &proof.base)?;
+    check_parts(alloc, table, list, extras, parts)?;
+    Ok(base)
 }
 
 /// Whether the parts have the numbers that the conclusion wants, where the question has so many systems.
-fn are_numbered_for(asked: &Question, conclusion: Conclusion, count: usize, parts: &[Part]) -> bool
+fn are_numbered_for(
+    kind: QuestionKind,
+    conclusion: Conclusion,
+    count: usize,
+    parts: &[Part],
+) -> bool
     requires { count < 2 ^ 32 - 1 }
-    ensures { IsTrue result ↔ AreNumbersFor (asked_of asked.now).kind conclusion count
-        (map (λ p. p.at) parts.now) }
+    ensures { IsTrue result ↔ AreNumbersFor kind conclusion count (map (λ p. p.at) parts.now) }
 {
-    match (asked, conclusion) {
-        (Question::Necessary(_, _), Conclusion::Yes) => are_all(count, parts),
-        (Question::Necessary(_, _), Conclusion::No) => is_one(count, parts),
-        (Question::Necessary(_, _), Conclusion::Contradiction) => parts.is_empty(),
+    match (kind, conclusion) {
+        (_, Conclusion::Contradiction) | (QuestionKind::Plain, _) => parts.is_empty(),
+        (QuestionKind::Any, _) | (QuestionKind::Every, Conclusion::Yes) => are_all(count, parts),
+        (QuestionKind::Every, Conclusion::No) => is_one(count, parts),
     }
 }
 
@@ -153,32 +229,14 @@ fn are_numbered_from(first: u32, parts: &[Part]) -> bool
     }
 }
 
-/// Whether the certificate is accepted for the system, whichever of the two kinds it is.
-fn accept(system: &System, certificate: &Certificate) -> Result<(), Reject>
-    ensures shown { OnOk result ((side : Side) → kinds.is_side side certificate.now ≡ true
-        → Shows side system.now certificate.now) }
-    ensures rejected { IfErr result (IsRejectedFor system.now certificate.now) }
+fn check_base<'a>(base: Base<'a>, certificate: &'a Certificate) -> Result<Base<'a>, CheckFault>
+    requires { IsBaseOf base.system.now base }
+    ensures ok { OnOk result (IsAcceptedFor base.entry.system.now certificate.now) }
+    ensures base { IfOk result (IsBaseOf base.entry.system.now) }
+    ensures err { IfErr result (RefusesBase base.entry.system.now certificate.now) }
 {
-    match certificate {
-        Certificate::Solution(solution) => accept_solution(system, solution),
-        Certificate::Multipliers(multipliers) => accept_multipliers(system, multipliers),
-    }
-}
-
-fn check_base(
-    alloc: Global,
-    table: &Table,
-    list: &[Statement],
-    base: &Certificate,
-) -> Result<(), CheckFault>
-    requires lawful { IsLawful (length table.now.alternatives) list.now }
-    ensures ok { OnOk result ((side : Side) → kinds.is_side side base.now ≡ true
-        → Shows side (base_system table.now list.now) base.now) }
-    ensures err { IfErr result (RefusesBase (base_system table.now list.now) base.now) }
-{
-    let system = system_of(alloc, table, list, &[])?;
-    match accept(&system, base) {
-        Ok(()) => Ok(()),
+    match base.accept(certificate) {
+        Ok(base) => Ok(base),
         Err(reject) => Err(CheckFault::Base(reject)),
     }
 }
@@ -191,8 +249,8 @@ fn check_parts(
     systems: &[Extras],
     parts: &[Part],
 ) -> Result<(), CheckFault>
-    requires lawful { IsLawful (length table.now.alternatives) list.now }
-    requires usable { AllByRecursion (AreUsable (length table.now.alternatives)) systems.now }
+    requires lawful { IsLawfulIn table.now list.now }
+    requires usable { AllByRecursion (AreUsable table.now) systems.now }
     requires numbers { NameSystems (length systems.now) parts.now }
     requires few { length parts.now < 2 ^ 32 - 1 }
     ensures ok { OnOk result (AreShownBefore (systems_with table.now list.now systems.now) parts.now

@@ -13,11 +13,13 @@ pub enum CheckFault {
     /// The answer is to another question.
     #[error("the answer is to another question")]
     WrongQuestion,
-    /// The base or a part is a certificate of another kind than the verdict wants.
-    #[error("a certificate is of another kind than the verdict wants")]
+    /// The verdict is none that a proof can give the question, or the base or a part is a certificate of another kind than
+    /// it wants.
+    #[error("the verdict has no proof, or a certificate of another kind than it wants")]
     WrongVerdict,
-    /// The parts are not those of the question's systems, in order.
-    #[error("the parts are not those of the question's systems")]
+    /// The parts do not have the numbers that the verdict wants: those of all systems of the question in order, that of one
+    /// of them, or none.
+    #[error("the parts are not those that the verdict wants")]
     PartCount,
     /// The base is not accepted.
     #[error("the base is not accepted: {0:?}")]
@@ -34,5 +36,26 @@ impl From<AllocError> for CheckFault {
 
     fn from(_error: AllocError) -> CheckFault {
         CheckFault::Memory
+    }
+}
+
+/// Why answers over the same statements are not all accepted.
+#[derive(Debug, Drop, Error)]
+pub enum AnswersFault {
+    /// The answer at this place, counted from 1, is the first that is not accepted, and this is the first test that it
+    /// fails.
+    #[error("answer {0} is not accepted: {1}")]
+    Answer(u32, CheckFault),
+    #[error("out of memory")]
+    Memory,
+}
+
+impl From<AllocError> for AnswersFault {
+    ghost use Rattle.ror_check.specs.declared.fault.AnswersFault.TheVariants as answers;
+
+    ghost from_gives = { λ _ e. e ≡ answers.Memory };
+
+    fn from(_error: AllocError) -> AnswersFault {
+        AnswersFault::Memory
     }
 }

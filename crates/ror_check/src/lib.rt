@@ -24,13 +24,14 @@
 //! function is against the answer. With the base 0 0 0 1 the answer is refused: the base's row 1
 //! comes to -1.
 
+mod base;
 mod check;
 mod fault;
 pub mod laws;
 mod side;
 
-pub use check::check_answer;
-pub use fault::CheckFault;
+pub use check::{check_answer, check_answers};
+pub use fault::{AnswersFault, CheckFault};
 
 #[cfg(test)]
 mod tests;

@@ -2,12 +2,11 @@
 
 ghost use Rattle.std.specs.Prelude.{◌≡◌};
 ghost use Rattle.std.specs.List.{list_all};
-ghost use Rattle.ror_statement.specs.Statement.{asked_of};
 ghost use Rattle.ror_check.specs.Proof as proof;
 ghost use Rattle.ror_check.specs.Faults as faults;
 
 use ror_proof::{Certificate, Part, Proof};
-use ror_statement::{Conclusion, Question};
+use ror_statement::{Conclusion, Question, QuestionKind, kind_of};
 
 /// What a certificate shows of its system: a solution that it is solvable, multipliers that it is not.
 #[derive(Clone, Copy)]
@@ -16,20 +15,29 @@ pub(crate) enum Side {
     NotSolvable,
 }
 
-/// Whether the certificates of a proof are of the kinds that the conclusion on the question wants.
+/// Whether the conclusion is one of those on the question, and the certificates of the proof are of the kinds that it
+/// wants.
 pub(crate) fn has_kinds(asked: &Question, conclusion: Conclusion, proof: &Proof) -> bool
     ensures { result ≡ faults.has_kinds asked.now conclusion proof.now }
 {
-    is_side(base_side(conclusion), &proof.base)
-        && have_kind(asked, conclusion, proof.parts.as_slice())
+    let kind = kind_of(asked);
+    may_conclude(kind, conclusion)
+        && is_side(base_side(conclusion), &proof.base)
+        && have_kind(kind, conclusion, proof.parts.as_slice())
 }
 
-fn have_kind(asked: &Question, conclusion: Conclusion, parts: &[Part]) -> bool
-    ensures { result ≡ faults.have_kind (asked_of asked.now).kind conclusion parts.now }
+fn may_conclude(kind: QuestionKind, conclusion: Conclusion) -> bool
+    ensures { result ≡ proof.may_conclude kind conclusion }
 {
-    match conclusion {
-        Conclusion::Contradiction => true,
-        _ => are_side(part_side(asked, conclusion), parts),
+    !matches!((kind, conclusion), (QuestionKind::Plain, Conclusion::No))
+}
+
+fn have_kind(kind: QuestionKind, conclusion: Conclusion, parts: &[Part]) -> bool
+    ensures { result ≡ faults.have_kind kind conclusion parts.now }
+{
+    match (kind, conclusion) {
+        (_, Conclusion::Contradiction) | (QuestionKind::Plain, _) => true,
+        _ => are_side(part_side(kind, conclusion), parts),
     }
 }
 
@@ -58,11 +66,13 @@ fn base_side(conclusion: Conclusion) -> Side
     }
 }
 
-fn part_side(asked: &Question, conclusion: Conclusion) -> Side
-    ensures { result ≡ proof.part_side (asked_of asked.now).kind conclusion }
+fn part_side(kind: QuestionKind, conclusion: Conclusion) -> Side
+    ensures { result ≡ proof.part_side kind conclusion }
 {
-    match (asked, conclusion) {
-        (Question::Necessary(_, _), Conclusion::No) => Side::Solvable,
-        (Question::Necessary(_, _), _) => Side::NotSolvable,
+    match (kind, conclusion) {
+        (QuestionKind::Any, Conclusion::Yes) | (QuestionKind::Every, Conclusion::No) => {
+            Side::Solvable
+        }
+        _ => Side::NotSolvable,
     }
 }

@@ -1,17 +1,251 @@
 //! Tests of the crate's public calls.
 
-ghost use Rattle.std.specs.Prelude.{length};
-ghost use Rattle.ror_statement.specs.Statement.{IsLawful, IsValidQuestion};
+ghost use Rattle.std.specs.Prelude.{IsTrue};
+ghost use Rattle.std.specs.List.{AllByRecursion};
+ghost use Rattle.ror_value.specs.Over.{IsValidIn, IsLawfulIn, IsAskedIn};
 
 use super::*;
-use ror_proof::read_answer;
-use ror_statement::{Question, Statement};
+use ror_proof::{Answer, read_answer};
+use ror_statement::{
+    MOST_ROWS, MOST_STATEMENTS, Pair, Question, Scope, Statement, row_count, valid, valid_question,
+};
 use ror_table::{Table, read_plain};
 use std::alloc::Global;
 use std::test::*;
 
 const TABLE: &[u8] =
     b"ror-table 1\ncriterion q max\ncriterion p min\nalternative a 3 10\nalternative b 2 8\nalternative c 1 12\n";
+
+const AB: Pair = Pair {
+    first: 0,
+    second: 1,
+};
+
+const BA: Pair = Pair {
+    first: 1,
+    second: 0,
+};
+
+const AC: Pair = Pair {
+    first: 0,
+    second: 2,
+};
+
+const BC: Pair = Pair {
+    first: 1,
+    second: 2,
+};
+
+const NOTHING: &[Statement] = &[];
+
+const A_OVER_B: &[Statement] = &[Statement::Prefer(0, 1)];
+
+const EQUALLY_FAR: &[Statement] = &[Statement::EqualStrength(AC, BC, Scope::Whole)];
+
+const OTHER_KIND: &str = "the verdict has no proof, or a certificate of another kind than it wants";
+
+const OTHER_PARTS: &str = "the parts are not those that the verdict wants";
+
+/// Lists, questions, answers, and what a check of each says. The row of a over b is (0, 1, 0, -1), that of a over c
+/// (1, 1, 1, 0).
+const CHECKED: [(&[Statement], Question, &[u8], &str); 26] = [
+    (
+        NOTHING,
+        Question::Necessary(0, 2),
+        b"answer necessary a c yes\nbase solution 1 1 1 1\npart 1 multipliers | 0 1\n",
+        "",
+    ),
+    (
+        NOTHING,
+        Question::Necessary(0, 1),
+        b"answer necessary a b no\nbase solution 1 1 1 1\npart 1 solution 0 0 0 1\n",
+        "",
+    ),
+    (
+        A_OVER_B,
+        Question::Necessary(0, 1),
+        b"answer necessary a b yes\nbase solution 0 1 0 0\npart 1 multipliers | 0 1 1\n",
+        "",
+    ),
+    (
+        A_OVER_B,
+        Question::Possible(1, 0),
+        b"answer possible b a no\nbase solution 0 1 0 0\npart 1 multipliers 1 | 0 1\n",
+        "",
+    ),
+    (
+        &[Statement::Stronger(AB, BA, Scope::Whole)],
+        Question::Necessary(0, 1),
+        b"answer necessary a b yes\nbase solution 0 1 0 0\npart 1 multipliers | 0 1 2\n",
+        "",
+    ),
+    (
+        EQUALLY_FAR,
+        Question::PossibleStrength(AC, BC, Scope::One(0)),
+        b"answer possible a c b c on q yes\nbase solution 1 1 1 1\npart 1 solution 1 1 1 1\n",
+        "",
+    ),
+    (
+        EQUALLY_FAR,
+        Question::NecessaryStrength(BC, AC, Scope::One(0)),
+        b"answer necessary b c a c on q no\nbase solution 1 1 1 1\npart 1 solution 1 1 1 1\n",
+        "",
+    ),
+    (
+        &[Statement::Prefer(0, 1), Statement::Prefer(1, 0)],
+        Question::Consistent,
+        b"answer consistent contradiction\nbase multipliers | 0 1 1\n",
+        "",
+    ),
+    // another question
+    (
+        NOTHING,
+        Question::Necessary(2, 0),
+        b"answer necessary a c yes\nbase solution 1 1 1 1\npart 1 multipliers | 0 1\n",
+        "the answer is to another question",
+    ),
+    // nothing is concluded
+    (
+        NOTHING,
+        Question::Necessary(0, 2),
+        b"answer necessary a c wide\nwide 1 step 1 0 path 2:1 0:0\n",
+        OTHER_KIND,
+    ),
+    (
+        NOTHING,
+        Question::Consistent,
+        b"answer consistent wide\nwide 0 start 0 0 path\n",
+        OTHER_KIND,
+    ),
+    // what is not concluded on such a question
+    (
+        NOTHING,
+        Question::Consistent,
+        b"answer consistent no\nbase solution 1 1 1 1\n",
+        OTHER_KIND,
+    ),
+    // a base or a part of the other kind
+    (
+        NOTHING,
+        Question::Necessary(0, 2),
+        b"answer necessary a c yes\nbase multipliers | 1\npart 1 multipliers | 0 1\n",
+        OTHER_KIND,
+    ),
+    (
+        NOTHING,
+        Question::Consistent,
+        b"answer consistent contradiction\nbase solution 1 1 1 1\n",
+        OTHER_KIND,
+    ),
+    (
+        NOTHING,
+        Question::Necessary(0, 2),
+        b"answer necessary a c yes\nbase solution 1 1 1 1\npart 1 solution 0 0 0 1\n",
+        OTHER_KIND,
+    ),
+    (
+        A_OVER_B,
+        Question::Possible(1, 0),
+        b"answer possible b a no\nbase solution 0 1 0 0\npart 1 solution 0 1 0 0\n",
+        OTHER_KIND,
+    ),
+    (
+        A_OVER_B,
+        Question::Possible(0, 1),
+        b"answer possible a b yes\nbase solution 0 1 0 0\npart 1 multipliers 1 | 0 1\n",
+        OTHER_KIND,
+    ),
+    // a part too few, one too many, and one of a system that the question hasn't
+    (
+        NOTHING,
+        Question::Necessary(0, 2),
+        b"answer necessary a c yes\nbase solution 1 1 1 1\n",
+        OTHER_PARTS,
+    ),
+    (
+        NOTHING,
+        Question::Necessary(0, 1),
+        b"answer necessary a b no\nbase solution 1 1 1 1\n",
+        OTHER_PARTS,
+    ),
+    (
+        A_OVER_B,
+        Question::Possible(1, 0),
+        b"answer possible b a no\nbase solution 0 1 0 0\n",
+        OTHER_PARTS,
+    ),
+    (
+        NOTHING,
+        Question::Consistent,
+        b"answer consistent yes\nbase solution 1 1 1 1\npart 1 solution 1 1 1 1\n",
+        OTHER_PARTS,
+    ),
+    (
+        NOTHING,
+        Question::Necessary(0, 1),
+        b"answer necessary a b no\nbase solution 1 1 1 1\npart 1 solution 0 0 0 1\npart 1 solution 0 0 0 1\n",
+        OTHER_PARTS,
+    ),
+    (
+        NOTHING,
+        Question::Necessary(0, 2),
+        b"answer necessary a c yes\nbase solution 1 1 1 1\npart 2 multipliers | 0 1\n",
+        OTHER_PARTS,
+    ),
+    // certificates that are not accepted
+    (
+        A_OVER_B,
+        Question::Necessary(0, 1),
+        b"answer necessary a b yes\nbase solution 0 0 0 1\npart 1 multipliers | 0 1 1\n",
+        "the base is not accepted: Row(1)",
+    ),
+    (
+        &[Statement::AtLeast(0, 2)],
+        Question::Necessary(0, 2),
+        b"answer necessary a c yes\nbase solution 1 1 1 -1\npart 1 multipliers 1 | 0 0\n",
+        "the base is not accepted: Negative(3)",
+    ),
+    (
+        &[Statement::AtLeast(0, 2)],
+        Question::Necessary(0, 2),
+        b"answer necessary a c yes\nbase solution 1 1 1 1\npart 1 multipliers 1 | 0 0\n",
+        "part 1 is not accepted: NoStrict",
+    ),
+];
+
+/// Whether a desk may hold the list.
+fn is_lawful(table: &Table, list: &[Statement]) -> bool
+    ensures { IsTrue result → IsLawfulIn table.now list.now }
+{
+    list.len() <= MOST_STATEMENTS && row_count(list) <= MOST_ROWS && are_valid(table, list)
+}
+
+fn are_valid(table: &Table, list: &[Statement]) -> bool
+    ensures { IsTrue result → AllByRecursion (IsValidIn table.now) list.now }
+{
+    match list {
+        [] => true,
+        [first, rest @ ..] => {
+            valid(
+                first,
+                table.alternatives(),
+                table.criteria(),
+                table.classes(),
+            ) && are_valid(table, rest)
+        }
+    }
+}
+
+fn is_asked(table: &Table, question: &Question) -> bool
+    ensures { IsTrue result → IsAskedIn table.now question.now }
+{
+    valid_question(
+        question,
+        table.alternatives(),
+        table.criteria(),
+        table.classes(),
+    )
+}
 
 /// What a check of an answer with this text says: the fault, or nothing.
 fn said(
@@ -20,33 +254,87 @@ fn said(
     list: &[Statement],
     asked: &Question,
     text: &[u8],
-) -> Result<String, Fail>
-    requires lawful { IsLawful (length table.now.alternatives) list.now }
-    requires named { IsValidQuestion (length table.now.alternatives) asked.now }
-{
-    let (answer, _) = read_answer(alloc, table, text, 0)
-        .ok()
-        .ok_or("the text is an answer")?;
+) -> Result<String, Fail> {
+    if !is_lawful(table, list) || !is_asked(table, asked) {
+        return Err(Fail::new("the list is lawful and the question valid"));
+    }
+    let (answer, _) = read_answer(alloc, table, text, 0)?;
     match check_answer(alloc, table, list, asked, &answer) {
         Ok(()) => Ok(String::new(alloc)),
         Err(fault) => Ok(format!(in alloc; "{fault}")?),
     }
 }
 
-// Where a is stated to be preferred to b the strict rows are (1, 1, 1, 1), (0, 1, 0, -1), and for the question (0, -1, 0, 1).
 #[test]
 fn an_answer_is_accepted_with_its_proof_alone(rt: HostRuntime) -> Result<(), Fail> {
-    let table = read_plain(rt.alloc(), TABLE)
-        .ok()
-        .ok_or("the text is a table")?;
-    assert_eq!(rt; table.alternatives(), 3);
-    let stated = [Statement::Prefer(0, 1)];
-    let asked = Question::Necessary(0, 1);
-    let proved = b"answer necessary a b yes\nbase solution 0 1 0 0\npart 1 multipliers | 0 1 1\n";
-    let got = said(rt.alloc(), &table, &stated, &asked, proved.as_slice())?;
-    assert_eq!(rt; got.as_str(), "");
-    let other = b"answer necessary a b yes\nbase solution 0 0 0 1\npart 1 multipliers | 0 1 1\n";
-    let got = said(rt.alloc(), &table, &stated, &asked, other.as_slice())?;
-    assert_eq!(rt; got.as_str(), "the base is not accepted: Row(1)");
+    let table = read_plain(rt.alloc(), TABLE)?;
+    for (list, asked, text, expected) in CHECKED {
+        let found = said(rt.alloc(), &table, list, &asked, text)?;
+        assert_eq!(rt; found.as_str(), expected, "{asked:?} over {list:?}");
+    }
+    Ok(())
+}
+
+fn are_asked(table: &Table, answers: &[Answer]) -> bool
+    ensures { IsTrue result → AllByRecursion (λ x. IsAskedIn table.now x.question) answers.now }
+{
+    match answers {
+        [] => true,
+        [first, rest @ ..] => is_asked(table, &first.question) && are_asked(table, rest),
+    }
+}
+
+/// What a check of answers with these texts says: the fault, or nothing.
+fn said_of_all(
+    alloc: Global,
+    table: &Table,
+    list: &[Statement],
+    texts: &[&[u8]],
+) -> Result<String, Fail> {
+    let mut answers = Vec::new(alloc);
+    for text in texts {
+        let (answer, _) = read_answer(alloc, table, text, 0)?;
+        answers.push(answer)?;
+    }
+    let answers = answers.as_slice();
+    if !is_lawful(table, list) || answers.len() > 100 || !are_asked(table, answers) {
+        return Err(Fail::new("the list is lawful and the questions valid, and they are few"));
+    }
+    match check_answers(alloc, table, list, answers) {
+        Ok(()) => Ok(String::new(alloc)),
+        Err(fault) => Ok(format!(in alloc; "{fault}")?),
+    }
+}
+
+const SETTLED: &[u8] =
+    b"answer necessary a b yes\nbase solution 0 1 0 0\npart 1 multipliers | 0 1 1\n";
+
+const AGAIN: &[u8] = b"answer possible b a no\nbase solution 0 1 0 0\npart 1 multipliers 1 | 0 1\n";
+
+const BY_ANOTHER_BASE: &[u8] =
+    b"answer possible b a no\nbase solution 0 2 0 1\npart 1 multipliers 1 | 0 1\n";
+
+const BY_A_WRONG_BASE: &[u8] =
+    b"answer possible b a no\nbase solution 0 0 0 1\npart 1 multipliers 1 | 0 1\n";
+
+#[test]
+fn each_answer_is_checked_over_one_base(rt: HostRuntime) -> Result<(), Fail> {
+    let table = read_plain(rt.alloc(), TABLE)?;
+    let cases: [(&[&[u8]], &str); 4] = [
+        (&[], ""),
+        (&[SETTLED, AGAIN, BY_ANOTHER_BASE], ""),
+        (
+            &[SETTLED, BY_A_WRONG_BASE],
+            "answer 2 is not accepted: the base is not accepted: Row(1)",
+        ),
+        (
+            &[BY_A_WRONG_BASE, SETTLED],
+            "answer 1 is not accepted: the base is not accepted: Row(1)",
+        ),
+    ];
+    for (texts, expected) in cases {
+        let found = said_of_all(rt.alloc(), &table, A_OVER_B, texts)?;
+        assert_eq!(rt; found.as_str(), expected);
+    }
     Ok(())
 }

@@ -3,9 +3,9 @@ use Rattle.std.proofs.Common.{◌≡◌, ◌⊎◌, inl, inr, ◌<◌, ◌≤◌
 use Rattle.std.proofs.lemmas.Bool.{cases_lt}
 use Rattle.ror_text.specs.FirstFault.{IsFirst, IsRefusedBy}
 use Rattle.ror_text.proofs.FirstFaultLemmas.{not_earlier}
-use Rattle.ror_statement.specs.declared.statement.TheConstants.{MOST_STATEMENTS, MOST_ROWS}
+use Rattle.ror_statement.specs.declared.row_number.TheConstants.{MOST_STATEMENTS, MOST_ROWS}
 use Rattle.ror_statement.specs.declared.statement.Statement.{Statement}
-use Rattle.ror_statement.specs.Statement.{row_count}
+use Rattle.ror_statement.specs.RowNumbers.{row_count}
 use Rattle.ror_history.specs.declared.history.HistoryFault.{HistoryFault}
 use Rattle.ror_history.specs.declared.history.HistoryFault.TheVariants.{TooManyStatements, TooManyRows, Memory}
 use Rattle.ror_history.specs.History.{Revisions, standing, statements_of}
@@ -17,6 +17,14 @@ full r s fails = λ _. record { fails = fails; none_before = before }
     before : (other : HistoryFault) → IsEarlierFault other TooManyStatements → FailsAddition r s other → ⊥
     before TooManyStatements earlier f = not_earlier fault_stage (λ _. 0) TooManyStatements TooManyStatements (omega arith) (omega arith) earlier
     before TooManyRows earlier f = not_earlier fault_stage (λ _. 0) TooManyRows TooManyStatements (omega arith) (omega arith) earlier
+    before Memory earlier f = f
+
+pub past_rows : (r : Revisions) (s : Statement) → length (standing r) < MOST_STATEMENTS → MOST_ROWS < row_count (statements_of r ++ s ∷ []) → IsRefusedBy (FailsAddition r s) IsEarlierFault Memory TooManyRows
+past_rows r s few fails = λ _. record { fails = fails; none_before = before }
+  where
+    before : (other : HistoryFault) → IsEarlierFault other TooManyRows → FailsAddition r s other → ⊥
+    before TooManyStatements earlier f = omega (arith, few, f)
+    before TooManyRows earlier f = not_earlier fault_stage (λ _. 0) TooManyRows TooManyRows (omega arith) (omega arith) earlier
     before Memory earlier f = f
 
 pub can_be_added : (r : Revisions) (s : Statement) → ((fault : HistoryFault) → ¬ (FailsAddition r s fault)) → CanBeAdded r s

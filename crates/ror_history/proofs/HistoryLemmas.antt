@@ -2,10 +2,10 @@
 use Rattle.std.proofs.Common.{◌≡◌, ℕ, ◌+◌, ◌<◌, ◌≤◌, suc, max, List, [], ◌∷◌, ◌++◌, map, length, refl, ap, sym, ◌∙◌, arith, append_assoc, length-append}
 use Rattle.std.specs.List.{fold}
 use Rattle.std.proofs.lemmas.List.{append-nil, length-map, map-append}
-use Rattle.ror_statement.specs.declared.statement.TheConstants.{MOST_STATEMENTS, MOST_ROWS}
+use Rattle.ror_statement.specs.declared.row_number.TheConstants.{MOST_STATEMENTS, MOST_ROWS}
 use Rattle.ror_statement.specs.declared.statement.Statement.{Statement}
 use Rattle.ror_statement.specs.declared.statement.Numbered.{Numbered}
-use Rattle.ror_statement.specs.Statement.{row_count}
+use Rattle.ror_statement.specs.RowNumbers.{row_count}
 use Rattle.ror_history.specs.History.{revised, with_numbers_from, numbers, added_numbers, standing, statements_of, next_number}
 use Rattle.ror_history.specs.Contents.{additions, revisions_of, IsHeld}
 

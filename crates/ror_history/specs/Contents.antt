@@ -1,9 +1,9 @@
 -- What a history's lists hold.
 use Rattle.std.specs.Prelude.{◌≡◌, ◌+◌, ◌≤◌, List, map, length}
-use Rattle.ror_statement.specs.declared.statement.TheConstants.{MOST_STATEMENTS, MOST_ROWS}
+use Rattle.ror_statement.specs.declared.row_number.TheConstants.{MOST_STATEMENTS, MOST_ROWS}
 use Rattle.ror_statement.specs.declared.statement.Statement.{Statement}
 use Rattle.ror_statement.specs.declared.statement.Numbered.{Numbered}
-use Rattle.ror_statement.specs.Statement.{row_count}
+use Rattle.ror_statement.specs.RowNumbers.{row_count}
 use Rattle.ror_history.specs.declared.history.History.TheInside.{Inside}
 use Rattle.ror_history.specs.History.{Revision, addition, Revisions, HistoryView, with_numbers_from, standing, statements_of}
 

@@ -1,9 +1,9 @@
 -- Each test of a statement that is to be added, and their order.
 use Rattle.std.specs.Prelude.{ℕ, ◌<◌, ◌≤◌, [], ◌∷◌, ◌++◌, length}
 use Rattle.ror_text.specs.FirstFault.{IsEarlier}
-use Rattle.ror_statement.specs.declared.statement.TheConstants.{MOST_STATEMENTS, MOST_ROWS}
+use Rattle.ror_statement.specs.declared.row_number.TheConstants.{MOST_STATEMENTS, MOST_ROWS}
 use Rattle.ror_statement.specs.declared.statement.Statement.{Statement}
-use Rattle.ror_statement.specs.Statement.{row_count}
+use Rattle.ror_statement.specs.RowNumbers.{row_count}
 use Rattle.ror_history.specs.declared.history.HistoryFault.{HistoryFault}
 use Rattle.ror_history.specs.declared.history.HistoryFault.TheVariants as faults
 use Rattle.ror_history.specs.History.{Revisions, standing, statements_of}

@@ -3,7 +3,7 @@
 ghost use Rattle.std.specs.Prelude.{◌≡◌, ◌+◌, ◌<◌, ◌≤◌, ◌++◌, ◌∷◌, [], length, map, IfOk, IfErr, OnOk};
 ghost use Rattle.std.specs.List.Sorted.{IsStrictlyIncreasing};
 ghost use Rattle.ror_text.specs.FirstFault.{IsRefusedBy};
-ghost use Rattle.ror_statement.specs.Statement.{row_count};
+ghost use Rattle.ror_statement.specs.RowNumbers.{row_count};
 ghost use Rattle.ror_history.specs.History.{addition, with_revision, next_number, with_numbers_from, numbers, standing, statements_of};
 ghost use Rattle.ror_history.specs.Faults.{CanBeAdded, FailsAddition, IsEarlierFault};
 ghost use Rattle.ror_history.specs.declared.history.HistoryFault.TheVariants.{Memory};

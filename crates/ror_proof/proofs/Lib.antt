@@ -1,7 +1,13 @@
 pub mod Loops
+pub mod NameLemmas
+pub mod PrintLemmas
 pub mod WordLemmas
+pub mod PivotLemmas
+pub mod QuestionLemmas
+pub mod LineWords
 pub mod AnswerLemmas
 pub mod WordFaults
+pub mod QuestionFaults
 pub mod LineFaults
 pub mod Utf8Lemmas
 pub mod Places

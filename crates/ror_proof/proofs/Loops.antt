@@ -10,7 +10,7 @@ use Rattle.ror_proof.specs.declared.answer.Part.{Part}
 use Rattle.ror_proof.specs.declared.read.ProofFault.{ProofFault}
 use Rattle.ror_proof.specs.declared.read.ProofFault.TheVariants.{BadLine}
 use Rattle.ror_text.specs.Cursor.{Cursor}
-use Rattle.ror_proof.specs.Words.{number_in, numbers_at, numbers_before_bar}
+use Rattle.ror_proof.specs.Words.{number_in, all_at, numbers_before_bar}
 use Rattle.ror_proof.specs.Reading.{proof_fault, begins_part, part_line, part_lines}
 
 -- what was read before, and what is still read
@@ -37,28 +37,28 @@ pub with_nil : {X Y F : Type 0} (reading : Result (List X × Y) F) → with_fron
 with_nil (Ok y) = refl
 with_nil (Err f) = refl
 
--- ---- the numbers up to the end of a line
+-- ---- what all words up to the end of a line say
 
-pub numbers_go_on : (place : ℕ) (front : List ℤ) (words : List (List ℕ)) (word : List ℕ) (more : List (List ℕ)) (z : ℤ) (whole : Result (List ℤ) ProofFault)
-    → words ≡ word ∷ more → number_in number_of place word ≡ Ok z → after_front front (numbers_at place words) ≡ whole → after_front (front ++ z ∷ []) (numbers_at place more) ≡ whole
-unfolding numbers_at
-numbers_go_on place front words word more z whole is one so_far =
-    let step : after_front front (numbers_at place (word ∷ more)) ≡ after_front (front ++ z ∷ []) (numbers_at place more) = rw one (after_more front z (numbers_at place more)) in
-    sym step ∙ ap (λ ws. after_front front (numbers_at place ws)) (sym is) ∙ so_far
+pub all_go_on : {X : Type 0} (read : List ℕ → Result X ProofFault) (front : List X) (words : List (List ℕ)) (word : List ℕ) (more : List (List ℕ)) (x : X) (whole : Result (List X) ProofFault)
+    → words ≡ word ∷ more → read word ≡ Ok x → after_front front (all_at read words) ≡ whole → after_front (front ++ x ∷ []) (all_at read more) ≡ whole
+unfolding all_at
+all_go_on read front words word more x whole is one so_far =
+    let step : after_front front (all_at read (word ∷ more)) ≡ after_front (front ++ x ∷ []) (all_at read more) = rw one (after_more front x (all_at read more)) in
+    sym step ∙ ap (λ ws. after_front front (all_at read ws)) (sym is) ∙ so_far
 
-pub numbers_exit : (place : ℕ) (front : List ℤ) (words : List (List ℕ)) (word : List ℕ) (more : List (List ℕ)) (e : ProofFault) (whole : Result (List ℤ) ProofFault)
-    → words ≡ word ∷ more → IfSome (proof_fault e) (λ f. number_in number_of place word ≡ Err f) → after_front front (numbers_at place words) ≡ whole → IfSome (proof_fault e) (λ f. whole ≡ Err f)
-unfolding numbers_at
-numbers_exit place front words word more e whole is one so_far =
-    let inner = gives_exit proof_fault e (number_in number_of place word) (λ first. numbers_at place more >>= λ others. Ok (first ∷ others)) one in
-    let outer : IfSome (proof_fault e) (λ f. after_front front (numbers_at place (word ∷ more)) ≡ Err f) = gives_exit proof_fault e (numbers_at place (word ∷ more)) (λ xs. Ok (front ++ xs)) inner in
-    subst (λ r. IfSome (proof_fault e) (λ f. r ≡ Err f)) (ap (λ ws. after_front front (numbers_at place ws)) (sym is) ∙ so_far) outer
+pub all_exit : {X : Type 0} (read : List ℕ → Result X ProofFault) (front : List X) (words : List (List ℕ)) (word : List ℕ) (more : List (List ℕ)) (e : ProofFault) (whole : Result (List X) ProofFault)
+    → words ≡ word ∷ more → IfSome (proof_fault e) (λ f. read word ≡ Err f) → after_front front (all_at read words) ≡ whole → IfSome (proof_fault e) (λ f. whole ≡ Err f)
+unfolding all_at
+all_exit read front words word more e whole is one so_far =
+    let inner = gives_exit proof_fault e (read word) (λ first. all_at read more >>= λ others. Ok (first ∷ others)) one in
+    let outer : IfSome (proof_fault e) (λ f. after_front front (all_at read (word ∷ more)) ≡ Err f) = gives_exit proof_fault e (all_at read (word ∷ more)) (λ xs. Ok (front ++ xs)) inner in
+    subst (λ r. IfSome (proof_fault e) (λ f. r ≡ Err f)) (ap (λ ws. after_front front (all_at read ws)) (sym is) ∙ so_far) outer
 
-pub numbers_end : (place : ℕ) (front : List ℤ) (words : List (List ℕ)) (whole : Result (List ℤ) ProofFault) → words ≡ [] → after_front front (numbers_at place words) ≡ whole → whole ≡ Ok front
-unfolding numbers_at
-numbers_end place front words whole is so_far =
-    let last : after_front front (numbers_at place []) ≡ Ok front = ap (λ xs. Ok xs) (append-nil front) in
-    sym so_far ∙ ap (λ ws. after_front front (numbers_at place ws)) is ∙ last
+pub all_end : {X : Type 0} (read : List ℕ → Result X ProofFault) (front : List X) (words : List (List ℕ)) (whole : Result (List X) ProofFault) → words ≡ [] → after_front front (all_at read words) ≡ whole → whole ≡ Ok front
+unfolding all_at
+all_end read front words whole is so_far =
+    let last : after_front front (all_at read []) ≡ Ok front = ap (λ xs. Ok xs) (append-nil front) in
+    sym so_far ∙ ap (λ ws. after_front front (all_at read ws)) is ∙ last
 
 -- ---- the numbers up to the bar
 

@@ -9,23 +9,37 @@ use Rattle.std.proofs.lemmas.Str.{IsUtf8-append, IsUtf8-nil, IsUtf8-from_ascii}
 use Rattle.std.proofs.lemmas.Str.Ascii.{IsAscii-from_all}
 use Rattle.std.proofs.lemmas.Bool.{and_parts, ltb-true}
 use Rattle.std.proofs.lemmas.List.Elements.{All-from_recursion}
-use Rattle.ror_text.specs.SpacedLines.{join_words}
+use Rattle.ror_text.specs.SpacedLines.{join_words, line_text}
 use Rattle.ror_text.proofs.IdLemmas.{IsId-form}
-use Rattle.ror_statement.specs.declared.statement.Question.{Question}
-use Rattle.ror_statement.specs.declared.statement.Question.TheVariants.{Necessary}
-use Rattle.ror_statement.specs.Statement.{IsValidQuestion}
+use Rattle.ror_statement.specs.declared.comparison.Scope.{Scope}
+use Rattle.ror_statement.specs.declared.comparison.Scope.TheVariants.{Whole, One}
+use Rattle.ror_statement.specs.declared.comparison.Pair.{Pair}
+use Rattle.ror_statement.specs.declared.comparison.Form.{Form}
+use Rattle.ror_statement.specs.declared.comparison.Form.TheVariants.{Value, Strength}
+use Rattle.ror_statement.specs.declared.question.Property.{Property}
+use Rattle.ror_statement.specs.declared.question.Property.TheVariants.{Compatible, AtLeast, InClass}
+use Rattle.ror_statement.specs.Names.{NamesWithin, PairWithin, ScopeWithin}
+use Rattle.ror_statement.specs.Questions.{property_of}
 use Rattle.ror_system.specs.System.{IsNarrow}
-use Rattle.ror_table.specs.Table.{DecisionTable, IsTable}
+use Rattle.ror_table.specs.Table.{DecisionTable, IsTable, id_of, criterion_id_of}
+use Rattle.ror_table.proofs.NameLemmas.{id_of_is_id, criterion_id_of_is_id}
 use Rattle.ror_proof.specs.declared.answer.Answer.{Answer}
 use Rattle.ror_proof.specs.declared.answer.Certificate.{Certificate}
 use Rattle.ror_proof.specs.declared.answer.Certificate.TheVariants as certificates
 use Rattle.ror_proof.specs.declared.answer.Part.{Part}
+use Rattle.ror_proof.specs.declared.answer.Pivot.{Pivot}
+use Rattle.ror_proof.specs.declared.answer.Proof.{Proof}
 use Rattle.ror_proof.specs.declared.answer.Verdict.{Verdict}
 use Rattle.ror_proof.specs.declared.answer.Verdict.TheVariants as verdicts
-use Rattle.ror_text.specs.SpacedLines.{line_text}
-use Rattle.ror_table.specs.Table.{id_of}
-use Rattle.ror_proof.specs.Text.{certificate_words, question_words, verdict_word, proof_of, base_text, part_text, answer_text, IsNarrowCertificate, IsPrintablePart, IsPrintable}
-use Rattle.ror_table.proofs.NameLemmas.{id_of_is_id}
+use Rattle.ror_proof.specs.declared.answer.WideText.{WideText}
+use Rattle.ror_proof.specs.declared.names.QuestionName.{QuestionName}
+use Rattle.ror_proof.specs.declared.names.QuestionName.TheVariants as asked
+use Rattle.ror_proof.specs.declared.names.VerdictName.{VerdictName}
+use Rattle.ror_proof.specs.declared.names.VerdictName.TheVariants as said
+use Rattle.ror_proof.specs.declared.names.PlaceName.{PlaceName}
+use Rattle.ror_proof.specs.declared.names.PlaceName.TheVariants as named
+use Rattle.ror_proof.specs.Names.{question_name, question_word, verdict_name, verdict_word, place_name, place_word}
+use Rattle.ror_proof.specs.Text.{pair_words, scope_words, form_words, property_words, question_words, certificate_words, place_numbers, place_words, pivot_word, head_text, base_text, part_text, proof_text, wide_text, verdict_text, answer_text, HasWords, IsNarrowCertificate, IsPrintablePart, IsPrintableProof, IsPrintablePivot, IsPrintableNote, IsPrintableVerdict, IsPrintable}
 
 are_below : (bs : List ℕ) → list_all (λ b. ltb b 128) bs ≡ true → AllByRecursion (λ b. b < 128) bs
 are_below [] h = tt
@@ -66,16 +80,42 @@ certificate_are_texts (certificates.Solution x) narrow = (ascii_is_utf8 (codes "
 certificate_are_texts (certificates.Multipliers m) narrow =
     (ascii_is_utf8 (codes "multipliers") refl, texts_append (map signed_decimal m.weak) (codes "|" ∷ map signed_decimal m.strict) (numbers_are_texts m.weak narrow.0) (ascii_is_utf8 (codes "|") refl, numbers_are_texts m.strict narrow.1))
 
+-- ---- questions
+
 id_is_text : (t : DecisionTable) (a : ℕ) → IsTable t → a < length t.alternatives → IsUtf8 (id_of t a)
 id_is_text t a table within = (IsId-form (id_of t a) (id_of_is_id t a table within)).utf8
 
-question_are_texts : (t : DecisionTable) (q : Question) → IsTable t → IsValidQuestion (length t.alternatives) q → AreTexts (question_words t q)
-question_are_texts t (Necessary a b) table valid = (ascii_is_utf8 (codes "necessary") refl, (id_is_text t a table valid.0, (id_is_text t b table valid.1, tt)))
+pair_are_texts : (t : DecisionTable) (p : Pair) → IsTable t → PairWithin (length t.alternatives) p → AreTexts (pair_words t p)
+pair_are_texts t p table within = (id_is_text t p.first table within.0, (id_is_text t p.second table within.1, tt))
 
-verdict_is_text : (v : Verdict) → IsUtf8 (verdict_word v)
-verdict_is_text (verdicts.Yes proof) = ascii_is_utf8 (codes "yes") refl
-verdict_is_text (verdicts.No proof) = ascii_is_utf8 (codes "no") refl
-verdict_is_text (verdicts.Contradiction proof) = ascii_is_utf8 (codes "contradiction") refl
+scope_are_texts : (t : DecisionTable) (s : Scope) → IsTable t → ScopeWithin (length t.criteria) s → AreTexts (scope_words t s)
+scope_are_texts t Whole table within = tt
+scope_are_texts t (One i) table within = (ascii_is_utf8 (codes "on") refl, ((IsId-form (criterion_id_of t i) (criterion_id_of_is_id t i table within)).utf8, tt))
+
+form_are_texts : (t : DecisionTable) (form : Form) → IsTable t → NamesWithin (length t.alternatives) (length t.criteria) form → AreTexts (form_words t form)
+form_are_texts t (Value a b) table within = pair_are_texts t (record { first = a; second = b }) table within
+form_are_texts t (Strength p q s) table within =
+    texts_append (pair_words t p) (pair_words t q ++ scope_words t s) (pair_are_texts t p table within.0) (texts_append (pair_words t q) (scope_words t s) (pair_are_texts t q table within.1) (scope_are_texts t s table within.2))
+
+property_are_texts : (t : DecisionTable) (p : Property) → IsTable t → HasWords t p → AreTexts (property_words t p)
+property_are_texts t Compatible table named = tt
+property_are_texts t (AtLeast form) table named = form_are_texts t form table named
+property_are_texts t (InClass a h) table named = (id_is_text t a table named.0, (decimal_is_utf8 h (omega (arith, named.1)), tt))
+
+question_word_is_text : (name : QuestionName) → IsUtf8 (question_word name)
+question_word_is_text asked.Consistent = ascii_is_utf8 (codes "consistent") refl
+question_word_is_text asked.Necessary = ascii_is_utf8 (codes "necessary") refl
+question_word_is_text asked.Possible = ascii_is_utf8 (codes "possible") refl
+question_word_is_text asked.PossibleClass = ascii_is_utf8 (codes "possible-class") refl
+question_word_is_text asked.NecessaryClass = ascii_is_utf8 (codes "necessary-class") refl
+
+verdict_is_text : (name : VerdictName) → IsUtf8 (verdict_word name)
+verdict_is_text said.Yes = ascii_is_utf8 (codes "yes") refl
+verdict_is_text said.No = ascii_is_utf8 (codes "no") refl
+verdict_is_text said.Contradiction = ascii_is_utf8 (codes "contradiction") refl
+verdict_is_text said.Wide = ascii_is_utf8 (codes "wide") refl
+
+-- ---- proofs
 
 part_is_utf8 : (p : Part) → IsPrintablePart p → IsUtf8 (part_text p)
 part_is_utf8 p printable = line_text_is_utf8 (codes "part" ∷ decimal p.at ∷ certificate_words p.body) (ascii_is_utf8 (codes "part") refl, (decimal_is_utf8 p.at (omega (arith, printable.number)), certificate_are_texts p.body printable.narrow))
@@ -84,12 +124,48 @@ parts_are_utf8 : (ps : List Part) → AllByRecursion IsPrintablePart ps → IsUt
 parts_are_utf8 [] printable = IsUtf8-nil
 parts_are_utf8 (p ∷ ps) printable = IsUtf8-append (part_text p) (flat_map part_text ps) (part_is_utf8 p printable.0) (parts_are_utf8 ps printable.1)
 
+proof_is_utf8 : (p : Proof) → IsPrintableProof p → IsUtf8 (proof_text p)
+proof_is_utf8 p printable =
+    IsUtf8-append (base_text p.base) (flat_map part_text p.parts) (line_text_is_utf8 (codes "base" ∷ certificate_words p.base) (ascii_is_utf8 (codes "base") refl, certificate_are_texts p.base printable.base)) (parts_are_utf8 p.parts printable.parts)
+
+-- ---- numbers too wide
+
+small_numbers_are_texts : (ns : List ℕ) → AllByRecursion (λ n. n < 2 ^ 32) ns → AreTexts (map decimal ns)
+small_numbers_are_texts [] small = tt
+small_numbers_are_texts (n ∷ ns) small = (decimal_is_utf8 n (omega (arith, small.0)), small_numbers_are_texts ns small.1)
+
+place_word_is_text : (name : PlaceName) → IsUtf8 (place_word name)
+place_word_is_text named.Start = ascii_is_utf8 (codes "start") refl
+place_word_is_text named.Step = ascii_is_utf8 (codes "step") refl
+place_word_is_text named.Denominator = ascii_is_utf8 (codes "denominator") refl
+place_word_is_text named.RowSum = ascii_is_utf8 (codes "rowsum") refl
+place_word_is_text named.ColumnSum = ascii_is_utf8 (codes "columnsum") refl
+
+pivots_are_texts : (ps : List Pivot) → AllByRecursion IsPrintablePivot ps → AreTexts (map pivot_word ps)
+pivots_are_texts [] printable = tt
+pivots_are_texts (p ∷ ps) printable =
+    (IsUtf8-append (decimal p.column) (58 ∷ decimal p.row) (decimal_is_utf8 p.column (omega (arith, printable.0.column))) (IsUtf8-append (58 ∷ []) (decimal p.row) (ascii_is_utf8 (58 ∷ []) refl) (decimal_is_utf8 p.row (omega (arith, printable.0.row)))), pivots_are_texts ps printable.1)
+
+wide_is_utf8 : (system : ℕ) (note : WideText) → IsPrintableNote system note → IsUtf8 (wide_text system note)
+wide_is_utf8 system note printable =
+    let place : AreTexts (place_words note.place) = (place_word_is_text (place_name note.place), small_numbers_are_texts (place_numbers note.place) printable.place) in
+    let path : AreTexts (codes "path" ∷ map pivot_word note.path) = (ascii_is_utf8 (codes "path") refl, pivots_are_texts note.path printable.path) in
+    line_text_is_utf8 (codes "wide" ∷ decimal system ∷ (place_words note.place ++ codes "path" ∷ map pivot_word note.path)) (ascii_is_utf8 (codes "wide") refl, (decimal_is_utf8 system (omega (arith, printable.number)), texts_append (place_words note.place) (codes "path" ∷ map pivot_word note.path) place path))
+
+-- ---- answers
+
+verdict_text_is_utf8 : (v : Verdict) → IsPrintableVerdict v → IsUtf8 (verdict_text v)
+verdict_text_is_utf8 (verdicts.Yes proof) printable = proof_is_utf8 proof printable
+verdict_text_is_utf8 (verdicts.No proof) printable = proof_is_utf8 proof printable
+verdict_text_is_utf8 (verdicts.Contradiction proof) printable = proof_is_utf8 proof printable
+verdict_text_is_utf8 (verdicts.Wide system note) printable = wide_is_utf8 system note printable
+
 pub answer_text_is_utf8 : (t : DecisionTable) (x : Answer) → IsTable t → IsPrintable t x → IsUtf8 (answer_text t x)
 unfolding answer_text
 answer_text_is_utf8 t x table printable =
-    let proof = proof_of x.verdict in
-    let words = question_words t x.question ++ verdict_word x.verdict ∷ [] in
-    let head = line_text_is_utf8 (codes "answer" ∷ words) (ascii_is_utf8 (codes "answer") refl, texts_append (question_words t x.question) (verdict_word x.verdict ∷ []) (question_are_texts t x.question table printable.named) (verdict_is_text x.verdict, tt)) in
-    let base = line_text_is_utf8 (codes "base" ∷ certificate_words proof.base) (ascii_is_utf8 (codes "base") refl, certificate_are_texts proof.base printable.base) in
-    IsUtf8-append (line_text (codes "answer" ∷ words)) (base_text proof.base ++ flat_map part_text proof.parts) head
-    (IsUtf8-append (base_text proof.base) (flat_map part_text proof.parts) base (parts_are_utf8 proof.parts printable.parts))
+    let q = x.question in
+    let name = verdict_name x.verdict in
+    let words = question_words t q ++ verdict_word name ∷ [] in
+    let asked : AreTexts (question_words t q) = (question_word_is_text (question_name q), property_are_texts t (property_of q) table printable.named) in
+    let head = line_text_is_utf8 (codes "answer" ∷ words) (ascii_is_utf8 (codes "answer") refl, texts_append (question_words t q) (verdict_word name ∷ []) asked (verdict_is_text name, tt)) in
+    IsUtf8-append (head_text t q name) (verdict_text x.verdict) head (verdict_text_is_utf8 x.verdict printable.concluded)

@@ -27,6 +27,13 @@ abbrev pub AnswersHaveOneText : Type 0
 AnswersHaveOneText = (t : DecisionTable) (x y : Answer) → IsTable t → IsPrintable t x
     → IsPrintable t y → answer_text t x ≡ answer_text t y → x ≡ y
 
+-- a text of an answer, with anything after it that begins no part, is read as that answer, up to where the text ends
+abbrev pub TextsAreReadAlone : Type 0
+TextsAreReadAlone = (t : DecisionTable) (x : Answer) (place : ℕ) (more : List ℕ) → IsTable t
+    → IsPrintable t x → begins_part more ≡ false
+    → answer_at t (record { place = place; rest = answer_text t x ++ more })
+    ≡ Ok (x, record { place = place + length (answer_text t x); rest = more })
+
 -- each text begins with the word `answer`
 abbrev pub TextsBeginWithAnswer : Type 0
 TextsBeginWithAnswer = (t : DecisionTable) (x : Answer)

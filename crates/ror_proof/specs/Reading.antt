@@ -2,25 +2,29 @@
 use Rattle.std.specs.Prelude.{ℕ, ◌≤◌, Bool, zero, suc, List, [], ◌∷◌, length, Option, Some, None, Result, Ok, Err, codes, nat_eq, if◌then◌else◌}
 use Rattle.std.specs.List.{starts_with}
 use Rattle.std.specs.Str.{bytes_eq}
-use Rattle.ror_text.specs.Numbers.{small_number_of}
-use Rattle.ror_text.specs.Reading.{◌>>=◌, need}
-use Rattle.ror_statement.specs.declared.statement.Question.{Question}
-use Rattle.ror_statement.specs.declared.statement.Question.TheVariants.{Necessary}
-use Rattle.ror_table.specs.Table.{DecisionTable, alternative_named}
+use Rattle.ror_text.specs.Cursor.{Cursor, line_words, line_after}
+use Rattle.ror_text.specs.Reading.{◌>>=◌, refuse, need}
+use Rattle.ror_statement.specs.declared.question.Question.{Question}
+use Rattle.ror_table.specs.Table.{DecisionTable}
 use Rattle.ror_proof.specs.declared.answer.Answer.{Answer}
 use Rattle.ror_proof.specs.declared.answer.Certificate.{Certificate}
 use Rattle.ror_proof.specs.declared.answer.Certificate.TheVariants as certificates
 use Rattle.ror_proof.specs.declared.answer.Part.{Part}
+use Rattle.ror_proof.specs.declared.answer.PlaceText.{PlaceText}
+use Rattle.ror_proof.specs.declared.answer.PlaceText.TheVariants as places
 use Rattle.ror_proof.specs.declared.answer.Proof.{Proof}
 use Rattle.ror_proof.specs.declared.answer.Verdict.{Verdict}
 use Rattle.ror_proof.specs.declared.answer.Verdict.TheVariants as verdicts
+use Rattle.ror_proof.specs.declared.answer.WideText.{WideText}
+use Rattle.ror_proof.specs.declared.names.PlaceName.{PlaceName}
+use Rattle.ror_proof.specs.declared.names.PlaceName.TheVariants as named
+use Rattle.ror_proof.specs.declared.names.VerdictName.{VerdictName}
+use Rattle.ror_proof.specs.declared.names.VerdictName.TheVariants as said
 use Rattle.ror_proof.specs.declared.read.ProofFault.{ProofFault}
 use Rattle.ror_proof.specs.declared.read.ProofFault.TheVariants as faults
-use Rattle.ror_proof.specs.declared.read.ProvedVerdict.{ProvedVerdict}
-use Rattle.ror_proof.specs.declared.read.ProvedVerdict.TheVariants as proved
-use Rattle.ror_text.specs.Cursor.{Cursor}
-use Rattle.ror_text.specs.Cursor.{line_words, line_after}
-use Rattle.ror_proof.specs.Words.{first_word, after_word, no_more, number_in, numbers_at, numbers_before_bar}
+use Rattle.ror_proof.specs.Names.{place_word, place_names, verdict_word, verdict_names}
+use Rattle.ror_proof.specs.Questions.{question_at}
+use Rattle.ror_proof.specs.Words.{first_word, after_word, name_at, no_more, small_number_at, numbers_at, numbers_before_bar, pivots_at}
 
 -- the fault that an error names: none for want of memory
 abbrev pub proof_fault : ProofFault → Option ProofFault
@@ -56,77 +60,97 @@ certificate_at place words = do
       else (if bytes_eq form.0 (codes "multipliers") then multipliers_at place form.1
       else Err (faults.BadLine place))
 
--- the alternative whose id comes first
-unfoldable pub alternative_at : DecisionTable → ℕ → List (List ℕ)
-    → Result (ℕ × List (List ℕ)) ProofFault
-alternative_at t place words = do
-  id ← first_word place words
-  alternative ← need (faults.BadLine place) (alternative_named t id.0)
-  Ok (alternative, id.1)
+-- a row and a column
+unfoldable pub entry_at : ℕ → List (List ℕ) → Result ((ℕ × ℕ) × List (List ℕ)) ProofFault
+entry_at place words = do
+  row ← small_number_at place words
+  column ← small_number_at place row.1
+  Ok ((row.0, column.0), column.1)
 
--- `necessary` is before these words
-unfoldable pub necessary_at : DecisionTable → ℕ → List (List ℕ)
-    → Result (Question × List (List ℕ)) ProofFault
-necessary_at t place words = do
-  first ← alternative_at t place words
-  second ← alternative_at t place first.1
-  Ok (Necessary first.0 second.0, second.1)
+-- the number's place of this name, whose word is before these words
+abbrev pub numbered_at : ℕ → PlaceName → List (List ℕ)
+    → Result (PlaceText × List (List ℕ)) ProofFault
+numbered_at place named.Start words = do
+  entry ← entry_at place words
+  Ok (places.Start entry.0.0 entry.0.1, entry.1)
+numbered_at place named.Step words = do
+  entry ← entry_at place words
+  Ok (places.Step entry.0.0 entry.0.1, entry.1)
+numbered_at place named.Denominator words = do
+  row ← small_number_at place words
+  Ok (places.Denominator row.0, row.1)
+numbered_at place named.RowSum words = do
+  row ← small_number_at place words
+  Ok (places.RowSum row.0, row.1)
+numbered_at place named.ColumnSum words = do
+  column ← small_number_at place words
+  Ok (places.ColumnSum column.0, column.1)
 
-unfoldable pub question_at : DecisionTable → ℕ → List (List ℕ)
-    → Result (Question × List (List ℕ)) ProofFault
-question_at t place words = do
-  form ← first_word place words
-  if bytes_eq form.0 (codes "necessary") then necessary_at t place form.1
-      else Err (faults.BadLine place)
+unfoldable pub place_at : ℕ → List (List ℕ) → Result (PlaceText × List (List ℕ)) ProofFault
+place_at place words = do
+  name ← name_at place_word place_names place words
+  numbered_at place name.0 name.1
 
--- which verdict the first word announces
-unfoldable pub verdict_at : ℕ → List (List ℕ) → Result (ProvedVerdict × List (List ℕ)) ProofFault
-verdict_at place words = do
-  name ← first_word place words
-  if bytes_eq name.0 (codes "yes") then Ok (proved.Yes, name.1)
-      else (if bytes_eq name.0 (codes "no") then Ok (proved.No, name.1)
-      else (if bytes_eq name.0 (codes "contradiction") then Ok (proved.Contradiction, name.1)
-      else Err (faults.BadLine place)))
+-- a place, `path` and pivots, up to the end of the line
+unfoldable pub note_at : ℕ → List (List ℕ) → Result WideText ProofFault
+note_at place words = do
+  number ← place_at place words
+  more ← after_word place (codes "path") number.1
+  path ← pivots_at place more
+  Ok (record { path = path; place = number.0 })
 
--- the announced verdict, with its proof
-abbrev pub verdict_of : ProvedVerdict → Proof → Verdict
-verdict_of proved.Yes proof = verdicts.Yes proof
-verdict_of proved.No proof = verdicts.No proof
-verdict_of proved.Contradiction proof = verdicts.Contradiction proof
+-- ---- the words of each line
 
--- the number of a system, which comes first
-unfoldable pub system_at : ℕ → List (List ℕ) → Result (ℕ × List (List ℕ)) ProofFault
-system_at place words = do
-  word ← first_word place words
-  number ← number_in small_number_of place word.0
-  Ok (number, word.1)
+unfoldable pub answer_words : DecisionTable → ℕ → List (List ℕ)
+    → Result (Question × VerdictName) ProofFault
+answer_words t place words = do
+  more ← after_word place (codes "answer") words
+  question ← question_at t place more
+  verdict ← name_at verdict_word verdict_names place question.1
+  _ ← no_more place verdict.1
+  Ok (question.0, verdict.0)
+
+unfoldable pub base_words : ℕ → List (List ℕ) → Result Certificate ProofFault
+base_words place words = do
+  more ← after_word place (codes "base") words
+  certificate_at place more
+
+unfoldable pub part_words : ℕ → List (List ℕ) → Result Part ProofFault
+part_words place words = do
+  more ← after_word place (codes "part") words
+  at ← small_number_at place more
+  certificate ← certificate_at place at.1
+  Ok (record { at = at.0; body = certificate })
+
+unfoldable pub wide_words : ℕ → List (List ℕ) → Result (ℕ × WideText) ProofFault
+wide_words place words = do
+  more ← after_word place (codes "wide") words
+  system ← small_number_at place more
+  note ← note_at place system.1
+  Ok (system.0, note)
 
 -- ---- line by line
 
-unfoldable pub answer_line : DecisionTable → Cursor
-    → Result ((Question × ProvedVerdict) × Cursor) ProofFault
-answer_line t c = do
-  words ← after_word c.place (codes "answer") (line_words c)
-  question ← question_at t c.place words
-  verdict ← verdict_at c.place question.1
-  _ ← no_more c.place verdict.1
+-- what was read of a line's words, where a line feed ends the line, and where the next one begins
+unfoldable pub ended : {A : Type 0} → Cursor → Result A ProofFault
+    → Result (A × Cursor) ProofFault
+ended c reading = do
+  value ← reading
   next ← need (faults.BadLine c.place) (line_after c)
-  Ok ((question.0, verdict.0), next)
+  Ok (value, next)
 
-unfoldable pub base_line : Cursor → Result (Certificate × Cursor) ProofFault
-base_line c = do
-  words ← after_word c.place (codes "base") (line_words c)
-  certificate ← certificate_at c.place words
-  next ← need (faults.BadLine c.place) (line_after c)
-  Ok (certificate, next)
+abbrev pub answer_line : DecisionTable → Cursor
+    → Result ((Question × VerdictName) × Cursor) ProofFault
+answer_line t c = ended c (answer_words t c.place (line_words c))
 
-unfoldable pub part_line : Cursor → Result (Part × Cursor) ProofFault
-part_line c = do
-  words ← after_word c.place (codes "part") (line_words c)
-  at ← system_at c.place words
-  certificate ← certificate_at c.place at.1
-  next ← need (faults.BadLine c.place) (line_after c)
-  Ok (record { at = at.0; body = certificate }, next)
+abbrev pub base_line : Cursor → Result (Certificate × Cursor) ProofFault
+base_line c = ended c (base_words c.place (line_words c))
+
+abbrev pub part_line : Cursor → Result (Part × Cursor) ProofFault
+part_line c = ended c (part_words c.place (line_words c))
+
+abbrev pub wide_line : Cursor → Result ((ℕ × WideText) × Cursor) ProofFault
+wide_line c = ended c (wide_words c.place (line_words c))
 
 abbrev pub begins_part : List ℕ → Bool
 begins_part bytes = starts_with nat_eq bytes (codes "part ")
@@ -139,17 +163,36 @@ part_lines (suc most) c = if begins_part c.rest then (do
   others ← part_lines most first.1
   Ok (first.0 ∷ others.0, others.1)) else Ok ([], c)
 
--- the line of the question and the verdict, the base, and all parts: a line has a byte at least
+-- the base, and all parts: a line has a byte at least
+unfoldable pub proof_at : Cursor → Result (Proof × Cursor) ProofFault
+proof_at c = do
+  base ← base_line c
+  parts ← part_lines (length base.1.rest) base.1
+  Ok (record { base = base.0; parts = parts.0 }, parts.1)
+
+-- a number too wide; no part may follow
+unfoldable pub wide_at : Cursor → Result (Verdict × Cursor) ProofFault
+wide_at c = do
+  wide ← wide_line c
+  _ ← refuse (faults.BadLine wide.1.place) (begins_part wide.1.rest)
+  Ok (verdicts.Wide wide.0.0 wide.0.1, wide.1)
+
+-- what follows the line of the question, where its last word is this verdict's
+abbrev pub verdict_at : VerdictName → Cursor → Result (Verdict × Cursor) ProofFault
+verdict_at said.Yes c = do
+  proof ← proof_at c
+  Ok (verdicts.Yes proof.0, proof.1)
+verdict_at said.No c = do
+  proof ← proof_at c
+  Ok (verdicts.No proof.0, proof.1)
+verdict_at said.Contradiction c = do
+  proof ← proof_at c
+  Ok (verdicts.Contradiction proof.0, proof.1)
+verdict_at said.Wide c = wide_at c
+
+-- the line of the question and the verdict, and what follows it
 unfoldable pub answer_at : DecisionTable → Cursor → Result (Answer × Cursor) ProofFault
 answer_at t c = do
   head ← answer_line t c
-  base ← base_line head.1
-  parts ← part_lines (length base.1.rest) base.1
-  Ok (
-    record {
-      question = head.0.0;
-      verdict =
-          verdict_of head.0.1 (record { base = base.0; parts = parts.0 });
-    },
-    parts.1,
-  )
+  verdict ← verdict_at head.0.1 head.1
+  Ok (record { question = head.0.0; verdict = verdict.0 }, verdict.1)

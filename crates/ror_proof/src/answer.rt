@@ -26,7 +26,37 @@ pub struct Proof {
     pub parts: Items<Part>,
 }
 
-/// A conclusion with its proof.
+/// The step at which the basis of a tableau is exchanged: the row at this place leaves it, and the
+/// column at this place enters it.
+#[derive(Clone, Copy, Debug, PartialEq, Eq)]
+pub struct Pivot {
+    pub column: u32,
+    pub row: u32,
+}
+
+/// Which number of a path of pivots is meant, by places from 0.
+#[derive(Clone, Copy, Debug, PartialEq, Eq)]
+pub enum PlaceText {
+    /// The entry of the starting tableau at a row and a column.
+    Start(u32, u32),
+    /// A number that the last pivot of the path takes for the entry at a row and a column.
+    Step(u32, u32),
+    /// The common denominator of the solution, taken up to a row.
+    Denominator(u32),
+    /// The sum of the absolute terms of a row over the solution.
+    RowSum(u32),
+    /// The sum of the absolute terms of a column over the multipliers.
+    ColumnSum(u32),
+}
+
+/// The first number of a path of pivots that passes the width, and the pivots made before it.
+#[derive(Debug, Drop)]
+pub struct WideText {
+    pub path: Items<Pivot>,
+    pub place: PlaceText,
+}
+
+/// A conclusion with its proof, or why there is none.
 #[derive(Debug, Drop)]
 pub enum Verdict {
     /// What was asked holds.
@@ -35,6 +65,9 @@ pub enum Verdict {
     No(Proof),
     /// No value function is compatible with the statements.
     Contradiction(Proof),
+    /// Nothing is concluded: a number on the way to the certificate of this system, by its number
+    /// from 1 or 0 for the base, passes the width.
+    Wide { system: u32, note: WideText },
 }
 
 /// What is answered to a question.

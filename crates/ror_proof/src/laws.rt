@@ -1,6 +1,6 @@
 //! Laws of the definitions, each the clause of a function that does nothing.
 
-ghost use Rattle.ror_proof.specs.Laws.{AnswersAreTheirTexts, AnswersHaveOneText, TextsAreUtf8, TextsBeginWithAnswer, AnswersFailFirst};
+ghost use Rattle.ror_proof.specs.Laws.{AnswersAreTheirTexts, AnswersHaveOneText, TextsAreReadAlone, TextsAreUtf8, TextsBeginWithAnswer, AnswersFailFirst};
 
 /// An answer is read exactly where its text stands and no further part follows: what was written is
 /// read again, and what is read was so written.
@@ -8,9 +8,11 @@ pub fn answers_read_back()
     ensures { AnswersAreTheirTexts }
 {}
 
-/// Two answers that have a text have two texts.
+/// Two answers that have a text have two texts, and a text of an answer that is followed by no further part is read as
+/// that answer alone.
 pub fn one_spelling()
-    ensures { AnswersHaveOneText }
+    ensures one_text { AnswersHaveOneText }
+    ensures read_alone { TextsAreReadAlone }
 {}
 
 /// The text of an answer begins with its first word, and is UTF-8.

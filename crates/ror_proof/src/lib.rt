@@ -3,9 +3,14 @@
 
 mod answer;
 pub mod laws;
+mod names;
+mod print;
+mod questions;
 mod read;
+mod words;
 
-pub use answer::{Answer, Certificate, Part, Proof, Verdict};
+pub use answer::{Answer, Certificate, Part, Pivot, PlaceText, Proof, Verdict, WideText};
+pub use print::print_answer;
 pub use read::{ProofFault, read_answer};
 
 #[cfg(test)]

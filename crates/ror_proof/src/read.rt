@@ -1,21 +1,22 @@
 //! The reader of an answer's text.
 
 ghost use Rattle.std.specs.Prelude.{◌≤◌, ◌<◌, ◌≡◌, ◌-◌, length, IfErr, IfOk};
-ghost use Rattle.ror_text.specs.Numbers.{number_of, small_number_of};
 ghost use Rattle.ror_text.specs.Reading.{Gives};
 ghost use Rattle.ror_text.specs.Cursor.{cursor_at};
-ghost use Rattle.ror_table.specs.Table.{alternative_named};
-ghost use Rattle.ror_proof.specs.Words as spec;
+ghost use Rattle.ror_proof.specs.Text.{IsNarrowVerdict};
 ghost use Rattle.ror_proof.specs.Reading as reading;
 ghost use Rattle.ror_proof.specs.Reading.{answer_at, proof_fault, IsProofFaultWithin};
 
-use crate::answer::{Answer, Certificate, Part, Proof, Verdict};
+use crate::answer::{Answer, Certificate, Part, PlaceText, Proof, Verdict, WideText};
+use crate::names::{PLACE_NAMES, PlaceName, VERDICT_NAMES, VerdictName};
+use crate::questions::question_at;
+use crate::words::{
+    after_word, name_at, no_more, numbers_at, numbers_before_bar, pivots_at, small_number_at,
+};
 use ror_statement::Question;
 use ror_system::{Multipliers, Solution};
 use ror_table::Table;
 use ror_text::Items;
-use ror_text::ids::id_text;
-use ror_text::numbers::{read_number, read_small_number};
 use ror_text::reading::{need, refuse_if};
 use ror_text::spaced::{Words, line_at};
 use std::alloc::{AllocError, AllocFailed, Global};
@@ -24,7 +25,8 @@ use thiserror::Error;
 /// Why no answer was read; the place is the first byte of the faulty line.
 #[derive(Debug, Drop, Error)]
 pub enum ProofFault {
-    /// A wrong, empty, missing or extra word, an id that the table lacks, or no line feed.
+    /// A wrong, empty, missing or extra word, an id that the table lacks, no line feed, or a part after a verdict that has
+    /// none.
     #[error("bad line at byte {0}")]
     BadLine(usize),
     /// A word in a number's place that is no such number.
@@ -56,14 +58,6 @@ impl<T: Drop> From<AllocFailed<T>> for ProofFault {
     }
 }
 
-/// The verdicts that stand on a proof.
-#[derive(Clone, Copy)]
-enum ProvedVerdict {
-    Yes,
-    No,
-    Contradiction,
-}
-
 /// Reads the answer whose text begins at a place, and says where it ends.
 #[tactic(auto, unfolding(crate::specs::Reading::answer_at))]
 pub fn read_answer(
@@ -78,35 +72,85 @@ pub fn read_answer(
     ensures onward { IfOk result (λ x. from < x.1) }
     ensures within { IfOk result (λ x. x.1 ≤ length bytes.now) }
     ensures placed { IfErr result (IsProofFaultWithin (length bytes.now)) }
+    ensures narrow { IfOk result (λ x. IsNarrowVerdict x.0.verdict) }
 {
-    let (question, verdict, next) = answer_line(table, bytes, from)?;
-    let (base, next) = base_line(alloc, bytes, next)?;
-    let (parts, next) = part_lines(alloc, bytes, next)?;
-    let proof = Proof {
-        base,
-        parts: Items::from(parts),
-    };
-    let verdict = verdict_of(verdict, proof);
+    let (question, name, next) = answer_line(table, bytes, from)?;
+    let (verdict, next) = verdict_at(alloc, name, bytes, next)?;
     Ok((Answer { question, verdict }, next))
 }
 
-fn verdict_of(verdict: ProvedVerdict, proof: Proof) -> Verdict
-    ensures { result ≡ reading.verdict_of verdict proof }
+/// What follows the line of the question, where its last word is this verdict's.
+fn verdict_at(
+    alloc: Global,
+    name: VerdictName,
+    bytes: &[u8],
+    from: usize,
+) -> Result<(Verdict, usize), ProofFault>
+    requires { from ≤ length bytes.now }
+    ensures exact { Gives (λ x. (x.0, cursor_at bytes.now x.1)) proof_fault result
+        (reading.verdict_at name (cursor_at bytes.now from)) }
+    ensures onward { IfOk result (λ x. from < x.1) }
+    ensures within { IfOk result (λ x. x.1 ≤ length bytes.now) }
+    ensures placed { IfErr result (IsProofFaultWithin (length bytes.now)) }
 {
-    match verdict {
-        ProvedVerdict::Yes => Verdict::Yes(proof),
-        ProvedVerdict::No => Verdict::No(proof),
-        ProvedVerdict::Contradiction => Verdict::Contradiction(proof),
+    if let VerdictName::Wide = name {
+        return wide_at(alloc, bytes, from);
     }
+    let (proof, next) = proof_at(alloc, bytes, from)?;
+    let verdict = match name {
+        VerdictName::Yes => Verdict::Yes(proof),
+        VerdictName::No => Verdict::No(proof),
+        _ => Verdict::Contradiction(proof),
+    };
+    Ok((verdict, next))
+}
+
+/// The base and all parts, and where the next line begins.
+#[tactic(auto, unfolding(crate::specs::Reading::proof_at))]
+fn proof_at(alloc: Global, bytes: &[u8], from: usize) -> Result<(Proof, usize), ProofFault>
+    requires { from ≤ length bytes.now }
+    ensures exact { Gives (λ x. (x.0, cursor_at bytes.now x.1)) proof_fault result
+        (reading.proof_at (cursor_at bytes.now from)) }
+    ensures onward { IfOk result (λ x. from < x.1) }
+    ensures within { IfOk result (λ x. x.1 ≤ length bytes.now) }
+    ensures placed { IfErr result (IsProofFaultWithin (length bytes.now)) }
+{
+    let (base, next) = base_line(alloc, bytes, from)?;
+    let (parts, next) = part_lines(alloc, bytes, next)?;
+    let parts = Items::from(parts);
+    Ok((Proof { base, parts }, next))
+}
+
+/// A number too wide, and where the next line begins; no part may follow.
+#[tactic(auto, unfolding(crate::specs::Reading::wide_at))]
+fn wide_at(alloc: Global, bytes: &[u8], from: usize) -> Result<(Verdict, usize), ProofFault>
+    requires { from ≤ length bytes.now }
+    ensures exact { Gives (λ x. (x.0, cursor_at bytes.now x.1)) proof_fault result
+        (reading.wide_at (cursor_at bytes.now from)) }
+    ensures onward { IfOk result (λ x. from < x.1) }
+    ensures within { IfOk result (λ x. x.1 ≤ length bytes.now) }
+    ensures placed { IfErr result (IsProofFaultWithin (length bytes.now)) }
+{
+    let (system, note, next) = wide_line(alloc, bytes, from)?;
+    refuse_if(begins_part(bytes, next), ProofFault::BadLine(next))?;
+    Ok((Verdict::Wide { system, note }, next))
+}
+
+/// Whether the line of a part begins at a place.
+fn begins_part(bytes: &[u8], from: usize) -> bool
+    requires { from ≤ length bytes.now }
+    ensures { result ≡ reading.begins_part (cursor_at bytes.now from).rest }
+{
+    bytes[from..].starts_with(b"part ")
 }
 
 /// The line of the question and the verdict, and where the next line begins.
-#[tactic(auto, using(crate::proofs::Places::placed_on), unfolding(crate::specs::Reading::answer_line))]
+#[tactic(auto, using(crate::proofs::Places::placed_on), unfolding(crate::specs::Reading::answer_words, crate::specs::Reading::ended))]
 fn answer_line(
     table: &Table,
     bytes: &[u8],
     from: usize,
-) -> Result<(Question, ProvedVerdict, usize), ProofFault>
+) -> Result<(Question, VerdictName, usize), ProofFault>
     requires { from ≤ length bytes.now }
     ensures exact { Gives (λ x. ((x.0, x.1), cursor_at bytes.now x.2)) proof_fault result
         (reading.answer_line table.now (cursor_at bytes.now from)) }
@@ -115,16 +159,16 @@ fn answer_line(
     ensures placed { IfErr result (IsProofFaultWithin (length bytes.now)) }
 {
     let (line, next) = line_at(bytes, from);
-    let words = after_word(from, b"answer".as_slice(), Words::of(line))?;
+    let words = after_word(from, b"answer", Words::of(line))?;
     let (question, words) = question_at(table, from, words)?;
-    let (verdict, words) = verdict_at(from, words)?;
+    let (verdict, words) = name_at(&VERDICT_NAMES, from, words)?;
     no_more(from, words)?;
     let next = need(next, ProofFault::BadLine(from))?;
     Ok((question, verdict, next))
 }
 
 /// The line of the base's certificate, and where the next line begins.
-#[tactic(auto, using(crate::proofs::Places::placed_on), unfolding(crate::specs::Reading::base_line))]
+#[tactic(auto, using(crate::proofs::Places::placed_on), unfolding(crate::specs::Reading::base_words, crate::specs::Reading::ended))]
 fn base_line(alloc: Global, bytes: &[u8], from: usize) -> Result<(Certificate, usize), ProofFault>
     requires { from ≤ length bytes.now }
     ensures exact { Gives (λ x. (x.0, cursor_at bytes.now x.1)) proof_fault result
@@ -134,7 +178,7 @@ fn base_line(alloc: Global, bytes: &[u8], from: usize) -> Result<(Certificate, u
     ensures placed { IfErr result (IsProofFaultWithin (length bytes.now)) }
 {
     let (line, next) = line_at(bytes, from);
-    let words = after_word(from, b"base".as_slice(), Words::of(line))?;
+    let words = after_word(from, b"base", Words::of(line))?;
     let certificate = certificate_at(alloc, from, words)?;
     let next = need(next, ProofFault::BadLine(from))?;
     Ok((certificate, next))
@@ -151,7 +195,7 @@ fn part_lines(alloc: Global, bytes: &[u8], from: usize) -> Result<(Vec<Part>, us
 {
     let mut parts = Vec::new(alloc);
     let mut next = from;
-    'parts: while bytes[next..].starts_with(b"part ") {
+    'parts: while begins_part(bytes, next) {
         let (part, after) = part_line(alloc, bytes, next)?;
         parts.push(part)?;
         next = after;
@@ -160,7 +204,7 @@ fn part_lines(alloc: Global, bytes: &[u8], from: usize) -> Result<(Vec<Part>, us
 }
 
 /// The line of one part, and where the next line begins.
-#[tactic(auto, using(crate::proofs::Places::placed_on), unfolding(crate::specs::Reading::part_line))]
+#[tactic(auto, using(crate::proofs::Places::placed_on), unfolding(crate::specs::Reading::part_words, crate::specs::Reading::ended))]
 fn part_line(alloc: Global, bytes: &[u8], from: usize) -> Result<(Part, usize), ProofFault>
     requires { from ≤ length bytes.now }
     ensures exact { Gives (λ x. (x.0, cursor_at bytes.now x.1)) proof_fault result
@@ -170,129 +214,29 @@ fn part_line(alloc: Global, bytes: &[u8], from: usize) -> Result<(Part, usize), 
     ensures placed { IfErr result (IsProofFaultWithin (length bytes.now)) }
 {
     let (line, next) = line_at(bytes, from);
-    let words = after_word(from, b"part".as_slice(), Words::of(line))?;
-    let (at, words) = system_at(from, words)?;
+    let words = after_word(from, b"part", Words::of(line))?;
+    let (at, words) = small_number_at(from, words)?;
     let body = certificate_at(alloc, from, words)?;
     let next = need(next, ProofFault::BadLine(from))?;
     Ok((Part { at, body }, next))
 }
 
-/// The words after one that has to come first.
-#[tactic(auto, unfolding(crate::specs::Words::after_word))]
-fn after_word<'a>(place: usize, expected: &[u8], words: Words<'a>) -> Result<Words<'a>, ProofFault>
-    ensures exact { Gives (λ rest. rest) proof_fault result
-        (spec.after_word place expected.now words.entry) }
-    ensures placed { IfErr result (IsProofFaultWithin place) }
+/// The line of a number too wide, and where the next line begins.
+#[tactic(auto, using(crate::proofs::Places::placed_on), unfolding(crate::specs::Reading::wide_words, crate::specs::Reading::ended))]
+fn wide_line(alloc: Global, bytes: &[u8], from: usize) -> Result<(u32, WideText, usize), ProofFault>
+    requires { from ≤ length bytes.now }
+    ensures exact { Gives (λ x. ((x.0, x.1), cursor_at bytes.now x.2)) proof_fault result
+        (reading.wide_line (cursor_at bytes.now from)) }
+    ensures onward { IfOk result (λ x. from < x.2) }
+    ensures within { IfOk result (λ x. x.2 ≤ length bytes.now) }
+    ensures placed { IfErr result (IsProofFaultWithin (length bytes.now)) }
 {
-    match words.next() {
-        Some((word, rest)) if word == expected => Ok(rest),
-        _ => Err(ProofFault::BadLine(place)),
-    }
-}
-
-/// That no word is left.
-fn no_more(place: usize, words: Words<'_>) -> Result<(), ProofFault>
-    ensures exact { Gives (λ _. tt) proof_fault result (spec.no_more place words.entry) }
-    ensures placed { IfErr result (IsProofFaultWithin place) }
-{
-    match words.next() {
-        Some(_) => Err(ProofFault::BadLine(place)),
-        None => Ok(()),
-    }
-}
-
-/// The question that comes first.
-#[tactic(auto, unfolding(crate::specs::Reading::question_at))]
-fn question_at<'a>(
-    table: &Table,
-    place: usize,
-    words: Words<'a>,
-) -> Result<(Question, Words<'a>), ProofFault>
-    ensures exact { Gives (λ x. (x.0, x.1)) proof_fault result
-        (reading.question_at table.now place words.entry) }
-    ensures placed { IfErr result (IsProofFaultWithin place) }
-{
-    match words.next() {
-        Some((form, rest)) if form == b"necessary".as_slice() => necessary_at(table, place, rest),
-        _ => Err(ProofFault::BadLine(place)),
-    }
-}
-
-/// The question of the two alternatives that come first.
-#[tactic(auto, unfolding(crate::specs::Reading::necessary_at))]
-fn necessary_at<'a>(
-    table: &Table,
-    place: usize,
-    words: Words<'a>,
-) -> Result<(Question, Words<'a>), ProofFault>
-    ensures exact { Gives (λ x. (x.0, x.1)) proof_fault result
-        (reading.necessary_at table.now place words.entry) }
-    ensures placed { IfErr result (IsProofFaultWithin place) }
-{
-    let (first, words) = alternative_at(table, place, words)?;
-    let (second, words) = alternative_at(table, place, words)?;
-    Ok((Question::Necessary(first, second), words))
-}
-
-/// The alternative whose id comes first.
-#[tactic(auto, unfolding(crate::specs::Reading::alternative_at))]
-fn alternative_at<'a>(
-    table: &Table,
-    place: usize,
-    words: Words<'a>,
-) -> Result<(usize, Words<'a>), ProofFault>
-    ensures exact { Gives (λ x. (x.0, x.1)) proof_fault result
-        (reading.alternative_at table.now place words.entry) }
-    ensures placed { IfErr result (IsProofFaultWithin place) }
-{
-    match words.next() {
-        Some((id, rest)) => {
-            let alternative = need(find_alternative(table, id), ProofFault::BadLine(place))?;
-            Ok((alternative, rest))
-        }
-        None => Err(ProofFault::BadLine(place)),
-    }
-}
-
-/// The place of an id, if the table has it.
-fn find_alternative(table: &Table, id: &[u8]) -> Option<usize>
-    ensures { result ≡ alternative_named table.now id.now }
-{
-    // A table has alternatives, and the id of each is an id.
-    prove!(table.alternatives() > 0);
-    let id = id_text(id)?;
-    table.find_alternative(id)
-}
-
-/// The verdict that comes first.
-#[tactic(auto, unfolding(crate::specs::Reading::verdict_at))]
-fn verdict_at<'a>(place: usize, words: Words<'a>) -> Result<(ProvedVerdict, Words<'a>), ProofFault>
-    ensures exact { Gives (λ x. (x.0, x.1)) proof_fault result
-        (reading.verdict_at place words.entry) }
-    ensures placed { IfErr result (IsProofFaultWithin place) }
-{
-    match words.next() {
-        Some((b"yes", rest)) => Ok((ProvedVerdict::Yes, rest)),
-        Some((b"no", rest)) => Ok((ProvedVerdict::No, rest)),
-        Some((word, rest)) if word == b"contradiction".as_slice() => Ok((
-            ProvedVerdict::Contradiction,
-            rest,
-        )),
-        _ => Err(ProofFault::BadLine(place)),
-    }
-}
-
-/// The number of a system, which comes first.
-#[tactic(auto, unfolding(crate::specs::Reading::system_at))]
-fn system_at<'a>(place: usize, words: Words<'a>) -> Result<(u32, Words<'a>), ProofFault>
-    ensures exact { Gives (λ x. (x.0, x.1)) proof_fault result
-        (reading.system_at place words.entry) }
-    ensures placed { IfErr result (IsProofFaultWithin place) }
-{
-    match words.next() {
-        Some((word, rest)) => Ok((small_number_in(place, word)?, rest)),
-        None => Err(ProofFault::BadLine(place)),
-    }
+    let (line, next) = line_at(bytes, from);
+    let words = after_word(from, b"wide", Words::of(line))?;
+    let (system, words) = small_number_at(from, words)?;
+    let note = note_at(alloc, from, words)?;
+    let next = need(next, ProofFault::BadLine(from))?;
+    Ok((system, note, next))
 }
 
 /// A certificate, up to the end of its line.
@@ -332,61 +276,74 @@ fn multipliers_at(alloc: Global, place: usize, words: Words<'_>) -> Result<Certi
     Ok(Certificate::Multipliers(Multipliers { weak, strict }))
 }
 
-/// The numbers up to the end of the line.
-fn numbers_at(alloc: Global, place: usize, words: Words<'_>) -> Result<Vec<i128>, ProofFault>
-    ensures exact { Gives (λ numbers. numbers.items) proof_fault result
-        (spec.numbers_at place words.entry) }
+/// A place, `path` and pivots, up to the end of the line.
+#[tactic(auto, unfolding(crate::specs::Reading::note_at))]
+fn note_at(alloc: Global, place: usize, words: Words<'_>) -> Result<WideText, ProofFault>
+    ensures exact { Gives (λ x. x) proof_fault result (reading.note_at place words.entry) }
     ensures placed { IfErr result (IsProofFaultWithin place) }
 {
-    let mut numbers = Vec::new(alloc);
-    let mut left = words;
-    'numbers: while let Some((word, rest)) = left.next() {
-        let number = number_in(place, word)?;
-        numbers.push(number)?;
-        left = rest;
-    }
-    Ok(numbers)
+    let (number, words) = place_at(place, words)?;
+    let words = after_word(place, b"path", words)?;
+    let path = Items::from(pivots_at(alloc, place, words)?);
+    Ok(WideText {
+        path,
+        place: number,
+    })
 }
 
-/// The numbers before a bar, and the words after it.
-fn numbers_before_bar<'a>(
-    alloc: Global,
+/// The place of a number, which comes first.
+#[tactic(auto, unfolding(crate::specs::Reading::place_at))]
+fn place_at<'a>(place: usize, words: Words<'a>) -> Result<(PlaceText, Words<'a>), ProofFault>
+    ensures exact { Gives (λ x. (x.0, x.1)) proof_fault result
+        (reading.place_at place words.entry) }
+    ensures placed { IfErr result (IsProofFaultWithin place) }
+{
+    let (name, words) = name_at(&PLACE_NAMES, place, words)?;
+    numbered_at(place, name, words)
+}
+
+/// The number's place of this name, whose word is before these words.
+fn numbered_at<'a>(
     place: usize,
+    name: PlaceName,
     words: Words<'a>,
-) -> Result<(Vec<i128>, Words<'a>), ProofFault>
-    ensures exact { Gives (λ x. (x.0.items, x.1)) proof_fault result
-        (spec.numbers_before_bar place words.entry) }
+) -> Result<(PlaceText, Words<'a>), ProofFault>
+    ensures exact { Gives (λ x. (x.0, x.1)) proof_fault result
+        (reading.numbered_at place name words.entry) }
     ensures placed { IfErr result (IsProofFaultWithin place) }
 {
-    let mut numbers = Vec::new(alloc);
-    let mut left = words;
-    'numbers: while let Some((word, rest)) = left.next() {
-        if word == b"|".as_slice() {
-            return Ok((numbers, rest));
+    match name {
+        PlaceName::Start => {
+            let (row, column, words) = entry_at(place, words)?;
+            Ok((PlaceText::Start(row, column), words))
         }
-        let number = number_in(place, word)?;
-        numbers.push(number)?;
-        left = rest;
+        PlaceName::Step => {
+            let (row, column, words) = entry_at(place, words)?;
+            Ok((PlaceText::Step(row, column), words))
+        }
+        PlaceName::Denominator => {
+            let (row, words) = small_number_at(place, words)?;
+            Ok((PlaceText::Denominator(row), words))
+        }
+        PlaceName::RowSum => {
+            let (row, words) = small_number_at(place, words)?;
+            Ok((PlaceText::RowSum(row), words))
+        }
+        PlaceName::ColumnSum => {
+            let (column, words) = small_number_at(place, words)?;
+            Ok((PlaceText::ColumnSum(column), words))
+        }
     }
-    Err(ProofFault::BadLine(place))
 }
 
-/// The number that a word says.
-fn number_in(place: usize, word: &[u8]) -> Result<i128, ProofFault>
-    ensures exact { Gives (λ number. number) proof_fault result
-        (spec.number_in number_of place word.now) }
+/// A row and a column.
+#[tactic(auto, unfolding(crate::specs::Reading::entry_at))]
+fn entry_at<'a>(place: usize, words: Words<'a>) -> Result<(u32, u32, Words<'a>), ProofFault>
+    ensures exact { Gives (λ x. ((x.0, x.1), x.2)) proof_fault result
+        (reading.entry_at place words.entry) }
     ensures placed { IfErr result (IsProofFaultWithin place) }
 {
-    refuse_if(word.is_empty(), ProofFault::BadLine(place))?;
-    need(read_number(word), ProofFault::BadNumber(place))
-}
-
-/// The small number that a word says.
-fn small_number_in(place: usize, word: &[u8]) -> Result<u32, ProofFault>
-    ensures exact { Gives (λ number. number) proof_fault result
-        (spec.number_in small_number_of place word.now) }
-    ensures placed { IfErr result (IsProofFaultWithin place) }
-{
-    refuse_if(word.is_empty(), ProofFault::BadLine(place))?;
-    need(read_small_number(word), ProofFault::BadNumber(place))
+    let (row, words) = small_number_at(place, words)?;
+    let (column, words) = small_number_at(place, words)?;
+    Ok((row, column, words))
 }

@@ -1,108 +1,150 @@
 -- Rows of comparisons pushed one after another: their order, widths and number.
-use Rattle.std.proofs.Common.{◌≡◌, ℕ, zero, suc, ◌+◌, ◌<◌, ◌≤◌, List, [], ◌∷◌, ◌++◌, length, get_or, map, take, ℤ, refl, ap, sym, subst, ◌∙◌, arith, length-append, append_assoc}
-use Rattle.std.specs.List.{AllByRecursion}
-use Rattle.std.proofs.lemmas.List.{append-nil, take_more, map-append}
+use Rattle.std.proofs.Common.{◌≡◌, ℕ, ◌+◌, ◌≤◌, List, [], ◌∷◌, ◌++◌, length, map, ℤ, Option, Some, None, option_to_list, refl, ap, sym, subst, ◌∙◌, arith, length-append, append_assoc, true, false}
+use Rattle.std.specs.Prelude.{nat_lt, if◌then◌else◌}
+use Rattle.std.specs.List.{AllByRecursion, flat_map}
 use Rattle.std.proofs.lemmas.List.Concat.{flat_map-append}
 use Rattle.ror_integers.specs.Vectors.{ones}
 use Rattle.ror_integers.proofs.Dots.{length-ones}
-use Rattle.ror_statement.specs.Statement.{Relation, above, at_least, Comparison}
+use Rattle.ror_text.proofs.Everywhere.{all-append, all-pieces, all-by, all-map}
+use Rattle.ror_statement.specs.declared.comparison.Form.{Form}
+use Rattle.ror_statement.specs.declared.comparison.Form.TheVariants.{Value, Strength}
+use Rattle.ror_statement.specs.declared.comparison.Relation.{Relation}
+use Rattle.ror_statement.specs.declared.comparison.Relation.TheVariants.{Above, AtLeast, Equal}
+use Rattle.ror_statement.specs.declared.comparison.Comparison.{Comparison}
+use Rattle.ror_statement.specs.declared.statement.Assignment.{Assignment}
+use Rattle.ror_statement.specs.declared.statement.Statement.{Statement}
+use Rattle.ror_statement.specs.Statements.{comparison_of, assignment_of, comparisons_of, outranking, outranking_by, class_comparisons}
+use Rattle.ror_statement.specs.Names.{IsComparedWithin, IsAssignedWithin}
+use Rattle.std.specs.Prelude.{Bool}
+use Rattle.std.proofs.lemmas.List.Sums.{sum_by-append}
+use Rattle.ror_statement.specs.RowNumbers.{rows_of, rows_number}
 use Rattle.ror_table.specs.Table.{DecisionTable, columns}
-use Rattle.ror_rows.specs.Rows.{weak_rows_for, strict_rows_for, weak_rows, strict_rows}
+use Rattle.ror_value.specs.Over.{IsNamedIn, IsValidIn, IsLawfulIn}
+use Rattle.ror_rows.specs.declared.extra.Extra.{Extra}
+use Rattle.ror_rows.specs.Rows.{turned, weak_rows_for, strict_rows_for, weak_rows, strict_rows, comparison_of_extra}
 use Rattle.ror_rows.specs.Laws.{AreNamed}
-use Rattle.ror_rows.proofs.Entries.{length-difference_row}
-use Rattle.ror_rows.proofs.Holding.{all-append}
+use Rattle.ror_rows.proofs.Entries.{length-form_row}
 
--- what holds of each element holds of the one at a place
-pub all-at : {X : Type 0} (P : X → Type 0) (xs : List X) (k : ℕ) (x : X) → AllByRecursion P xs → k < length xs → x ≡ get_or xs k x → P x
-all-at P [] k x h l e = absurd (omega arith)
-all-at P (y ∷ ys) zero x h l e = subst P (sym e) h.0
-all-at P (y ∷ ys) (suc k) x h l e = all-at P ys k x h.1 (omega arith) e
+pub weak_rows-append : (t : DecisionTable) (cs ds : List Comparison) → weak_rows t (cs ++ ds) ≡ weak_rows t cs ++ weak_rows t ds
+weak_rows-append t cs ds = flat_map-append (λ (c : Comparison). weak_rows_for t c.relation c.form) cs ds
 
-map-take_more : {X Y : Type 0} (f : X → Y) (xs : List X) (k : ℕ) (x : X) → k < length xs → x ≡ get_or xs k x → map f (take (k + 1) xs) ≡ map f (take k xs) ++ (f x ∷ [])
-map-take_more f xs k x l e = ap (map f) (take_more xs k x l ∙ ap (λ y. take k xs ++ (y ∷ [])) (sym e)) ∙ map-append f (take k xs) (x ∷ [])
+pub strict_rows-append : (t : DecisionTable) (cs ds : List Comparison) → strict_rows t (cs ++ ds) ≡ strict_rows t cs ++ strict_rows t ds
+strict_rows-append t cs ds = flat_map-append (λ (c : Comparison). strict_rows_for t c.relation c.form) cs ds
 
--- the rows are those before and then those of the first k comparisons
-pub record HasPushed (t : DecisionTable) (cs : List Comparison) (weak strict weak_so_far strict_so_far : List (List ℤ)) : Type 0 where
-  pub weak_pushed : weak_so_far ≡ weak ++ weak_rows t cs
-  pub strict_pushed : strict_so_far ≡ strict ++ strict_rows t cs
+-- ---- names
+pub turned-named : (t : DecisionTable) (form : Form) → IsNamedIn t form → IsNamedIn t (turned form)
+turned-named t (Value a b) named = (named.1, named.0)
+turned-named t (Strength p q s) named = (named.1, named.0, named.2)
 
-pub pushed_none : {X : Type 0} (t : DecisionTable) (f : X → Comparison) (xs : List X) (weak strict : List (List ℤ)) → HasPushed t (map f (take 0 xs)) weak strict weak strict
-pushed_none t f xs weak strict = record { weak_pushed = sym (append-nil weak); strict_pushed = sym (append-nil strict) }
+own_named : (t : DecisionTable) (m : Option Comparison) → IsComparedWithin (length t.alternatives) (length t.criteria) m → AreNamed t (option_to_list m)
+own_named t None within = tt
+own_named t (Some c) within = (within, tt)
 
-pub pushed_more : {X : Type 0} (t : DecisionTable) (f : X → Comparison) (xs : List X) (k : ℕ) (x : X) (weak strict weak_so_far strict_so_far weak_after strict_after : List (List ℤ))
-    → HasPushed t (map f (take k xs)) weak strict weak_so_far strict_so_far → k < length xs → x ≡ get_or xs k x
-    → weak_after ≡ weak_so_far ++ weak_rows t (f x ∷ []) → strict_after ≡ strict_so_far ++ strict_rows t (f x ∷ [])
-    → HasPushed t (map f (take (k + 1) xs)) weak strict weak_after strict_after
-pushed_more t f xs k x weak strict weak_so_far strict_so_far weak_after strict_after h l e p q = record {
-  weak_pushed = p ∙ ap (λ (rows : List (List ℤ)). rows ++ weak_rows t (f x ∷ [])) h.weak_pushed ∙ append_assoc weak (weak_rows t (map f (take k xs))) (weak_rows t (f x ∷ []))
-      ∙ ap (λ (rows : List (List ℤ)). weak ++ rows) (sym (ap (weak_rows t) next ∙ flat_map-append (λ (c : Comparison). weak_rows_for t c.relation c.difference) (map f (take k xs)) (f x ∷ [])));
-  strict_pushed = q ∙ ap (λ (rows : List (List ℤ)). rows ++ strict_rows t (f x ∷ [])) h.strict_pushed ∙ append_assoc strict (strict_rows t (map f (take k xs))) (strict_rows t (f x ∷ []))
-      ∙ ap (λ (rows : List (List ℤ)). strict ++ rows) (sym (ap (strict_rows t) next ∙ flat_map-append (λ (c : Comparison). strict_rows_for t c.relation c.difference) (map f (take k xs)) (f x ∷ [])));
-}
+outranking_named : (t : DecisionTable) (m n : Option Assignment) → IsAssignedWithin (length t.alternatives) t.classes m → IsAssignedWithin (length t.alternatives) t.classes n → AreNamed t (outranking_by m n)
+outranking_named t None n first second = tt
+outranking_named t (Some x) None first second = tt
+outranking_named t (Some x) (Some y) first second = by_test (nat_lt y.highest x.lowest) refl
   where
-    next : map f (take (k + 1) xs) ≡ map f (take k xs) ++ (f x ∷ [])
-    next = map-take_more f xs k x l e
+    by_test : (b : _) → nat_lt y.highest x.lowest ≡ b → AreNamed t (outranking_by (Some x) (Some y))
+    by_test true is = rw is ((first.alternative, second.alternative), tt)
+    by_test false is = rw is tt
 
-take-all : {X : Type 0} (k : ℕ) (xs : List X) → length xs ≤ k → take k xs ≡ xs
-take-all zero [] l = refl
-take-all (suc k) [] l = refl
-take-all zero (x ∷ xs) l = absurd (omega arith)
-take-all (suc k) (x ∷ xs) l = ap (λ ys. x ∷ ys) (take-all k xs (omega arith))
+-- all that valid statements say names what the table has
+pub comparisons_named : (t : DecisionTable) (list : List Statement) → AllByRecursion (IsValidIn t) list → AreNamed t (comparisons_of list)
+comparisons_named t list valid =
+    let P : Comparison → Type 0 = λ c. IsNamedIn t c.form in
+    all-append P (flat_map (λ s. option_to_list (comparison_of s)) list) (class_comparisons list)
+    (all-pieces P (λ s. option_to_list (comparison_of s)) list (all-by (IsValidIn t) (λ s. AreNamed t (option_to_list (comparison_of s))) list (λ s is. own_named t (comparison_of s) is.compared) valid))
+    (all-pieces P (λ r. flat_map (outranking r) list) list (all-by (IsValidIn t) (λ r. AreNamed t (flat_map (outranking r) list)) list (λ r first. all-pieces P (outranking r) list (all-by (IsValidIn t) (λ s. AreNamed t (outranking r s)) list (λ s second. outranking_named t (assignment_of r) (assignment_of s) first.assigned second.assigned) valid)) valid))
 
-pub pushed_all : {X : Type 0} (t : DecisionTable) (f : X → Comparison) (xs : List X) (k : ℕ) (weak strict weak_so_far strict_so_far : List (List ℤ))
-    → HasPushed t (map f (take k xs)) weak strict weak_so_far strict_so_far → length xs ≤ k → HasPushed t (map f xs) weak strict weak_so_far strict_so_far
-pushed_all t f xs k weak strict weak_so_far strict_so_far h l = subst (λ ys. HasPushed t (map f ys) weak strict weak_so_far strict_so_far) (take-all k xs l) h
+pub extras_named : (t : DecisionTable) (extra : List Extra) → AllByRecursion (λ e. IsNamedIn t e.form) extra → AreNamed t (map comparison_of_extra extra)
+extras_named t extra named = (all-map (λ c. IsNamedIn t c.form) comparison_of_extra extra).0 named
 
 -- ---- widths and numbers
 abbrev pub AreWide : ℕ → List (List ℤ) → Type 0
 AreWide n rows = AllByRecursion (λ row. length row ≡ n) rows
 
+weak_width : (t : DecisionTable) (r : Relation) (form : Form) → IsNamedIn t form → AreWide (columns t) (weak_rows_for t r form)
+weak_width t Above form named = tt
+weak_width t AtLeast form named = (length-form_row t form named, tt)
+weak_width t Equal form named = (length-form_row t form named, (length-form_row t (turned form) (turned-named t form named), tt))
+
+strict_width : (t : DecisionTable) (r : Relation) (form : Form) → IsNamedIn t form → AreWide (columns t) (strict_rows_for t r form)
+strict_width t Above form named = (length-form_row t form named, tt)
+strict_width t AtLeast form named = tt
+strict_width t Equal form named = tt
+
 pub weak_rows_width : (t : DecisionTable) (cs : List Comparison) → AreNamed t cs → AreWide (columns t) (weak_rows t cs)
-weak_rows_width t [] named = tt
-weak_rows_width t (c ∷ cs) named = all-append (λ row. length row ≡ columns t) (weak_rows_for t c.relation c.difference) (weak_rows t cs) (one c.relation) (weak_rows_width t cs named.1)
-  where
-    one : (r : Relation) → AreWide (columns t) (weak_rows_for t r c.difference)
-    one above = tt
-    one at_least = (length-difference_row t c.difference named.0, tt)
+weak_rows_width t cs named =
+    all-pieces (λ row. length row ≡ columns t) (λ c. weak_rows_for t c.relation c.form) cs (all-by (λ c. IsNamedIn t c.form) (λ c. AreWide (columns t) (weak_rows_for t c.relation c.form)) cs (λ c is. weak_width t c.relation c.form is) named)
 
 pub strict_rows_width : (t : DecisionTable) (cs : List Comparison) → AreNamed t cs → AreWide (columns t) (strict_rows t cs)
-strict_rows_width t [] named = tt
-strict_rows_width t (c ∷ cs) named = all-append (λ row. length row ≡ columns t) (strict_rows_for t c.relation c.difference) (strict_rows t cs) (one c.relation) (strict_rows_width t cs named.1)
-  where
-    one : (r : Relation) → AreWide (columns t) (strict_rows_for t r c.difference)
-    one above = (length-difference_row t c.difference named.0, tt)
-    one at_least = tt
+strict_rows_width t cs named =
+    all-pieces (λ row. length row ≡ columns t) (λ c. strict_rows_for t c.relation c.form) cs (all-by (λ c. IsNamedIn t c.form) (λ c. AreWide (columns t) (strict_rows_for t c.relation c.form)) cs (λ c is. strict_width t c.relation c.form is) named)
 
-pub rows_number : (t : DecisionTable) (cs : List Comparison) → length (weak_rows t cs) + length (strict_rows t cs) ≡ length cs
-rows_number t [] = refl
-rows_number t (c ∷ cs) =
-    let rest = rows_number t cs in
-    let here = one c.relation in
-    omega (arith, length-append (weak_rows_for t c.relation c.difference) (weak_rows t cs), length-append (strict_rows_for t c.relation c.difference) (strict_rows t cs))
+rows_number-cons : (c : Comparison) (cs : List Comparison) → rows_number (c ∷ cs) ≡ rows_number (c ∷ []) + rows_number cs
+rows_number-cons c cs = sum_by-append (λ (d : Comparison). rows_of d.relation) (c ∷ []) cs
+
+one_number : (t : DecisionTable) (c : Comparison) → length (weak_rows_for t c.relation c.form) + length (strict_rows_for t c.relation c.form) ≡ rows_number (c ∷ [])
+one_number t c = by_relation c.relation refl
   where
-    one : (r : Relation) → length (weak_rows_for t r c.difference) + length (strict_rows_for t r c.difference) ≡ 1
-    one above = refl
-    one at_least = refl
+    by_relation : (r : Relation) → c.relation ≡ r → length (weak_rows_for t c.relation c.form) + length (strict_rows_for t c.relation c.form) ≡ rows_number (c ∷ [])
+    by_relation Above is = rw is refl
+    by_relation AtLeast is = rw is refl
+    by_relation Equal is = rw is refl
+
+pub number_of_rows : (t : DecisionTable) (cs : List Comparison) → length (weak_rows t cs) + length (strict_rows t cs) ≡ rows_number cs
+number_of_rows t [] = refl
+number_of_rows t (c ∷ cs) =
+    let rest = number_of_rows t cs in
+    let here = one_number t c in
+    let both = rows_number-cons c cs in
+    omega (arith, both, length-append (weak_rows_for t c.relation c.form) (weak_rows t cs), length-append (strict_rows_for t c.relation c.form) (strict_rows t cs), rest, here)
+
+one_extra : (strict : Bool) (form : Form) → rows_number (comparison_of_extra (record { form = form; strict = strict }) ∷ []) ≡ 1
+one_extra true form = refl
+one_extra false form = refl
+
+extras_number : (extra : List Extra) → rows_number (map comparison_of_extra extra) ≡ length extra
+extras_number [] = refl
+extras_number (e ∷ es) =
+    let rest = extras_number es in
+    let here = one_extra e.strict e.form in
+    let both = rows_number-cons (comparison_of_extra e) (map comparison_of_extra es) in
+    omega (arith, rest, here, both)
 
 -- ---- a whole system
-pub system_weak_width : (t : DecisionTable) (cs extra : List Comparison) (n : ℕ) (rows : List (List ℤ)) → n ≡ columns t → AreNamed t cs → AreNamed t extra
-    → rows ≡ weak_rows t cs ++ weak_rows t extra → AreWide n rows
-system_weak_width t cs extra n rows e h k is =
-    subst (AreWide n) (sym is) (subst (λ m. AreWide m (weak_rows t cs ++ weak_rows t extra)) (sym e)
-    (all-append (λ row. length row ≡ columns t) (weak_rows t cs) (weak_rows t extra) (weak_rows_width t cs h) (weak_rows_width t extra k)))
+-- the rows of what each part says, one part after another
+pub parts_pushed : (t : DecisionTable) (own class extra : List Comparison) (w0 w1 w2 w3 s0 s1 s2 s3 : List (List ℤ)) → w0 ≡ [] → s0 ≡ ones (columns t) ∷ []
+    → w1 ≡ w0 ++ weak_rows t own → s1 ≡ s0 ++ strict_rows t own → w2 ≡ w1 ++ weak_rows t class → s2 ≡ s1 ++ strict_rows t class → w3 ≡ w2 ++ weak_rows t extra → s3 ≡ s2 ++ strict_rows t extra
+    → (w3 ≡ weak_rows t (own ++ class) ++ weak_rows t extra) × (s3 ≡ ones (columns t) ∷ (strict_rows t (own ++ class) ++ strict_rows t extra))
+parts_pushed t own class extra w0 w1 w2 w3 s0 s1 s2 s3 we se w1e s1e w2e s2e w3e s3e =
+    let weak : w2 ≡ weak_rows t (own ++ class) = w2e ∙ ap (λ (xs : List (List ℤ)). xs ++ weak_rows t class) (w1e ∙ ap (λ (xs : List (List ℤ)). xs ++ weak_rows t own) we) ∙ sym (weak_rows-append t own class) in
+    let strict : s2 ≡ ones (columns t) ∷ strict_rows t (own ++ class) = s2e ∙ ap (λ (xs : List (List ℤ)). xs ++ strict_rows t class) (s1e ∙ ap (λ (xs : List (List ℤ)). xs ++ strict_rows t own) se) ∙ ap (λ (xs : List (List ℤ)). ones (columns t) ∷ xs) (sym (strict_rows-append t own class)) in
+    (w3e ∙ ap (λ (xs : List (List ℤ)). xs ++ weak_rows t extra) weak, s3e ∙ ap (λ (xs : List (List ℤ)). xs ++ strict_rows t extra) strict)
 
-pub system_strict_width : (t : DecisionTable) (cs extra : List Comparison) (n : ℕ) (rows : List (List ℤ)) → n ≡ columns t → AreNamed t cs → AreNamed t extra
-    → rows ≡ ones (columns t) ∷ (strict_rows t cs ++ strict_rows t extra) → AreWide n rows
-system_strict_width t cs extra n rows e h k is =
-    subst (AreWide n) (sym is) (subst (λ m. AreWide m (ones (columns t) ∷ (strict_rows t cs ++ strict_rows t extra))) (sym e)
-    (length-ones (columns t), all-append (λ row. length row ≡ columns t) (strict_rows t cs) (strict_rows t extra) (strict_rows_width t cs h) (strict_rows_width t extra k)))
+pub parts_weak_width : (t : DecisionTable) (list : List Statement) (extra : List Comparison) (n : ℕ) (rows : List (List ℤ)) → n ≡ columns t → AllByRecursion (IsValidIn t) list → AreNamed t extra
+    → rows ≡ weak_rows t (comparisons_of list) ++ weak_rows t extra → AreWide n rows
+parts_weak_width t list extra n rows e valid named is =
+    subst (AreWide n) (sym is) (subst (λ m. AreWide m (weak_rows t (comparisons_of list) ++ weak_rows t extra)) (sym e)
+    (all-append (λ row. length row ≡ columns t) (weak_rows t (comparisons_of list)) (weak_rows t extra) (weak_rows_width t (comparisons_of list) (comparisons_named t list valid)) (weak_rows_width t extra named)))
 
--- one row for each comparison, and the row of ones
-pub system_rows_number : (t : DecisionTable) (cs extra : List Comparison) (weak strict : List (List ℤ)) → weak ≡ weak_rows t cs ++ weak_rows t extra → strict ≡ ones (columns t) ∷ (strict_rows t cs ++ strict_rows t extra)
-    → length weak + length strict ≡ 1 + length cs + length extra
-system_rows_number t cs extra weak strict p q =
-    let first = rows_number t cs in
-    let second = rows_number t extra in
+pub parts_strict_width : (t : DecisionTable) (list : List Statement) (extra : List Comparison) (n : ℕ) (rows : List (List ℤ)) → n ≡ columns t → AllByRecursion (IsValidIn t) list → AreNamed t extra
+    → rows ≡ ones (columns t) ∷ (strict_rows t (comparisons_of list) ++ strict_rows t extra) → AreWide n rows
+parts_strict_width t list extra n rows e valid named is =
+    subst (AreWide n) (sym is) (subst (λ m. AreWide m (ones (columns t) ∷ (strict_rows t (comparisons_of list) ++ strict_rows t extra))) (sym e)
+    (length-ones (columns t), all-append (λ row. length row ≡ columns t) (strict_rows t (comparisons_of list)) (strict_rows t extra) (strict_rows_width t (comparisons_of list) (comparisons_named t list valid)) (strict_rows_width t extra named)))
+
+pub parts_number : (t : DecisionTable) (list : List Statement) (extra : List Extra) (weak strict : List (List ℤ)) → IsLawfulIn t list → length extra ≤ 200
+    → weak ≡ weak_rows t (comparisons_of list) ++ weak_rows t (map comparison_of_extra extra) → strict ≡ ones (columns t) ∷ (strict_rows t (comparisons_of list) ++ strict_rows t (map comparison_of_extra extra))
+    → length weak + length strict ≤ 2200
+parts_number t list extra weak strict lawful few p q =
+    let cs = comparisons_of list in
+    let es = map comparison_of_extra extra in
+    let first = number_of_rows t cs in
+    let second = number_of_rows t es in
+    let third = extras_number extra in
     let w = ap length p in
     let s = ap length q in
-    omega (arith, length-append (weak_rows t cs) (weak_rows t extra), length-append (strict_rows t cs) (strict_rows t extra))
+    let most = lawful.rows in
+    omega (arith, length-append (weak_rows t cs) (weak_rows t es), length-append (strict_rows t cs) (strict_rows t es), first, second, third, w, s, most, few)

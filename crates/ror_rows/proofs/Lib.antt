@@ -1,5 +1,6 @@
 pub mod Building
+pub mod ClassConditions
 pub mod Deciding
-pub mod DifferenceLemmas
 pub mod Entries
+pub mod FormLemmas
 pub mod Holding

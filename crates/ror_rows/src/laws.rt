@@ -2,14 +2,15 @@
 
 ghost use Rattle.ror_rows.specs.Laws.{RowsHold, SystemsDecide, ValueRowEntries};
 
-/// A list of whole numbers solves the system of a list of statements exactly where it is a value function that is
+/// A list of whole numbers solves the system of a lawful list of statements exactly where it is a value function that is
 /// compatible with the list, and the system with extra rows exactly where it meets the extra comparisons besides.
 pub fn rows_hold()
     ensures { RowsHold }
 {}
 
-/// A list of statements is consistent exactly where its system has a solution. Over a consistent list, a question on
-/// every compatible function is answered Yes exactly where none of its systems has a solution.
+/// A lawful list of statements is consistent exactly where its system has a solution. Over a consistent list, a valid
+/// question on every compatible function is answered Yes exactly where none of its systems has a solution, and one on some
+/// compatible function exactly where its one system has; whether the list is consistent asks no system more.
 pub fn systems_decide()
     ensures { SystemsDecide }
 {}

@@ -4,9 +4,12 @@
 mod differences;
 mod extra;
 pub mod laws;
+mod questions;
 mod rows;
 #[cfg(test)]
 mod tests;
 
-pub use extra::{Extra, Extras, Form};
-pub use rows::{question_systems, system_of};
+pub use extra::{Extra, Extras};
+pub use questions::question_systems;
+pub use ror_statement::{Form, QuestionKind, kind_of};
+pub use rows::system_of;

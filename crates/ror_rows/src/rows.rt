@@ -1,74 +1,41 @@
-//! The systems of statements and questions, row by row.
+//! The systems of statements and questions.
 
-ghost use Rattle.std.specs.Prelude.{◌≡◌, ◌≤◌, ◌<◌, ◌++◌, [], ◌∷◌, length, map, IfOk, OnOk};
-ghost use Rattle.std.specs.List.{AllByRecursion};
+ghost use Rattle.std.specs.Prelude.{◌≡◌, ◌≤◌, ◌++◌, [], ◌∷◌, length, map, option_to_list, IfOk, OnOk};
+ghost use Rattle.std.specs.List.{AllByRecursion, flat_map};
 ghost use Rattle.ror_integers.specs.Vectors.{ones};
-ghost use Rattle.ror_statement.specs.Statement.{IsLawful, IsValid, IsValidQuestion, NamesWithin, comparison_of};
+ghost use Rattle.ror_statement.specs.Statements.{comparison_by, comparison_of, outranking, class_comparisons};
 ghost use Rattle.ror_table.specs.Table.{columns};
-ghost use Rattle.ror_rows.specs.Rows.{system_for, systems_of_question, comparison_of_extra, extras_of, weak_rows, strict_rows};
+ghost use Rattle.ror_value.specs.Over.{IsNamedIn, IsValidIn, IsLawfulIn};
+ghost use Rattle.ror_rows.specs.Rows.{system_for, comparison_of_extra, weak_rows, strict_rows};
 
-use crate::differences::form_row;
-use crate::extra::{Extra, Extras, Form};
-use ror_statement::{Question, Statement};
+use crate::differences::row_of_form;
+use crate::extra::{Extra, turned};
+use ror_statement::{Form, Relation, Statement};
 use ror_system::{Row, System};
 use ror_table::Table;
-use smallvec::SmallVec;
 use std::alloc::{AllocError, Global};
 
-/// The system of the statements and of the extra rows: in each part the statements' rows in order, then the extra
-/// ones; the first strict row, all ones, says that the total is positive.
+/// The system of the statements and of the extra rows: in each part the rows of all that the statements say, in order,
+/// then the extra ones; the first strict row, all ones, says that the total is positive.
+///
+/// It asks a lawful list and at most 200 extra rows, each with names of the table.
 pub fn system_of(
     alloc: Global,
     table: &Table,
     list: &[Statement],
     extra: &[Extra],
 ) -> Result<System, AllocError>
-    requires lawful { IsLawful (length table.now.alternatives) list.now }
+    requires lawful { IsLawfulIn table.now list.now }
     requires few { length extra.now ≤ 200 }
-    requires named { AllByRecursion (λ e. NamesWithin (length table.now.alternatives)
-        (comparison_of_extra e).difference) extra.now }
+    requires named { AllByRecursion (λ e. IsNamedIn table.now e.form) extra.now }
     ensures { IfOk result (λ s. s ≡ system_for table.now list.now
         (map comparison_of_extra extra.now)) }
 {
-    let rows = Rows::of(alloc, table, list, extra)?;
+    let mut rows = Rows::new(alloc, table.columns())?;
+    rows.push_statements(alloc, table, list)?;
+    rows.push_classes(alloc, table, list)?;
+    rows.push_extras(alloc, table, extra)?;
     Ok(System::new(table.columns(), rows.weak, rows.strict))
-}
-
-/// The extra rows of each system of the question.
-pub fn question_systems(
-    alloc: Global,
-    table: &Table,
-    list: &[Statement],
-    q: &Question,
-) -> Result<Vec<Extras>, AllocError>
-    requires lawful { IsLawful (length table.now.alternatives) list.now }
-    requires named { IsValidQuestion (length table.now.alternatives) q.now }
-    ensures { IfOk result (λ systems. map extras_of systems.items ≡ systems_of_question q.now) }
-{
-    match *q {
-        Question::Necessary(a, b) => one_system(alloc, Extra::above(Form::Value(b, a))),
-    }
-}
-
-/// One system with one extra row.
-fn one_system(alloc: Global, extra: Extra) -> Result<Vec<Extras>, AllocError>
-    ensures { IfOk result (λ systems. map extras_of systems.items
-        ≡ (comparison_of_extra extra ∷ []) ∷ []) }
-{
-    let mut extras = SmallVec::new(alloc);
-    extras.push(extra)?;
-    let mut systems = Vec::new(alloc);
-    systems.push(extras)?;
-    Ok(systems)
-}
-
-/// What a statement says, as a row.
-fn stated(statement: Statement) -> Extra
-    ensures { comparison_of_extra result ≡ comparison_of statement }
-{
-    match statement {
-        Statement::Prefer(a, b) => Extra::above(Form::Value(a, b)),
-    }
 }
 
 /// The rows of a system that is being made.
@@ -79,29 +46,6 @@ struct Rows {
 }
 
 impl Rows {
-    /// The row that says that the total is positive, then the rows of the statements, then the extra ones.
-    fn of(
-        alloc: Global,
-        table: &Table,
-        list: &[Statement],
-        extra: &[Extra],
-    ) -> Result<Rows, AllocError>
-        requires statements { AllByRecursion (IsValid (length table.now.alternatives)) list.now }
-        requires extras { AllByRecursion (λ e. NamesWithin (length table.now.alternatives)
-            (comparison_of_extra e).difference) extra.now }
-        ensures weak { IfOk result (λ rows. rows.weak.items
-            ≡ weak_rows table.now (map comparison_of list.now)
-            ++ weak_rows table.now (map comparison_of_extra extra.now)) }
-        ensures strict { IfOk result (λ rows. rows.strict.items
-            ≡ ones (columns table.now) ∷ (strict_rows table.now (map comparison_of list.now)
-            ++ strict_rows table.now (map comparison_of_extra extra.now))) }
-    {
-        let mut rows = Rows::new(alloc, table.columns())?;
-        rows.push_statements(alloc, table, list)?;
-        rows.push_extras(alloc, table, extra)?;
-        Ok(rows)
-    }
-
     /// The row that says that the total is positive, alone.
     fn new(alloc: Global, columns: usize) -> Result<Rows, AllocError>
         ensures weak { IfOk result (λ rows. rows.weak.items ≡ []) }
@@ -116,41 +60,113 @@ impl Rows {
         })
     }
 
-    /// Pushes the row of a comparison to the weak rows or to the strict ones.
-    fn push(&mut self, alloc: Global, table: &Table, extra: Extra) -> Result<(), AllocError>
-        requires { NamesWithin (length table.now.alternatives)
-            (comparison_of_extra extra).difference }
+    /// Pushes the rows of a comparison.
+    fn push(
+        &mut self,
+        alloc: Global,
+        table: &Table,
+        relation: Relation,
+        form: Form,
+    ) -> Result<(), AllocError>
+        requires { IsNamedIn table.now form }
         ensures weak { OnOk result (self.new.weak.items
-            ≡ self.old.weak.items ++ weak_rows table.now (comparison_of_extra extra ∷ [])) }
+            ≡ self.old.weak.items ++ weak_rows table.now (comparison_by relation form ∷ [])) }
         ensures strict { OnOk result (self.new.strict.items
-            ≡ self.old.strict.items ++ strict_rows table.now (comparison_of_extra extra ∷ [])) }
+            ≡ self.old.strict.items ++ strict_rows table.now (comparison_by relation form ∷ [])) }
     {
-        let row = form_row(alloc, table, extra.form)?;
-        if extra.strict {
-            self.strict.push(row)?;
-        } else {
-            self.weak.push(row)?;
+        let row = row_of_form(alloc, table, form)?;
+        match relation {
+            Relation::Above => self.strict.push(row)?,
+            Relation::AtLeast => self.weak.push(row)?,
+            Relation::Equal => {
+                self.weak.push(row)?;
+                self.weak.push(row_of_form(alloc, table, turned(form))?)?;
+            }
         }
         Ok(())
     }
 
-    /// Pushes the rows of the statements, in order.
+    /// Pushes the rows of the comparisons of the statements, in order.
     fn push_statements(
         &mut self,
         alloc: Global,
         table: &Table,
         list: &[Statement],
     ) -> Result<(), AllocError>
-        requires { AllByRecursion (IsValid (length table.now.alternatives)) list.now }
-        ensures weak { OnOk result (self.new.weak.items
-            ≡ self.old.weak.items ++ weak_rows table.now (map comparison_of list.now)) }
-        ensures strict { OnOk result (self.new.strict.items
-            ≡ self.old.strict.items ++ strict_rows table.now (map comparison_of list.now)) }
+        requires { AllByRecursion (IsValidIn table.now) list.now }
+        ensures weak { OnOk result (self.new.weak.items ≡ self.old.weak.items
+            ++ weak_rows table.now (flat_map (λ s. option_to_list (comparison_of s)) list.now)) }
+        ensures strict { OnOk result (self.new.strict.items ≡ self.old.strict.items
+            ++ strict_rows table.now (flat_map (λ s. option_to_list (comparison_of s)) list.now)) }
     {
         for statement in list {
-            self.push(alloc, table, stated(*statement))?;
+            if let Some(comparison) = statement.comparison() {
+                self.push(alloc, table, comparison.relation, comparison.form)?;
+            }
         }
         Ok(())
+    }
+
+    /// Pushes the rows of each two class statements of which the first outranks the second.
+    fn push_classes(
+        &mut self,
+        alloc: Global,
+        table: &Table,
+        list: &[Statement],
+    ) -> Result<(), AllocError>
+        requires { AllByRecursion (IsValidIn table.now) list.now }
+        ensures weak { OnOk result (self.new.weak.items
+            ≡ self.old.weak.items ++ weak_rows table.now (class_comparisons list.now)) }
+        ensures strict { OnOk result (self.new.strict.items
+            ≡ self.old.strict.items ++ strict_rows table.now (class_comparisons list.now)) }
+    {
+        for first in list {
+            self.push_outranked(alloc, table, *first, list)?;
+        }
+        Ok(())
+    }
+
+    fn push_outranked(
+        &mut self,
+        alloc: Global,
+        table: &Table,
+        first: Statement,
+        list: &[Statement],
+    ) -> Result<(), AllocError>
+        requires first { IsValidIn table.now first }
+        requires others { AllByRecursion (IsValidIn table.now) list.now }
+        ensures weak { OnOk result (self.new.weak.items
+            ≡ self.old.weak.items ++ weak_rows table.now (flat_map (outranking first) list.now)) }
+        ensures strict { OnOk result (self.new.strict.items ≡ self.old.strict.items
+            ++ strict_rows table.now (flat_map (outranking first) list.now)) }
+    {
+        for second in list {
+            self.push_pair(alloc, table, first, *second)?;
+        }
+        Ok(())
+    }
+
+    fn push_pair(
+        &mut self,
+        alloc: Global,
+        table: &Table,
+        first: Statement,
+        second: Statement,
+    ) -> Result<(), AllocError>
+        requires first { IsValidIn table.now first }
+        requires second { IsValidIn table.now second }
+        ensures weak { OnOk result (self.new.weak.items
+            ≡ self.old.weak.items ++ weak_rows table.now (outranking first second)) }
+        ensures strict { OnOk result (self.new.strict.items
+            ≡ self.old.strict.items ++ strict_rows table.now (outranking first second)) }
+    {
+        match (first.assignment(), second.assignment()) {
+            (Some(above), Some(below)) if above.outranks(below) => {
+                let form = Form::Value(above.alternative, below.alternative);
+                self.push(alloc, table, Relation::Above, form)
+            }
+            _ => Ok(()),
+        }
     }
 
     /// Pushes the extra rows, in order.
@@ -160,15 +176,14 @@ impl Rows {
         table: &Table,
         extra: &[Extra],
     ) -> Result<(), AllocError>
-        requires { AllByRecursion (λ e. NamesWithin (length table.now.alternatives)
-            (comparison_of_extra e).difference) extra.now }
+        requires { AllByRecursion (λ e. IsNamedIn table.now e.form) extra.now }
         ensures weak { OnOk result (self.new.weak.items
             ≡ self.old.weak.items ++ weak_rows table.now (map comparison_of_extra extra.now)) }
         ensures strict { OnOk result (self.new.strict.items
             ≡ self.old.strict.items ++ strict_rows table.now (map comparison_of_extra extra.now)) }
     {
         for row in extra {
-            self.push(alloc, table, *row)?;
+            self.push(alloc, table, row.relation(), row.form)?;
         }
         Ok(())
     }

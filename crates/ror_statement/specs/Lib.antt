@@ -1,1 +1,5 @@
-pub mod Statement
+pub mod Statements
+pub mod Questions
+pub mod Names
+pub mod RowNumbers
+pub mod Laws

@@ -1,9 +1,22 @@
-//! What a judge states and what an analyst asks, as forms over the places of alternatives: no table is needed to
-//! say them. What they mean over value functions stands in `ror_value`.
+//! What a judge states and what an analyst asks, as forms over the places of alternatives and criteria: no table is
+//! needed to say them. What they mean over value functions stands in `ror_value`.
+//!
+//! Whoever works with a statement asks it what it compares, [`Statement::comparison`], or to which classes it assigns an
+//! alternative, [`Statement::assignment`], and a question which functions it is about, [`kind_of`], and what it asks of
+//! each, [`Question::property`]. No crate above tells the statements and questions apart in another way.
 #![tactic(auto)]
 
+mod comparison;
+pub mod laws;
+mod names;
+mod question;
+mod row_number;
 mod statement;
+#[cfg(test)]
+mod tests;
 
-pub use statement::{
-    Conclusion, MOST_ROWS, MOST_STATEMENTS, Numbered, Question, Statement, row_count,
-};
+pub use comparison::{Comparison, Form, Pair, Relation, Scope};
+pub use names::{valid, valid_question};
+pub use question::{Conclusion, Property, Question, QuestionKind, kind_of};
+pub use row_number::{MOST_ROWS, MOST_STATEMENTS, row_count};
+pub use statement::{Assignment, Numbered, Statement};

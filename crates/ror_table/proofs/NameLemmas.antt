@@ -1,6 +1,6 @@
 -- The ids of a table: where each stands, and that each is an id.
 use Rattle.std.proofs.Common.{◌≡◌, ℕ, ◌<◌, ◌≤◌, true, false, ltb, List, [], length, get_or, Option, Some, None, refl, sym, ap, subst, ◌∙◌, arith, inl, inr}
-use Rattle.std.specs.Prelude.{◌≢◌, Contains}
+use Rattle.std.specs.Prelude.{◌≢◌, All, Contains}
 use Rattle.std.specs.List.{position_or_len}
 use Rattle.std.specs.Str.{bytes_eq}
 use Rattle.std.proofs.lemmas.Bool.{cases_Bool, ltb-true, ltb-false, lt-ltb, le-ltb, false≢true, cond-true, cond-false}
@@ -11,7 +11,7 @@ use Rattle.std.proofs.lemmas.Option.{slice_get_within, get_or_from_slice_get}
 use Rattle.std.proofs.lemmas.Slice.Eq.{bytes_eq-Decides}
 use Rattle.ror_text.proofs.ListLemmas.{bytes_apart, bytes_same}
 use Rattle.ror_text.specs.Ids.{is_id, IsId}
-use Rattle.ror_table.specs.Table.{DecisionTable, IsTable, AreDistinct, alternative_ids, alternative_named, HasPlace, place_of, id_of}
+use Rattle.ror_table.specs.Table.{DecisionTable, IsTable, AreDistinct, alternative_ids, alternative_named, criterion_ids, criterion_named, HasPlace, place_of, id_of, criterion_id_of}
 
 -- ---- among ids
 
@@ -21,7 +21,7 @@ no_place ids id apart =
     let past : ltb (length ids) (length ids) ≡ false = le-ltb _ _ (omega arith) in
     rw (none, past) refl
 
-place_at : (ids : List (List ℕ)) (k : ℕ) → AreDistinct ids → k < length ids → place_of ids (get_or ids k []) ≡ Some k
+pub place_at : (ids : List (List ℕ)) (k : ℕ) → AreDistinct ids → k < length ids → place_of ids (get_or ids k []) ≡ Some k
 place_at ids k distinct there =
     let at : position_or_len (λ other. bytes_eq other (get_or ids k [])) ids ≡ k = position_or_len_is (λ other. bytes_eq other (get_or ids k [])) ids k [] (omega arith) (λ i l. bytes_apart (get_or ids i []) (get_or ids k []) (distinct i k [] l there)) (λ l. bytes_same (get_or ids k [])) in
     let inside : ltb k (length ids) ≡ true = lt-ltb _ _ there in
@@ -36,7 +36,7 @@ place_of-has ids id (Some k) distinct has =
     sym (place_at ids k distinct there) ∙ ap (place_of ids) (get_or_from_slice_get ids k id [] has)
 
 -- and what is found has that id
-place_of-sound : (ids : List (List ℕ)) (id : List ℕ) (k : ℕ) → place_of ids id ≡ Some k → (k < length ids) × (id ≡ get_or ids k [])
+pub place_of-sound : (ids : List (List ℕ)) (id : List ℕ) (k : ℕ) → place_of ids id ≡ Some k → (k < length ids) × (id ≡ get_or ids k [])
 place_of-sound ids id k e =
     let n : ℕ = position_or_len (λ other. bytes_eq other id) ids in
     elim (cases_Bool (ltb n (length ids))) [
@@ -49,12 +49,50 @@ place_of-sound ids id k e =
       | inr miss ↦ absurd (let none = sym (cond-false _ _ _ miss) ∙ e in cc)
     ]
 
+-- what is no id has no place
+pub no_id_no_place : (ids : List (List ℕ)) (id : List ℕ) → All IsId ids → is_id id ≡ false → place_of ids id ≡ None
+no_id_no_place ids id valid not_id =
+    no_place ids id (λ k l e. false≢true (sym not_id ∙ subst IsId e (All-get_or IsId ids k [] l valid)))
+
+-- what has a place is there, and what has none is not
+pub placed-there : (ids : List (List ℕ)) (id : List ℕ) (k : ℕ) → place_of ids id ≡ Some k → Contains ids id
+placed-there ids id k e =
+    let sound = place_of-sound ids id k e in
+    subst (Contains ids) (sym sound.1) (Contains-get_or ids k [] sound.0)
+
+pub not_placed-absent : (ids : List (List ℕ)) (id : List ℕ) → place_of ids id ≡ None → Contains ids id → ⊥
+not_placed-absent ids id e there =
+    let n : ℕ = position_or_len (λ other. bytes_eq other id) ids in
+    elim (cases_Bool (ltb n (length ids))) [
+      | inl hit ↦ absurd (let some = sym (cond-true _ _ _ hit) ∙ e in cc)
+      | inr miss ↦
+          let past : length ids ≤ n = ltb-false _ _ miss in
+          false≢true (sym (fails_before_first (λ other. bytes_eq other id) ids there.0 id (omega (arith, past, there.1))) ∙ (bytes_eq-Decides (get_or ids there.0 id) id).1 there.2)
+    ]
+
+-- ---- of criteria
+
+length_criterion_ids : (t : DecisionTable) → length (criterion_ids t) ≡ length t.criteria
+length_criterion_ids t = simp length-map
+
+-- a criterion is named by its id
+pub criterion_named-id_of : (t : DecisionTable) (i : ℕ) → IsTable t → i < length t.criteria → criterion_named t (criterion_id_of t i) ≡ Some i
+criterion_named-id_of t i table within = place_at (criterion_ids t) i table.criterion_ids_distinct (omega (arith, length_criterion_ids t))
+
+-- and what is found has that id
+pub criterion_named-sound : (t : DecisionTable) (id : List ℕ) (i : ℕ) → criterion_named t id ≡ Some i → (i < length t.criteria) × (id ≡ criterion_id_of t i)
+criterion_named-sound t id i e =
+    let sound = place_of-sound (criterion_ids t) id i e in
+    (omega (arith, length_criterion_ids t, sound.0), sound.1)
+
+pub criterion_id_of_is_id : (t : DecisionTable) (i : ℕ) → IsTable t → i < length t.criteria → IsId (criterion_id_of t i)
+criterion_id_of_is_id t i table within = All-get_or IsId (criterion_ids t) i [] (omega (arith, length_criterion_ids t)) table.criterion_ids_valid
+
 -- ---- of alternatives
 
 -- what is no id is none of the table's
 pub no_id_not_named : (t : DecisionTable) (id : List ℕ) → IsTable t → is_id id ≡ false → alternative_named t id ≡ None
-no_id_not_named t id table not_id =
-    no_place (alternative_ids t) id (λ k l e. false≢true (sym not_id ∙ subst IsId e (All-get_or IsId (alternative_ids t) k [] l table.alternative_ids_valid)))
+no_id_not_named t id table not_id = no_id_no_place (alternative_ids t) id table.alternative_ids_valid not_id
 
 length_ids : (t : DecisionTable) → length (alternative_ids t) ≡ length t.alternatives
 length_ids t = simp length-map
@@ -75,20 +113,3 @@ alternative_named-sound t id a e =
 
 pub id_of_is_id : (t : DecisionTable) (a : ℕ) → IsTable t → a < length t.alternatives → IsId (id_of t a)
 id_of_is_id t a table within = All-get_or IsId (alternative_ids t) a [] (omega (arith, length_ids t)) table.alternative_ids_valid
-
--- what is named is there, and what is not named is not
-pub named-there : (t : DecisionTable) (id : List ℕ) (a : ℕ) → alternative_named t id ≡ Some a → Contains (alternative_ids t) id
-named-there t id a e =
-    let sound = place_of-sound (alternative_ids t) id a e in
-    subst (Contains (alternative_ids t)) (sym sound.1) (Contains-get_or (alternative_ids t) a [] sound.0)
-
-pub not_named-absent : (t : DecisionTable) (id : List ℕ) → alternative_named t id ≡ None → Contains (alternative_ids t) id → ⊥
-not_named-absent t id e there =
-    let ids = alternative_ids t in
-    let n : ℕ = position_or_len (λ other. bytes_eq other id) ids in
-    elim (cases_Bool (ltb n (length ids))) [
-      | inl hit ↦ absurd (let some = sym (cond-true _ _ _ hit) ∙ e in cc)
-      | inr miss ↦
-          let past : length ids ≤ n = ltb-false _ _ miss in
-          false≢true (sym (fails_before_first (λ other. bytes_eq other id) ids there.0 id (omega (arith, past, there.1))) ∙ (bytes_eq-Decides (get_or ids there.0 id) id).1 there.2)
-    ]

@@ -52,6 +52,10 @@ criterion_named t id = place_of (criterion_ids t) id
 abbrev pub id_of : DecisionTable → ℕ → List ℕ
 id_of t a = slice_index_or (alternative_ids t) a []
 
+-- a criterion's id
+abbrev pub criterion_id_of : DecisionTable → ℕ → List ℕ
+criterion_id_of t i = slice_index_or (criterion_ids t) i []
+
 -- no two ids are equal
 abbrev pub AreDistinct : List (List ℕ) → Type 0
 AreDistinct ids = AllPairs (λ x y. x ≢ y) ids

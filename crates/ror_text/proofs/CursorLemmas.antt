@@ -1,9 +1,9 @@
 -- Where a line is cut into words, and a text into lines; and that what was written is cut so again.
-use Rattle.std.proofs.Common.{◌≡◌, ℕ, ◌+◌, ◌<◌, ◌≤◌, ◌==◌, Bool, false, ltb, List, [], ◌∷◌, ◌++◌, append_assoc, length, length-append, length-drop, Option, true, take, drop, ◌-◌, Some, None, refl, sym, ap, subst, ◌∙◌, arith, inl, inr}
-use Rattle.std.specs.Prelude.{◌⊎◌, position}
+use Rattle.std.proofs.Common.{◌≡◌, ℕ, ◌+◌, ◌<◌, ◌≤◌, ◌==◌, Bool, false, not, suc, ltb, leb, List, [], ◌∷◌, ◌++◌, append_assoc, length, length-append, length-drop, Option, true, take, drop, ◌-◌, Some, None, refl, sym, ap, subst, ◌∙◌, arith, inl, inr}
+use Rattle.std.specs.Prelude.{◌⊎◌, position, is_some}
 use Rattle.std.specs.Option.{option_map}
 use Rattle.std.specs.List.{position_or_len, before_first, after_first}
-use Rattle.std.proofs.lemmas.Bool.{cases_Bool, ltb-true, ltb-false}
+use Rattle.std.proofs.lemmas.Bool.{cases_Bool, ltb-true, ltb-false, lt-leb, not-true, not-false}
 use Rattle.std.proofs.lemmas.List.{take_all, drop-drop, length-take}
 use Rattle.std.proofs.lemmas.List.Elements.{All-from_get_or}
 use Rattle.std.proofs.lemmas.List.Splits.{slice_split_first, slice_split_none}
@@ -39,6 +39,24 @@ uncut line e =
     elim (space_cases line) [
       | inl found ↦ absurd cc
       | inr none ↦ slice_split_none is_space line (All-from_get_or (λ byte. is_space byte ≡ false) line 0 (λ i l. fails_before_first is_space line i 0 (omega arith)))
+    ]
+
+some_word : (line : List ℕ) → 0 < length (spaced_words line)
+some_word line =
+    elim (space_cases line) [
+      | inl found ↦ let cut = cut_at line (position_or_len is_space line) found.1 in omega (arith, ap length cut)
+      | inr none ↦ let whole = uncut line none.1 in omega (arith, ap length whole)
+    ]
+
+pub few_words : (line : List ℕ) (few : Bool) → is_some (position is_space line) ≡ not few → few ≡ leb (length (spaced_words line)) 1
+few_words line few e =
+    elim (space_cases line) [
+      | inl found ↦
+          let end = position_or_len is_space line in
+          let many : length (spaced_words line) ≡ suc (length (spaced_words (drop (end + 1) line))) = ap length (cut_at line end found.1) in
+          let above : leb (length (spaced_words line)) 1 ≡ false = lt-leb _ _ (omega (arith, many, some_word (drop (end + 1) line))) in
+          rw above (not-true few (sym e ∙ ap is_some found.1))
+      | inr none ↦ rw (uncut line none.1) (not-false few (sym e ∙ ap is_some none.1))
     ]
 
 -- what the cut at the first line feed gives

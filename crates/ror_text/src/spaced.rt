@@ -1,6 +1,6 @@
 //! Lines of a text with one spelling: words joined by single spaces, and one line feed.
 
-ghost use Rattle.std.specs.Prelude.{◌≡◌, ◌==◌, ◌<◌, ◌≤◌, [], ◌∷◌, length, map, IfOk, IfSome, MatchOption, option_map, position};
+ghost use Rattle.std.specs.Prelude.{◌≡◌, ◌==◌, ◌<◌, ◌≤◌, [], ◌∷◌, length, map, nat_le, IfOk, IfSome, MatchOption, option_map, position};
 ghost use Rattle.ror_text.specs.Cursor.{cursor_at, line_words, line_after};
 ghost use Rattle.ror_text.specs.SpacedLines as spec;
 
@@ -77,6 +77,16 @@ impl<'a> Words<'a> {
                 },
             )),
             None => Some((line, Words { rest: None })),
+        }
+    }
+
+    /// Whether at most one word is left.
+    pub fn is_at_most_one(&self) -> bool
+        ensures { result ≡ nat_le (length self.now) 1 }
+    {
+        match self.rest {
+            Some(line) => space(line).is_none(),
+            None => true,
         }
     }
 }

@@ -1,9 +1,9 @@
 -- Conclusions on a question exclude one another, and necessary preference is a preorder.
 use Rattle.std.proofs.Common.{◌≡◌, List, refl}
 use Rattle.ror_statement.specs.declared.statement.Statement.{Statement}
-use Rattle.ror_statement.specs.declared.statement.Question.{Question}
-use Rattle.ror_statement.specs.declared.statement.Conclusion.{Conclusion}
-use Rattle.ror_statement.specs.declared.statement.Conclusion.TheVariants.{Yes, No, Contradiction}
+use Rattle.ror_statement.specs.declared.question.Question.{Question}
+use Rattle.ror_statement.specs.declared.question.Conclusion.{Conclusion}
+use Rattle.ror_statement.specs.declared.question.Conclusion.TheVariants.{Yes, No, Contradiction}
 use Rattle.ror_table.specs.Table.{DecisionTable}
 use Rattle.ror_value.specs.Meaning.{Answers}
 

@@ -1,3 +1,5 @@
 pub mod Conclusions
 pub mod Values
 pub mod Walks
+pub mod MeetingEach
+pub mod Relations

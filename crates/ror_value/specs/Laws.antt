@@ -1,14 +1,19 @@
--- The laws of value functions, of conclusions and of necessary preference.
-use Rattle.std.specs.Prelude.{◌≡◌, ℕ, ◌≤◌, List, length, map, ℤ, pos, ◌≤ℤ◌}
+-- The laws of value functions, of meeting a list, of conclusions, and of necessary and possible preference.
+use Rattle.std.specs.Prelude.{◌≡◌, ◌↔◌, ◌⊎◌, ℕ, ◌<◌, ◌≤◌, List, length, map, slice_get, Some, ℤ, pos, ◌≤ℤ◌, ◌<ℤ◌}
 use Rattle.std.specs.List.{range_with_len}
 use Rattle.ror_integers.specs.Vectors.{dot, total}
 use Rattle.ror_statement.specs.declared.statement.Statement.{Statement}
-use Rattle.ror_statement.specs.declared.statement.Question.{Question}
-use Rattle.ror_statement.specs.declared.statement.Conclusion.{Conclusion}
-use Rattle.ror_statement.specs.Statement.{at_least, values, every}
+use Rattle.ror_statement.specs.declared.statement.Assignment.{Assignment}
+use Rattle.ror_statement.specs.declared.comparison.Comparison.{Comparison}
+use Rattle.ror_statement.specs.declared.question.QuestionKind.TheVariants.{Any, Every}
+use Rattle.ror_statement.specs.declared.question.Question.{Question}
+use Rattle.ror_statement.specs.declared.question.Question.TheVariants.{Necessary, Possible}
+use Rattle.ror_statement.specs.declared.question.Conclusion.{Conclusion}
+use Rattle.ror_statement.specs.Statements.{comparison_of, assignment_of}
+use Rattle.ror_statement.specs.Questions.{property_of}
 use Rattle.ror_table.specs.Table.{DecisionTable, steps}
 use Rattle.ror_value.specs.Value.{IsValueFunction, steps_on, marginal, value, block}
-use Rattle.ror_value.specs.Meaning.{HoldsOfCompatible, Answers}
+use Rattle.ror_value.specs.Meaning.{Holds, Meets, IsConsistent, HoldsOfCompatible, Answers}
 
 -- marginal values start at 0 and never fall, those at the best levels sum to the total, and so each value lies
 -- between 0 and the total
@@ -34,14 +39,38 @@ abbrev pub OneConclusion : Type 0
 OneConclusion = (t : DecisionTable) (list : List Statement) (q : Question) (c d : Conclusion)
     → Answers t list q c → Answers t list q d → c ≡ d
 
--- a is worth at least b for every compatible function
-abbrev pub IsNecessarilyPreferred : DecisionTable → List Statement → ℕ → ℕ → Type 0
-IsNecessarilyPreferred t list a b =
-    HoldsOfCompatible t list every (record { relation = at_least; difference = values a b })
+-- A function meets a list exactly where it has the comparison of each statement, and at every two places whose statements
+-- assign to classes, of which the first's are all above the second's, the first's alternative is worth more.
+pub record MeetsEach (t : DecisionTable) (w : List ℤ) (list : List Statement) : Type 0 where
+  pub comparisons : (k : ℕ) (s : Statement) (c : Comparison) → slice_get list k ≡ Some s
+      → comparison_of s ≡ Some c → Holds t w c
+  pub classes : (j k : ℕ) (r s : Statement) (x y : Assignment)
+      → slice_get list j ≡ Some r → slice_get list k ≡ Some s
+      → assignment_of r ≡ Some x → assignment_of s ≡ Some y
+      → y.highest < x.lowest → value t w y.alternative <ℤ value t w x.alternative
 
-pub record NecessaryPreference : Type 0 where
-  pub reflexive : (t : DecisionTable) (list : List Statement) (a : ℕ)
-      → IsNecessarilyPreferred t list a a
-  pub transitive : (t : DecisionTable) (list : List Statement) (a b c : ℕ)
-      → IsNecessarilyPreferred t list a b → IsNecessarilyPreferred t list b c
-      → IsNecessarilyPreferred t list a c
+abbrev pub MeetingIsOfEach : Type 0
+MeetingIsOfEach = (t : DecisionTable) (w : List ℤ) (list : List Statement)
+    → Meets t w list ↔ MeetsEach t w list
+
+-- a is worth at least b for every compatible function; for some one
+abbrev pub IsNecessarilyPreferred : DecisionTable → List Statement → ℕ → ℕ → Type 0
+IsNecessarilyPreferred t list a b = HoldsOfCompatible t list Every (property_of (Necessary a b))
+
+abbrev pub IsPossiblyPreferred : DecisionTable → List Statement → ℕ → ℕ → Type 0
+IsPossiblyPreferred t list a b = HoldsOfCompatible t list Any (property_of (Possible a b))
+
+-- the relations of UTA-GMS over a list with which some value function is compatible
+pub record Relations (t : DecisionTable) (list : List Statement) : Type 0 where
+  pub reflexive : (a : ℕ) → IsNecessarilyPreferred t list a a
+  pub transitive : (a b c : ℕ) → IsNecessarilyPreferred t list a b
+      → IsNecessarilyPreferred t list b c → IsNecessarilyPreferred t list a c
+  pub contained : (a b : ℕ) → IsNecessarilyPreferred t list a b → IsPossiblyPreferred t list a b
+  pub strongly_complete : (a b : ℕ) → IsPossiblyPreferred t list a b ⊎ IsPossiblyPreferred t list b a
+  pub negatively_transitive : (a b c : ℕ) → IsPossiblyPreferred t list a c
+      → IsPossiblyPreferred t list a b ⊎ IsPossiblyPreferred t list b c
+  pub converse : (a b : ℕ) → (IsPossiblyPreferred t list b a → ⊥) → IsNecessarilyPreferred t list a b
+
+abbrev pub RelationsOfConsistent : Type 0
+RelationsOfConsistent = (t : DecisionTable) (list : List Statement)
+    → IsConsistent t list → Relations t list

@@ -1,6 +1,6 @@
 //! Each function here states one law, for all tables and lists, and does nothing.
 
-ghost use Rattle.ror_value.specs.Laws.{MarginalIsDot, NecessaryPreference, NormalisedAndMonotone, OneConclusion};
+ghost use Rattle.ror_value.specs.Laws.{MarginalIsDot, MeetingIsOfEach, NormalisedAndMonotone, OneConclusion, RelationsOfConsistent};
 
 /// A value function has marginal values that start at 0 and never fall from one level to the next better one; those
 /// at the best levels sum to its total, so the value of each alternative lies between 0 and the total.
@@ -19,7 +19,15 @@ pub fn one_conclusion()
     ensures { OneConclusion }
 {}
 
-/// The necessary preference relation is a preorder: reflexive and transitive.
-pub fn necessary_preference()
-    ensures { NecessaryPreference }
+/// A function meets a list exactly where it has the comparison of each statement and ranks the alternatives of each two
+/// class statements as their classes do.
+pub fn meeting_is_of_each()
+    ensures { MeetingIsOfEach }
+{}
+
+/// Over statements with which some function is compatible, the necessary preference relation is reflexive and transitive
+/// and contained in the possible one, the possible one is strongly complete and negatively transitive, and of two
+/// alternatives the one is necessarily preferred to the other where the other isn't possibly preferred to it (UTA-GMS).
+pub fn relations()
+    ensures { RelationsOfConsistent }
 {}

@@ -3,6 +3,7 @@
 
 mod input;
 pub mod laws;
+mod meeting;
 mod value_function;
 
 pub use input::Input;

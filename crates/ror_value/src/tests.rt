@@ -1,13 +1,18 @@
 //! Tests of the crate's public calls.
 
+ghost use Rattle.std.specs.Prelude.{IsTrue};
+ghost use Rattle.std.specs.List.{AllByRecursion};
+ghost use Rattle.ror_value.specs.Over.{IsValidIn};
+
 use crate::{ValueFault, ValueFunction};
-use ror_statement::Statement;
-use ror_table::read_plain;
+use ror_statement::{Pair, Scope, Statement, valid};
+use ror_table::{Table, read_plain};
 use std::test::Fail;
 
 const TABLE: &[u8] = b"ror-table 1
 criterion q max
 criterion p min
+classes 2
 alternative a 3 10
 alternative b 2 8
 alternative c 1 12
@@ -24,8 +29,6 @@ fn values_are_sums_of_first_steps(rt: HostRuntime) -> Result<(), Fail> {
     assert_eq!(rt; function.value(&table, 2), 0);
     assert_eq!(rt; function.marginal(&table, 0, 2), 3);
     assert!(rt; function.meets(&table, &[Statement::Prefer(1, 0)]));
-    assert!(rt; !function.meets(&table, &[Statement::Prefer(0, 1)]));
-    assert!(rt; !function.meets(&table, &[Statement::Prefer(1, 0), Statement::Prefer(0, 0)]));
     Ok(())
 }
 
@@ -39,6 +42,120 @@ fn the_first_fault_is_named(rt: HostRuntime) -> Result<(), Fail> {
     ];
     for (steps, fault) in cases {
         assert!(rt; ValueFunction::new(rt.alloc(), &table, steps).err() == Some(fault));
+    }
+    Ok(())
+}
+
+const AB: Pair = Pair {
+    first: 0,
+    second: 1,
+};
+
+const BA: Pair = Pair {
+    first: 1,
+    second: 0,
+};
+
+const AC: Pair = Pair {
+    first: 0,
+    second: 2,
+};
+
+const BC: Pair = Pair {
+    first: 1,
+    second: 2,
+};
+
+/// Lists, and whether they are met by the functions with the steps 1, 2, 3, 4; 0, 2^126, 0, 0; and 0, 0, 0, 2^127 - 1. Their
+/// values of a, b and c are 6, 8, 0; 2^126, 0, 0; and 0, 2^127 - 1, 0. By the second a is 2^126 above b and b as much below a,
+/// and the difference of these intensities, 2^127, is no number of 128 bits.
+const MET: [(&[Statement], [bool; 3]); 16] = [
+    (&[Statement::Prefer(0, 1)], [false, true, false]),
+    (&[Statement::Prefer(0, 0)], [false, false, false]),
+    (&[Statement::AtLeast(1, 0)], [true, false, true]),
+    (&[Statement::AtLeast(2, 0)], [false, false, true]),
+    (&[Statement::Same(1, 2)], [false, true, false]),
+    (
+        &[Statement::Stronger(AB, BA, Scope::Whole)],
+        [false, true, false],
+    ),
+    (
+        &[Statement::Stronger(BA, AB, Scope::Whole)],
+        [true, false, true],
+    ),
+    // On q alone a is above b by 2, 2^126 and 0, and b above c by 1, 0 and 0.
+    (
+        &[Statement::Stronger(AB, BC, Scope::One(0))],
+        [true, true, false],
+    ),
+    (
+        &[Statement::AsStrong(AB, BA, Scope::Whole)],
+        [false, true, false],
+    ),
+    // On p alone b is above a by 4, 0 and 2^127 - 1.
+    (
+        &[Statement::AsStrong(BA, AB, Scope::One(1))],
+        [true, true, true],
+    ),
+    (
+        &[Statement::EqualStrength(AC, AB, Scope::Whole)],
+        [false, true, false],
+    ),
+    (
+        &[Statement::EqualStrength(AB, BA, Scope::One(1))],
+        [false, true, false],
+    ),
+    (
+        &[Statement::Class(0, 2, 2), Statement::Class(1, 1, 1)],
+        [false, true, false],
+    ),
+    (
+        &[Statement::Class(0, 1, 1), Statement::Class(1, 2, 2)],
+        [true, false, true],
+    ),
+    // The classes of the one are not all above those of the other.
+    (
+        &[Statement::Class(0, 1, 2), Statement::Class(1, 1, 1)],
+        [true, true, true],
+    ),
+    // A later statement counts as the first one does.
+    (
+        &[Statement::AtLeast(0, 2), Statement::Prefer(1, 0)],
+        [true, false, true],
+    ),
+];
+
+/// Whether all statements name what the table has.
+fn are_valid(table: &Table, list: &[Statement]) -> bool
+    ensures { IsTrue result → AllByRecursion (IsValidIn table.now) list.now }
+{
+    match list {
+        [] => true,
+        [first, rest @ ..] => {
+            valid(
+                first,
+                table.alternatives(),
+                table.criteria(),
+                table.classes(),
+            ) && are_valid(table, rest)
+        }
+    }
+}
+
+#[test]
+fn statements_are_met_by_what_they_say(rt: HostRuntime) -> Result<(), Fail> {
+    let table = read_plain(rt.alloc(), TABLE)?;
+    let small = ValueFunction::new(rt.alloc(), &table, &[1, 2, 3, 4])?;
+    let second = ValueFunction::new(rt.alloc(), &table, &[0, 1 << 126, 0, 0])?;
+    let last = ValueFunction::new(rt.alloc(), &table, &[0, 0, 0, i128::MAX])?;
+    for (list, met) in MET {
+        assert!(rt; are_valid(&table, list));
+        let found = [
+            small.meets(&table, list),
+            second.meets(&table, list),
+            last.meets(&table, list),
+        ];
+        assert_eq!(rt; found, met, "{list:?}");
     }
     Ok(())
 }

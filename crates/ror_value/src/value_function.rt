@@ -1,18 +1,14 @@
 //! Value functions of a table: their steps, their values, and what they meet.
 
-ghost use Rattle.std.specs.Prelude.{◌≡◌, ◌≢◌, ◌↔◌, ◌<◌, ◌≤◌, ◌≤ℤ◌, pos, length, IsTrue, IfOk, IfErr};
-ghost use Rattle.std.specs.List.{AllByRecursion};
+ghost use Rattle.std.specs.Prelude.{◌≡◌, ◌≢◌, ◌<◌, ◌≤◌, ◌≤ℤ◌, pos, length, IfOk, IfErr};
 ghost use Rattle.ror_integers.specs.Vectors.{total};
 ghost use Rattle.ror_text.specs.FirstFault.{IsRefusedBy};
-ghost use Rattle.ror_statement.specs.Statement.{IsValid, comparison_of};
 ghost use Rattle.ror_table.specs.Table.{steps};
 ghost use Rattle.ror_system.specs.System.{IsNarrow};
 ghost use Rattle.ror_value.specs.Value.{IsValueFunction, marginal, value};
 ghost use Rattle.ror_value.specs.ValueFaults.{IsAcceptedFunction, FailsValue, IsEarlierFault};
-ghost use Rattle.ror_value.specs.Meaning.{Holds, Meets};
 ghost use Rattle.ror_value.specs.declared.value_function.ValueFault.TheVariants.{Memory};
 
-use ror_statement::Statement;
 use ror_system::steps::{first_negative, positive_total};
 use ror_table::Table;
 use ror_text::Items;
@@ -134,30 +130,5 @@ impl ValueFunction {
             sum += self.marginal(table, i, table.rank(a, i));
         }
         sum
-    }
-
-    /// Whether the function meets each statement of the list.
-    pub fn meets(&self, table: &Table, list: &[Statement]) -> bool
-        requires function { IsValueFunction table.now self.now }
-        requires named { AllByRecursion (IsValid (length table.now.alternatives)) list.now }
-        ensures { IsTrue result ↔ Meets table.now self.now list.now }
-    {
-        for statement in list {
-            if !self.meets_one(table, *statement) {
-                return false;
-            }
-        }
-        true
-    }
-
-    fn meets_one(&self, table: &Table, statement: Statement) -> bool
-        requires function { IsValueFunction table.now self.now }
-        requires named { IsValid (length table.now.alternatives) statement }
-        ensures { IsTrue result ↔ Holds table.now self.now (comparison_of statement) }
-    {
-        // The difference of two values may not fit; the values do.
-        match statement {
-            Statement::Prefer(a, b) => self.value(table, a) > self.value(table, b),
-        }
     }
 }

@@ -1,7 +1,8 @@
 use Rattle.std.proofs.Common.{rules, arith, ◌≤◌, ◌-◌, length}
 use Rattle.ror_proof.specs.declared.answer.Part.{Part}
 use Rattle.ror_check.specs.Steps.{systems_with}
-use Rattle.ror_check.proofs.Checking.{shown_more, all_at, slice_get-at, system_here}
+use Rattle.ror_text.proofs.Everywhere.{all_at}
+use Rattle.ror_check.proofs.Checking.{accepted_shows, shown_more, slice_get-at, system_here}
 use Rattle.ror_check.proofs.check.check_parts.Goals as goal
 
 pub loop-i-preserved : goal.loop-i-preserved
@@ -18,4 +19,4 @@ loop-i-preserved c =
     let from = named.0 in
     let to = named.1 in
     let there = system_here t list vs (p.at - 1) c.index-systems-part.result c.in_ok-system.system (omega arith) c.index-systems-part.is (search rules) in
-    shown_more (systems_with t list vs) parts i (p.at - 1) p c.in_ok-system.system c.loop-i.invariant lt c.index-parts-i.is (omega arith) there c.in_default.ensures.shown
+    shown_more (systems_with t list vs) parts i (p.at - 1) p c.in_ok-system.system c.loop-i.invariant lt c.index-parts-i.is (omega arith) there (accepted_shows c.in_ok-system.system p.body c.in_default.ensures.accepted)

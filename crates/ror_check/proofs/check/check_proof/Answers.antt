@@ -1,27 +1,70 @@
-use Rattle.std.proofs.Common.{rules, length, map, ◌≡◌}
-use Rattle.ror_check.specs.Proof.{AreNumbersFor}
-use Rattle.ror_statement.specs.Statement.{asked_of}
+use Rattle.std.proofs.Common.{rules, arith, length, map, ◌≡◌, true, Ok, Err, refl, subst}
+use Rattle.std.proofs.lemmas.Result.{err_from_is_err_and}
+use Rattle.ror_statement.specs.Questions.{kind_of}
+use Rattle.ror_system.specs.System.{LinearSystem}
+use Rattle.ror_check.specs.Proof.{AreNumbersFor, base_system}
+use Rattle.ror_check.specs.Steps.{IsAcceptedFor, IsBaseOf, RefusesBase}
+use Rattle.ror_check.specs.Faults.{has_kinds}
 use Rattle.ror_rows.specs.Rows.{extras_of, systems_of_question}
-use Rattle.ror_check.proofs.Checking.{systems_usable, numbers_name}
-use Rattle.ror_check.proofs.FirstFaults.{proof_accepted, proof_refused}
+use Rattle.ror_check.proofs.Checking.{systems_usable, few_systems, numbers_name, parts_few, accepted_shows}
+use Rattle.ror_check.proofs.FirstFaults.{counted, base_refused, proof_accepted, proof_refused}
 use Rattle.ror_check.proofs.check.check_proof.Goals as goal
 
+pub are_numbered_for-requires : goal.are_numbered_for-requires
+are_numbered_for-requires c =
+    let few = few_systems c.args.table.now c.args.list.now c.in_ok-systems.systems.items c.args.asked.now c.in_ok-systems.ensures c.requires.lawful in
+    rw c.as_slice-extras.ensures.value (omega (arith, few))
+
 pub check_parts-requires-clause-usable : goal.check_parts-requires-clause-usable
-check_parts-requires-clause-usable c = rw c.as_slice-extras.ensures.value (systems_usable (length c.args.table.now.alternatives) c.in_ok-systems.systems.items c.args.asked.now c.in_ok-systems.ensures c.requires.named)
+check_parts-requires-clause-usable c = rw c.as_slice-extras.ensures.value (systems_usable c.args.table.now c.args.list.now c.in_ok-systems.systems.items c.args.asked.now c.in_ok-systems.ensures c.requires.lawful c.requires.named)
 
 pub check_parts-requires-clause-numbers : goal.check_parts-requires-clause-numbers
 check_parts-requires-clause-numbers c =
-    let numbered : AreNumbersFor (asked_of c.args.asked.now).kind c.args.conclusion (length c.as_slice-extras.result.now) (map (λ p. p.at) c.as_slice-parts.result.now) = search rules in
-    numbers_name (asked_of c.args.asked.now).kind c.args.conclusion (length c.as_slice-extras.result.now) c.as_slice-parts.result.now numbered
+    let numbered : AreNumbersFor (kind_of c.args.asked.now) c.args.conclusion (length c.as_slice-extras.result.now) (map (λ p. p.at) c.as_slice-parts.result.now) = search rules in
+    numbers_name (kind_of c.args.asked.now) c.args.conclusion (length c.as_slice-extras.result.now) c.as_slice-parts.result.now numbered
+
+pub check_parts-requires-clause-few : goal.check_parts-requires-clause-few
+check_parts-requires-clause-few c =
+    let numbered : AreNumbersFor (kind_of c.args.asked.now) c.args.conclusion (length c.as_slice-extras.result.now) (map (λ p. p.at) c.as_slice-parts.result.now) = search rules in
+    let few = few_systems c.args.table.now c.args.list.now c.in_ok-systems.systems.items c.args.asked.now c.in_ok-systems.ensures c.requires.lawful in
+    let most = parts_few (kind_of c.args.asked.now) c.args.conclusion (length c.as_slice-extras.result.now) c.as_slice-parts.result.now numbered in
+    let same = rw c.as_slice-extras.ensures.value at most in
+    omega (arith, few, same)
+
+pub check_base-requires : goal.check_base-requires
+check_base-requires c = record { system = refl; known = rw c.requires.base.system c.requires.base.known }
+
+pub returns-in_err-base-clause-err : goal.returns-in_err-base-clause-err
+returns-in_err-base-clause-err c =
+    let t = c.args.table.now in
+    let list = c.args.list.now in
+    let e : map extras_of c.as_slice-extras.result.now ≡ systems_of_question list c.args.asked.now = rw c.as_slice-extras.ensures.value c.in_ok-systems.ensures in
+    let kinds : has_kinds c.args.asked.now c.args.conclusion c.args.proof.now ≡ true = search rules in
+    let numbered : AreNumbersFor (kind_of c.args.asked.now) c.args.conclusion (length c.as_slice-extras.result.now) (map (λ p. p.at) c.as_slice-parts.result.now) = search rules in
+    let exit = err_from_is_err_and c.from_residual-in_err-base.result c.from_residual-in_err-base.ensures.1 in
+    rw (exit.1, exit.2) (base_refused t list c.args.asked.now c.args.conclusion c.args.proof.now c.in_err-base.field-0.0 kinds (counted list c.args.asked.now c.args.conclusion c.args.proof.now c.as_slice-extras.result.now c.as_slice-parts.result.now e c.as_slice-parts.ensures numbered)
+    (subst (λ (s : LinearSystem). RefusesBase s c.args.proof.now.base c.in_err-base.field-0.0) c.requires.base.system c.in_err-base.ensures.err))
+
+pub returns-in_err-check_parts-clause-err : goal.returns-in_err-check_parts-clause-err
+returns-in_err-check_parts-clause-err c =
+    let t = c.args.table.now in
+    let list = c.args.list.now in
+    let e : map extras_of c.as_slice-extras.result.now ≡ systems_of_question list c.args.asked.now = rw c.as_slice-extras.ensures.value c.in_ok-systems.ensures in
+    let kinds : has_kinds c.args.asked.now c.args.conclusion c.args.proof.now ≡ true = search rules in
+    let numbered : AreNumbersFor (kind_of c.args.asked.now) c.args.conclusion (length c.as_slice-extras.result.now) (map (λ p. p.at) c.as_slice-parts.result.now) = search rules in
+    let accepted = subst (λ (s : LinearSystem). IsAcceptedFor s c.args.proof.now.base) c.requires.base.system c.in_ok-base.ensures.ok in
+    let exit = err_from_is_err_and c.from_residual-in_err-check_parts.result c.from_residual-in_err-check_parts.ensures.1 in
+    rw (exit.1, exit.2) (proof_refused {A = Unit {0}} t list c.args.asked.now c.args.conclusion c.args.proof.now c.as_slice-extras.result.now c.as_slice-parts.result.now (Err c.in_err-check_parts.field-0.0) e c.as_slice-parts.ensures kinds numbered (accepted_shows (base_system t list) c.args.proof.now.base accepted) c.in_err-check_parts.ensures.err)
 
 pub returns-clause-ok : goal.returns-clause-ok
 returns-clause-ok c =
-    let e : map extras_of c.as_slice-extras.result.now ≡ systems_of_question c.args.asked.now = rw c.as_slice-extras.ensures.value c.in_ok-systems.ensures in
-    let numbered : AreNumbersFor (asked_of c.args.asked.now).kind c.args.conclusion (length c.as_slice-extras.result.now) (map (λ p. p.at) c.as_slice-parts.result.now) = search rules in
-    proof_accepted c.args.table.now c.args.list.now c.args.asked.now c.args.conclusion c.args.proof.now c.as_slice-extras.result.now c.as_slice-parts.result.now c.check_parts.result e c.as_slice-parts.ensures c.requires.kinds numbered c.in_ok-check_base.ensures.ok c.check_parts.ensures.ok
+    let t = c.args.table.now in
+    let list = c.args.list.now in
+    let e : map extras_of c.as_slice-extras.result.now ≡ systems_of_question list c.args.asked.now = rw c.as_slice-extras.ensures.value c.in_ok-systems.ensures in
+    let kinds : has_kinds c.args.asked.now c.args.conclusion c.args.proof.now ≡ true = search rules in
+    let numbered : AreNumbersFor (kind_of c.args.asked.now) c.args.conclusion (length c.as_slice-extras.result.now) (map (λ p. p.at) c.as_slice-parts.result.now) = search rules in
+    let accepted = subst (λ (s : LinearSystem). IsAcceptedFor s c.args.proof.now.base) c.requires.base.system c.in_ok-base.ensures.ok in
+    proof_accepted {A = Unit {0}} t list c.args.asked.now c.args.conclusion c.args.proof.now c.as_slice-extras.result.now c.as_slice-parts.result.now (Ok tt) e c.as_slice-parts.ensures kinds numbered (accepted_shows (base_system t list) c.args.proof.now.base accepted) c.in_ok-check_parts.ensures.ok
 
-pub returns-clause-err : goal.returns-clause-err
-returns-clause-err c =
-    let e : map extras_of c.as_slice-extras.result.now ≡ systems_of_question c.args.asked.now = rw c.as_slice-extras.ensures.value c.in_ok-systems.ensures in
-    let numbered : AreNumbersFor (asked_of c.args.asked.now).kind c.args.conclusion (length c.as_slice-extras.result.now) (map (λ p. p.at) c.as_slice-parts.result.now) = search rules in
-    proof_refused c.args.table.now c.args.list.now c.args.asked.now c.args.conclusion c.args.proof.now c.as_slice-extras.result.now c.as_slice-parts.result.now c.check_parts.result e c.as_slice-parts.ensures c.requires.kinds numbered c.in_ok-check_base.ensures.ok c.check_parts.ensures.err
+pub returns-clause-base : goal.returns-clause-base
+returns-clause-base c = subst (λ (s : LinearSystem). IsBaseOf s c.in_ok-base.base) c.requires.base.system c.in_ok-base.ensures.base

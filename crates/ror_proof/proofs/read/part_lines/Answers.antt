@@ -3,7 +3,6 @@ use Rattle.std.proofs.lemmas.Result.{err_from_is_err_and}
 use Rattle.std.proofs.lemmas.List.{length_push}
 use Rattle.ror_text.specs.Cursor.{cursor_at}
 use Rattle.ror_proof.specs.Reading.{begins_part, part_lines}
-use Rattle.ror_text.proofs.CursorLemmas.{to_end}
 use Rattle.ror_proof.proofs.Loops.{with_front, parts_go_on, parts_exit, parts_end, begins_some}
 use Rattle.ror_proof.proofs.read.part_lines.Goals as goal
 
@@ -11,7 +10,7 @@ pub returns-in_err-part-clause-exact : goal.returns-in_err-part-clause-exact
 returns-in_err-part-clause-exact c =
     let bytes = c.args.bytes.now in
     let next = c.parts.next in
-    let begins : begins_part (drop next bytes) ≡ true = ap begins_part (sym (to_end bytes next)) ∙ sym c.parts-test.ensures.value in
+    let begins : begins_part (drop next bytes) ≡ true = sym c.parts-test.ensures in
     let some : 0 < length (drop next bytes) = begins_some (drop next bytes) begins in
     let most = length bytes - c.args.from - length c.parts.parts.items in
     let is : most ≡ suc (most - 1) = omega (arith, length-drop next bytes, c.parts.invariant.room) in
@@ -22,7 +21,7 @@ pub parts-preserved : goal.parts-preserved
 parts-preserved c =
     let bytes = c.args.bytes.now in
     let next = c.parts.next in
-    let begins : begins_part (drop next bytes) ≡ true = ap begins_part (sym (to_end bytes next)) ∙ sym c.parts-test.ensures.value in
+    let begins : begins_part (drop next bytes) ≡ true = sym c.parts-test.ensures in
     let some : 0 < length (drop next bytes) = begins_some (drop next bytes) begins in
     let one_more : length c.push.new.self.items ≡ length c.parts.parts.items + 1 = ap length c.in_ok-push.ensures.items ∙ length_push c.parts.parts.items c.in_ok-part.part in
     let most = length bytes - c.args.from - length c.parts.parts.items in
@@ -40,4 +39,4 @@ returns-clause-exact c =
     let bytes = c.args.bytes.now in
     let next = c.parts.next in
     let most = length bytes - c.args.from - length c.parts.parts.items in
-    parts_end most c.parts.parts.items (cursor_at bytes next) (part_lines (length bytes - c.args.from) (cursor_at bytes c.args.from)) (ap begins_part (sym (to_end bytes next)) ∙ sym c.parts-test.ensures.value) c.parts.invariant.reads
+    parts_end most c.parts.parts.items (cursor_at bytes next) (part_lines (length bytes - c.args.from) (cursor_at bytes c.args.from)) (sym c.parts-test.ensures) c.parts.invariant.reads

@@ -1,22 +1,22 @@
-use Rattle.std.proofs.Common.{map, arith}
-use Rattle.std.proofs.lemmas.List.{length-map}
-use Rattle.ror_statement.specs.Statement.{comparison_of}
+use Rattle.std.proofs.Common.{[], ◌∷◌, map, option_to_list, ap, ◌∙◌}
+use Rattle.ror_integers.specs.Vectors.{ones}
+use Rattle.std.specs.List.{flat_map}
+use Rattle.ror_statement.specs.Statements.{comparison_of, class_comparisons}
 use Rattle.ror_rows.specs.Rows.{comparison_of_extra}
-use Rattle.ror_rows.proofs.Building.{system_weak_width, system_strict_width, system_rows_number}
-use Rattle.ror_rows.proofs.Holding.{named_list, named_extra}
+use Rattle.ror_rows.proofs.Building.{extras_named, parts_pushed, parts_weak_width, parts_strict_width, parts_number}
 use Rattle.ror_rows.proofs.rows.system_of.Goals as goal
 
-pub new-requires-clause-weak_widths : goal.new-requires-clause-weak_widths
-new-requires-clause-weak_widths c =
-    system_weak_width c.args.table.now (map comparison_of c.args.list.now) (map comparison_of_extra c.args.extra.now) c.columns.result _ c.columns.ensures.number
-    (named_list c.args.table.now c.args.list.now c.requires.lawful) (named_extra c.args.table.now c.args.extra.now c.requires.named) c.in_ok-rows.ensures.weak
+pub new-requires-2-clause-rows_limit : goal.new-requires-2-clause-rows_limit
+new-requires-2-clause-rows_limit c =
+    let parts = parts_pushed c.args.table.now (flat_map (λ s. option_to_list (comparison_of s)) c.args.list.now) (class_comparisons c.args.list.now) (map comparison_of_extra c.args.extra.now) _ _ _ _ _ _ _ _ c.in_ok-rows.ensures.weak (c.in_ok-rows.ensures.strict ∙ ap (λ n. ones n ∷ []) c.columns.ensures.number) c.in_ok-push_statements.ensures.weak c.in_ok-push_statements.ensures.strict c.in_ok-push_classes.ensures.weak c.in_ok-push_classes.ensures.strict c.in_ok-push_extras.ensures.weak c.in_ok-push_extras.ensures.strict in
+    parts_number c.args.table.now c.args.list.now c.args.extra.now _ _ c.requires.lawful c.requires.few parts.0 parts.1
 
-pub new-requires-clause-strict_widths : goal.new-requires-clause-strict_widths
-new-requires-clause-strict_widths c =
-    system_strict_width c.args.table.now (map comparison_of c.args.list.now) (map comparison_of_extra c.args.extra.now) c.columns.result _ c.columns.ensures.number
-    (named_list c.args.table.now c.args.list.now c.requires.lawful) (named_extra c.args.table.now c.args.extra.now c.requires.named) c.in_ok-rows.ensures.strict
+pub new-requires-2-clause-weak_widths : goal.new-requires-2-clause-weak_widths
+new-requires-2-clause-weak_widths c =
+    let parts = parts_pushed c.args.table.now (flat_map (λ s. option_to_list (comparison_of s)) c.args.list.now) (class_comparisons c.args.list.now) (map comparison_of_extra c.args.extra.now) _ _ _ _ _ _ _ _ c.in_ok-rows.ensures.weak (c.in_ok-rows.ensures.strict ∙ ap (λ n. ones n ∷ []) c.columns.ensures.number) c.in_ok-push_statements.ensures.weak c.in_ok-push_statements.ensures.strict c.in_ok-push_classes.ensures.weak c.in_ok-push_classes.ensures.strict c.in_ok-push_extras.ensures.weak c.in_ok-push_extras.ensures.strict in
+    parts_weak_width c.args.table.now c.args.list.now (map comparison_of_extra c.args.extra.now) _ _ c.columns-2.ensures.number c.requires.lawful.each_valid (extras_named c.args.table.now c.args.extra.now c.requires.named) parts.0
 
-pub new-requires-clause-rows_limit : goal.new-requires-clause-rows_limit
-new-requires-clause-rows_limit c =
-    let number = system_rows_number c.args.table.now (map comparison_of c.args.list.now) (map comparison_of_extra c.args.extra.now) _ _ c.in_ok-rows.ensures.weak c.in_ok-rows.ensures.strict in
-    omega (arith, length-map c.args.list.now comparison_of, length-map c.args.extra.now comparison_of_extra)
+pub new-requires-2-clause-strict_widths : goal.new-requires-2-clause-strict_widths
+new-requires-2-clause-strict_widths c =
+    let parts = parts_pushed c.args.table.now (flat_map (λ s. option_to_list (comparison_of s)) c.args.list.now) (class_comparisons c.args.list.now) (map comparison_of_extra c.args.extra.now) _ _ _ _ _ _ _ _ c.in_ok-rows.ensures.weak (c.in_ok-rows.ensures.strict ∙ ap (λ n. ones n ∷ []) c.columns.ensures.number) c.in_ok-push_statements.ensures.weak c.in_ok-push_statements.ensures.strict c.in_ok-push_classes.ensures.weak c.in_ok-push_classes.ensures.strict c.in_ok-push_extras.ensures.weak c.in_ok-push_extras.ensures.strict in
+    parts_strict_width c.args.table.now c.args.list.now (map comparison_of_extra c.args.extra.now) _ _ c.columns-2.ensures.number c.requires.lawful.each_valid (extras_named c.args.table.now c.args.extra.now c.requires.named) parts.1

@@ -1,8 +1,8 @@
-use Rattle.std.proofs.Common.{rules, ◌≡◌, map, replicate, [], length}
+use Rattle.std.proofs.Common.{rules, ◌≡◌, map, replicate, []}
 use Rattle.ror_bench.proofs.Standing.{all-begin}
 use Rattle.ror_bench.proofs.bench.Bench.new.Goals as goal
 
 pub invariant_of-result : goal.invariant_of-result
 invariant_of-result c =
     let begun : map (λ h. h.state) c.in_ok-desks.desks.items ≡ replicate c.args.desks (record { opening = c.args.input.opening; surviving = [] }) = search rules in
-    all-begin (length c.args.input.table.alternatives) c.args.input.opening c.in_ok-desks.desks.items c.args.desks begun c.requires.lawful
+    all-begin c.args.input.table c.args.input.opening c.in_ok-desks.desks.items c.args.desks begun c.requires.lawful

@@ -1,0 +1,275 @@
+//! The printer of an answer's text.
+
+ghost use Rattle.std.specs.Prelude.{◌≡◌, ◌<◌, [], ◌∷◌, ◌++◌, length, map, codes, IfOk, OnOk};
+ghost use Rattle.std.specs.List.{flat_map};
+ghost use Rattle.ror_text.specs.SpacedLines.{line_text};
+ghost use Rattle.ror_statement.specs.Names.{PairWithin, ScopeWithin, NamesWithin, IsPropertyWithin, IsValidQuestion};
+ghost use Rattle.ror_table.specs.Table.{id_of, criterion_id_of};
+ghost use Rattle.ror_proof.specs.Names.{verdict_name};
+ghost use Rattle.ror_proof.specs.Printing.{spaced};
+ghost use Rattle.ror_proof.specs.Text.{pair_words, scope_words, form_words, property_words, question_words, certificate_words, base_text, part_text, proof_text, place_words, pivot_word, wide_text, verdict_text, head_text, answer_text, IsNarrowVerdict};
+
+use crate::answer::{Answer, Certificate, Part, Pivot, PlaceText, Proof, Verdict, WideText};
+use crate::names::{Name, PlaceName, QuestionName, VerdictName};
+use itoa::{Buffer, Integer};
+use ror_statement::{Form, Pair, Property, Question, Scope};
+use ror_table::Table;
+use std::alloc::{AllocError, Global};
+
+/// The text of an answer. It asks that the question is valid for the table, and that every number
+/// of a certificate is of absolute value at most 2^127 - 1, so that the text is read again.
+#[tactic(auto, unfolding(crate::specs::Text::answer_text))]
+pub fn print_answer(alloc: Global, table: &Table, answer: &Answer) -> Result<Vec<u8>, AllocError>
+    requires valid { IsValidQuestion (length table.now.alternatives) (length table.now.criteria)
+        table.now.classes answer.now.question }
+    requires narrow { IsNarrowVerdict answer.now.verdict }
+    ensures { IfOk result (λ text. text.items ≡ answer_text table.now answer.now) }
+{
+    let mut text = Vec::new(alloc);
+    write_head(&mut text, table, answer)?;
+    write_verdict(&mut text, &answer.verdict)?;
+    Ok(text)
+}
+
+/// The line of the question and the verdict.
+fn write_head(text: &mut Vec<u8>, table: &Table, answer: &Answer) -> Result<(), AllocError>
+    requires { IsValidQuestion (length table.now.alternatives) (length table.now.criteria)
+        table.now.classes answer.now.question }
+    ensures { OnOk result (text.new.items ≡ text.old.items
+        ++ head_text table.now answer.now.question (verdict_name answer.now.verdict)) }
+{
+    text.extend_from_slice(b"answer")?;
+    write_question(text, table, answer.question)?;
+    write_word(text, VerdictName::of(&answer.verdict).word())?;
+    end_line(text)
+}
+
+/// The words of a question.
+fn write_question(text: &mut Vec<u8>, table: &Table, question: Question) -> Result<(), AllocError>
+    requires { IsValidQuestion (length table.now.alternatives) (length table.now.criteria)
+        table.now.classes question }
+    ensures { OnOk result (text.new.items
+        ≡ text.old.items ++ spaced (question_words table.now question)) }
+{
+    write_word(text, QuestionName::of(question).word())?;
+    write_property(text, table, question.property())
+}
+
+/// The words of what a question asks of a value function.
+fn write_property(text: &mut Vec<u8>, table: &Table, property: Property) -> Result<(), AllocError>
+    requires { IsPropertyWithin (length table.now.alternatives) (length table.now.criteria)
+        table.now.classes property }
+    ensures { OnOk result (text.new.items
+        ≡ text.old.items ++ spaced (property_words table.now property)) }
+{
+    match property {
+        Property::Compatible => Ok(()),
+        Property::AtLeast(form) => write_form(text, table, form),
+        Property::InClass(alternative, class) => {
+            write_alternative(text, table, alternative)?;
+            write_number(text, class)
+        }
+    }
+}
+
+fn write_form(text: &mut Vec<u8>, table: &Table, form: Form) -> Result<(), AllocError>
+    requires { NamesWithin (length table.now.alternatives) (length table.now.criteria) form }
+    ensures { OnOk result (text.new.items ≡ text.old.items ++ spaced (form_words table.now form)) }
+{
+    match form {
+        Form::Value(first, second) => write_pair(text, table, Pair { first, second }),
+        Form::Strength(first, second, scope) => {
+            write_pair(text, table, first)?;
+            write_pair(text, table, second)?;
+            write_scope(text, table, scope)
+        }
+    }
+}
+
+fn write_pair(text: &mut Vec<u8>, table: &Table, pair: Pair) -> Result<(), AllocError>
+    requires { PairWithin (length table.now.alternatives) pair }
+    ensures { OnOk result (text.new.items ≡ text.old.items ++ spaced (pair_words table.now pair)) }
+{
+    write_alternative(text, table, pair.first)?;
+    write_alternative(text, table, pair.second)
+}
+
+fn write_scope(text: &mut Vec<u8>, table: &Table, scope: Scope) -> Result<(), AllocError>
+    requires { ScopeWithin (length table.now.criteria) scope }
+    ensures { OnOk result (text.new.items
+        ≡ text.old.items ++ spaced (scope_words table.now scope)) }
+{
+    match scope {
+        Scope::Whole => Ok(()),
+        Scope::One(criterion) => {
+            write_word(text, b"on")?;
+            write_criterion(text, table, criterion)
+        }
+    }
+}
+
+fn write_alternative(
+    text: &mut Vec<u8>,
+    table: &Table,
+    alternative: usize,
+) -> Result<(), AllocError>
+    requires { alternative < length table.now.alternatives }
+    ensures { OnOk result (text.new.items
+        ≡ text.old.items ++ 32 ∷ id_of table.now alternative) }
+{
+    write_word(text, table.alternative_id(alternative).as_bytes())
+}
+
+fn write_criterion(text: &mut Vec<u8>, table: &Table, criterion: usize) -> Result<(), AllocError>
+    requires { criterion < length table.now.criteria }
+    ensures { OnOk result (text.new.items
+        ≡ text.old.items ++ 32 ∷ criterion_id_of table.now criterion) }
+{
+    write_word(text, table.criterion_id(criterion).as_bytes())
+}
+
+/// What follows the line of the question.
+fn write_verdict(text: &mut Vec<u8>, verdict: &Verdict) -> Result<(), AllocError>
+    ensures { OnOk result (text.new.items ≡ text.old.items ++ verdict_text verdict.now) }
+{
+    match verdict {
+        Verdict::Yes(proof) | Verdict::No(proof) | Verdict::Contradiction(proof) => {
+            write_proof(text, proof)
+        }
+        Verdict::Wide { system, note } => write_wide(text, *system, note),
+    }
+}
+
+/// The line of the base, and a line for each part.
+fn write_proof(text: &mut Vec<u8>, proof: &Proof) -> Result<(), AllocError>
+    ensures { OnOk result (text.new.items ≡ text.old.items ++ proof_text proof.now) }
+{
+    write_base(text, &proof.base)?;
+    write_parts(text, proof.parts.as_slice())
+}
+
+fn write_base(text: &mut Vec<u8>, base: &Certificate) -> Result<(), AllocError>
+    ensures { OnOk result (text.new.items ≡ text.old.items ++ base_text base.now) }
+{
+    text.extend_from_slice(b"base")?;
+    write_certificate(text, base)?;
+    end_line(text)
+}
+
+fn write_parts(text: &mut Vec<u8>, parts: &[Part]) -> Result<(), AllocError>
+    ensures { OnOk result (text.new.items ≡ text.old.items ++ flat_map part_text parts.now) }
+{
+    'parts: for part in parts {
+        write_part(text, part)?;
+    }
+    Ok(())
+}
+
+fn write_part(text: &mut Vec<u8>, part: &Part) -> Result<(), AllocError>
+    ensures { OnOk result (text.new.items ≡ text.old.items ++ part_text part.now) }
+{
+    text.extend_from_slice(b"part")?;
+    write_number(text, part.at)?;
+    write_certificate(text, &part.body)?;
+    end_line(text)
+}
+
+fn write_certificate(text: &mut Vec<u8>, certificate: &Certificate) -> Result<(), AllocError>
+    ensures { OnOk result (text.new.items
+        ≡ text.old.items ++ spaced (certificate_words certificate.now)) }
+{
+    match certificate {
+        Certificate::Solution(solution) => {
+            write_word(text, b"solution")?;
+            write_numbers(text, solution.steps.as_slice())
+        }
+        Certificate::Multipliers(multipliers) => {
+            write_word(text, b"multipliers")?;
+            write_numbers(text, multipliers.weak.as_slice())?;
+            write_word(text, b"|")?;
+            write_numbers(text, multipliers.strict.as_slice())
+        }
+    }
+}
+
+/// The line of a number too wide.
+fn write_wide(text: &mut Vec<u8>, system: u32, note: &WideText) -> Result<(), AllocError>
+    ensures { OnOk result (text.new.items ≡ text.old.items ++ wide_text system note.now) }
+{
+    text.extend_from_slice(b"wide")?;
+    write_number(text, system)?;
+    write_place(text, note.place)?;
+    write_word(text, b"path")?;
+    write_pivots(text, note.path.as_slice())?;
+    end_line(text)
+}
+
+fn write_place(text: &mut Vec<u8>, place: PlaceText) -> Result<(), AllocError>
+    ensures { OnOk result (text.new.items ≡ text.old.items ++ spaced (place_words place)) }
+{
+    write_word(text, PlaceName::of(place).word())?;
+    match place {
+        PlaceText::Start(row, column) | PlaceText::Step(row, column) => {
+            write_number(text, row)?;
+            write_number(text, column)
+        }
+        PlaceText::Denominator(row) | PlaceText::RowSum(row) => write_number(text, row),
+        PlaceText::ColumnSum(column) => write_number(text, column),
+    }
+}
+
+fn write_pivots(text: &mut Vec<u8>, pivots: &[Pivot]) -> Result<(), AllocError>
+    ensures { OnOk result (text.new.items
+        ≡ text.old.items ++ spaced (map pivot_word pivots.now)) }
+{
+    'pivots: for pivot in pivots {
+        write_pivot(text, *pivot)?;
+    }
+    Ok(())
+}
+
+fn write_pivot(text: &mut Vec<u8>, pivot: Pivot) -> Result<(), AllocError>
+    ensures { OnOk result (text.new.items ≡ text.old.items ++ 32 ∷ pivot_word pivot) }
+{
+    write_number(text, pivot.column)?;
+    text.push(b':')?;
+    write_digits(text, pivot.row)
+}
+
+fn write_numbers<N: Integer + Drop>(text: &mut Vec<u8>, numbers: &[N]) -> Result<(), AllocError>
+    ensures { OnOk result (text.new.items ≡ text.old.items ++ spaced (map N.text numbers.now)) }
+{
+    'numbers: for number in numbers {
+        write_number(text, *number)?;
+    }
+    Ok(())
+}
+
+/// A number, as the next word of a line.
+fn write_number<N: Integer>(text: &mut Vec<u8>, number: N) -> Result<(), AllocError>
+    ensures { OnOk result (text.new.items ≡ text.old.items ++ 32 ∷ N.text number) }
+{
+    text.push(b' ')?;
+    write_digits(text, number)
+}
+
+fn write_digits<N: Integer>(text: &mut Vec<u8>, number: N) -> Result<(), AllocError>
+    ensures { OnOk result (text.new.items ≡ text.old.items ++ N.text number) }
+{
+    text.extend_from_slice(Buffer::new().format(number).as_bytes())
+}
+
+/// The next word of a line.
+fn write_word(text: &mut Vec<u8>, word: &[u8]) -> Result<(), AllocError>
+    ensures { OnOk result (text.new.items ≡ text.old.items ++ 32 ∷ word.now) }
+{
+    text.push(b' ')?;
+    text.extend_from_slice(word)
+}
+
+fn end_line(text: &mut Vec<u8>) -> Result<(), AllocError>
+    ensures { OnOk result (text.new.items ≡ text.old.items ++ 10 ∷ []) }
+{
+    text.push(b'\n')?;
+    Ok(())
+}

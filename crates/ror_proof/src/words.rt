@@ -1,0 +1,179 @@
+//! The words of a line, read one by one.
+
+ghost use Rattle.std.specs.Prelude.{◌≡◌, ◌==◌, MatchOption, IfErr, position};
+ghost use Rattle.ror_text.specs.Numbers.{number_of, small_number_of};
+ghost use Rattle.ror_text.specs.Reading.{Gives};
+ghost use Rattle.ror_proof.specs.Words as spec;
+ghost use Rattle.ror_proof.specs.Reading.{proof_fault, IsProofFaultWithin};
+
+use crate::answer::Pivot;
+use crate::names::{Name, named};
+use crate::read::ProofFault;
+use ror_text::numbers::{read_number, read_small_number};
+use ror_text::reading::{need, refuse_if};
+use ror_text::spaced::Words;
+use std::alloc::Global;
+
+/// The words after one that has to come first.
+#[tactic(auto, unfolding(crate::specs::Words::after_word))]
+pub fn after_word<'a>(
+    place: usize,
+    expected: &[u8],
+    words: Words<'a>,
+) -> Result<Words<'a>, ProofFault>
+    ensures exact { Gives (λ rest. rest) proof_fault result
+        (spec.after_word place expected.now words.entry) }
+    ensures placed { IfErr result (IsProofFaultWithin place) }
+{
+    match words.next() {
+        Some((word, rest)) if word == expected => Ok(rest),
+        _ => Err(ProofFault::BadLine(place)),
+    }
+}
+
+/// Which of these the first word stands for.
+#[tactic(auto, unfolding(crate::specs::Words::name_at))]
+pub fn name_at<'a, N: Name + Drop>(
+    names: &[N],
+    place: usize,
+    words: Words<'a>,
+) -> Result<(N, Words<'a>), ProofFault>
+    ensures exact { Gives (λ x. (x.0, x.1)) proof_fault result
+        (spec.name_at N.word_of names.now place words.entry) }
+    ensures placed { IfErr result (IsProofFaultWithin place) }
+{
+    match words.next() {
+        Some((word, rest)) => {
+            let name = need(named(names, word), ProofFault::BadLine(place))?;
+            Ok((name, rest))
+        }
+        None => Err(ProofFault::BadLine(place)),
+    }
+}
+
+/// That no word is left.
+pub fn no_more(place: usize, words: Words<'_>) -> Result<(), ProofFault>
+    ensures exact { Gives (λ _. tt) proof_fault result (spec.no_more place words.entry) }
+    ensures placed { IfErr result (IsProofFaultWithin place) }
+{
+    match words.next() {
+        Some(_) => Err(ProofFault::BadLine(place)),
+        None => Ok(()),
+    }
+}
+
+/// The count, the place or the system that comes first.
+#[tactic(auto, unfolding(crate::specs::Words::small_number_at))]
+pub fn small_number_at<'a>(place: usize, words: Words<'a>) -> Result<(u32, Words<'a>), ProofFault>
+    ensures exact { Gives (λ x. (x.0, x.1)) proof_fault result
+        (spec.small_number_at place words.entry) }
+    ensures placed { IfErr result (IsProofFaultWithin place) }
+{
+    match words.next() {
+        Some((word, rest)) => Ok((small_number_in(place, word)?, rest)),
+        None => Err(ProofFault::BadLine(place)),
+    }
+}
+
+/// The numbers up to the end of the line.
+pub fn numbers_at(alloc: Global, place: usize, words: Words<'_>) -> Result<Vec<i128>, ProofFault>
+    ensures exact { Gives (λ numbers. numbers.items) proof_fault result
+        (spec.numbers_at place words.entry) }
+    ensures placed { IfErr result (IsProofFaultWithin place) }
+{
+    let mut numbers = Vec::new(alloc);
+    let mut left = words;
+    'numbers: while let Some((word, rest)) = left.next() {
+        let number = number_in(place, word)?;
+        numbers.push(number)?;
+        left = rest;
+    }
+    Ok(numbers)
+}
+
+/// The numbers before a bar, and the words after it.
+pub fn numbers_before_bar<'a>(
+    alloc: Global,
+    place: usize,
+    words: Words<'a>,
+) -> Result<(Vec<i128>, Words<'a>), ProofFault>
+    ensures exact { Gives (λ x. (x.0.items, x.1)) proof_fault result
+        (spec.numbers_before_bar place words.entry) }
+    ensures placed { IfErr result (IsProofFaultWithin place) }
+{
+    let mut numbers = Vec::new(alloc);
+    let mut left = words;
+    'numbers: while let Some((word, rest)) = left.next() {
+        if word == b"|".as_slice() {
+            return Ok((numbers, rest));
+        }
+        let number = number_in(place, word)?;
+        numbers.push(number)?;
+        left = rest;
+    }
+    Err(ProofFault::BadLine(place))
+}
+
+/// The pivots up to the end of the line.
+pub fn pivots_at(alloc: Global, place: usize, words: Words<'_>) -> Result<Vec<Pivot>, ProofFault>
+    ensures exact { Gives (λ pivots. pivots.items) proof_fault result
+        (spec.pivots_at place words.entry) }
+    ensures placed { IfErr result (IsProofFaultWithin place) }
+{
+    let mut pivots = Vec::new(alloc);
+    let mut left = words;
+    'pivots: while let Some((word, rest)) = left.next() {
+        let pivot = pivot_in(place, word)?;
+        pivots.push(pivot)?;
+        left = rest;
+    }
+    Ok(pivots)
+}
+
+/// The number that a word says.
+fn number_in(place: usize, word: &[u8]) -> Result<i128, ProofFault>
+    ensures exact { Gives (λ number. number) proof_fault result
+        (spec.number_in number_of place word.now) }
+    ensures placed { IfErr result (IsProofFaultWithin place) }
+{
+    refuse_if(word.is_empty(), ProofFault::BadLine(place))?;
+    need(read_number(word), ProofFault::BadNumber(place))
+}
+
+/// The small number that a word says.
+fn small_number_in(place: usize, word: &[u8]) -> Result<u32, ProofFault>
+    ensures exact { Gives (λ number. number) proof_fault result
+        (spec.number_in small_number_of place word.now) }
+    ensures placed { IfErr result (IsProofFaultWithin place) }
+{
+    refuse_if(word.is_empty(), ProofFault::BadLine(place))?;
+    need(read_small_number(word), ProofFault::BadNumber(place))
+}
+
+/// The pivot that a word says.
+#[tactic(auto, unfolding(crate::specs::Words::pivot_in))]
+fn pivot_in(place: usize, word: &[u8]) -> Result<Pivot, ProofFault>
+    ensures exact { Gives (λ pivot. pivot) proof_fault result (spec.pivot_in place word.now) }
+    ensures placed { IfErr result (IsProofFaultWithin place) }
+{
+    let (column, row) = need(split_pivot(word), ProofFault::BadLine(place))?;
+    let column = need(read_small_number(column), ProofFault::BadLine(place))?;
+    let row = need(read_small_number(row), ProofFault::BadLine(place))?;
+    Ok(Pivot { column, row })
+}
+
+/// The bytes before the first colon, and those after it.
+fn split_pivot(word: &[u8]) -> Option<(&[u8], &[u8])>
+    ensures { MatchOption result (spec.split_pivot word.now ≡ None)
+        (λ x. spec.split_pivot word.now ≡ Some (x.0.now, x.1.now)) }
+{
+    let end = colon(word)?;
+    Some((&word[..end], &word[end + 1..]))
+}
+
+/// The place of the first colon.
+fn colon(word: &[u8]) -> Option<usize>
+    ensures { result ≡ position (λ byte. byte == 58) word.now }
+{
+    word.iter().position(|byte| *byte == b':')
+}

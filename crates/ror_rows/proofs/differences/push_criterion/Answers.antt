@@ -1,0 +1,11 @@
+use Rattle.ror_rows.specs.Steps.{entry_at}
+use Rattle.std.proofs.Common.{FitsSigned, rules, ◌∙◌}
+use Rattle.std.specs.Int.{w128}
+use Rattle.std.proofs.lemmas.Int.{to_z-of_z}
+use Rattle.ror_rows.proofs.FormLemmas.{steps_more}
+use Rattle.ror_rows.proofs.differences.push_criterion.Goals as goal
+
+pub loop-step-preserved : goal.loop-step-preserved
+loop-step-preserved c =
+    let fits : FitsSigned w128 c.entry_of.result = search rules in
+    steps_more (entry_at c.args.ranks) c.loop-step.step c.args.row.now.items c.loop-step.row.items c.push.new.self.items _ c.loop-step.invariant c.in_ok-push.ensures.items (to_z-of_z w128 _ fits ∙ c.entry_of.ensures)
