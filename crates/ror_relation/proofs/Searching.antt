@@ -1,0 +1,93 @@
+-- What each step of a search leaves to the next.
+use Rattle.std.proofs.Common.{◌≡◌, ℕ, zero, suc, ◌+◌, ◌<◌, ◌≤◌, List, [], ◌∷◌, ◌++◌, length, map, get_or, Some, refl, sym, ap, subst, ◌∙◌, arith, inl, inr}
+use Rattle.std.proofs.lemmas.Bool.{cases_lt}
+use Rattle.std.proofs.lemmas.List.{map-append, length-map}
+use Rattle.std.proofs.lemmas.Option.{slice_get_read}
+use Rattle.std.specs.Prelude.{slice_get}
+use Rattle.std.specs.List.{AllByRecursion, range_with_len}
+use Rattle.smallvec.specs.SmallVec.{SmallVec}
+use Rattle.ror_text.proofs.Everywhere.{all-append, all-map, all_at}
+use Rattle.ror_statement.specs.declared.statement.Statement.{Statement}
+use Rattle.ror_statement.specs.declared.question.Conclusion.{Conclusion}
+use Rattle.ror_statement.specs.declared.question.Conclusion.TheVariants as conclusions
+use Rattle.ror_table.specs.Table.{DecisionTable}
+use Rattle.ror_system.specs.System.{LinearSystem, IsSolvable}
+use Rattle.ror_system.specs.declared.accept.Multipliers.{Multipliers}
+use Rattle.ror_system.proofs.Motzkin.{not_both}
+use Rattle.ror_value.specs.Over.{IsNamedIn}
+use Rattle.ror_rows.specs.declared.extra.Extra.{Extra}
+use Rattle.ror_rows.specs.Rows.{system_for, comparison_of_extra, extras_of}
+use Rattle.ror_proof.specs.declared.answer.Certificate.{Certificate}
+use Rattle.ror_proof.specs.declared.answer.Certificate.TheVariants as certificates
+use Rattle.ror_proof.specs.declared.answer.Part.{Part}
+use Rattle.ror_proof.specs.declared.answer.WideText.{WideText}
+use Rattle.ror_relation.specs.declared.decision.Decision.{Decision}
+use Rattle.ror_relation.specs.declared.decision.Decision.TheVariants as decisions
+use Rattle.ror_relation.specs.Wide.{HasNoteAt}
+use Rattle.ror_relation.specs.Decisions.{ShowsAsBase, IsDecision, NoneSolvableBelow, IsPartOf, AreRefuted, IsWideSystem, AreUsable}
+
+-- ---- the system at hand
+
+some_same : {X : Type 0} {x y : X} → Some x ≡ Some y → x ≡ y
+some_same e = cc
+
+pub system_here : (t : DecisionTable) (list : List Statement) (systems : List (SmallVec Extra)) (i : ℕ) (extra : SmallVec Extra) → i < length systems → extra ≡ get_or systems i extra
+    → slice_get (map (system_for t list) (map extras_of systems)) i ≡ Some (system_for t list (extras_of extra))
+system_here t list systems i extra within is =
+    at_mapped (system_for t list) (map extras_of systems) i (extras_of extra) (at_mapped extras_of systems i extra (slice_get_read systems (length systems) i extra refl within is))
+  where
+    at_mapped : {X Y : Type 0} (f : X → Y) (xs : List X) (i : ℕ) (x : X) → slice_get xs i ≡ Some x → slice_get (map f xs) i ≡ Some (f x)
+    at_mapped f [] i x there = absurd cc
+    at_mapped f (y ∷ ys) zero x there = ap (λ z. Some (f z)) (some_same there)
+    at_mapped f (y ∷ ys) (suc i) x there = at_mapped f ys i x there
+
+pub usable_here : (t : DecisionTable) (systems : List (SmallVec Extra)) (i : ℕ) (extra : SmallVec Extra) → AllByRecursion (AreUsable t) (map extras_of systems) → i < length systems → extra ≡ get_or systems i extra
+    → (length extra.items ≤ 200) × AllByRecursion (λ e. IsNamedIn t e.form) extra.items
+usable_here t systems i extra all within is =
+    let usable = all_at (λ e. AreUsable t (extras_of e)) systems i extra ((all-map (AreUsable t) extras_of systems).1 all) (slice_get_read systems (length systems) i extra refl within is) in
+    let few = usable.0 in
+    (omega (arith, length-map extra.items comparison_of_extra, few), (all-map (λ c. IsNamedIn t c.form) comparison_of_extra extra.items).1 usable.1)
+
+pub wide_decided : (most : ℕ) (t : DecisionTable) (list : List Statement) (extra : SmallVec Extra) (rows : List Extra) (d : Decision) (note : WideText) → rows ≡ extra.items → IsDecision most (system_for t list (map comparison_of_extra rows)) d → d ≡ decisions.TooWide note
+    → HasNoteAt most (system_for t list (extras_of extra)) note
+wide_decided most t list extra rows d note is decided wide =
+    let P : List Extra → Decision → Type 0 = λ rows d. IsDecision most (system_for t list (map comparison_of_extra rows)) d in
+    subst (λ (rows : List Extra). P rows (decisions.TooWide note)) is (subst (λ (d : Decision). P rows d) wide decided)
+
+-- ---- parts
+
+pub part_here : (most : ℕ) (c : Conclusion) (systems : List LinearSystem) (i : ℕ) (s : LinearSystem) (x : Certificate) → slice_get systems i ≡ Some s → ShowsAsBase most c s x → IsPartOf most c systems (record { at = i + 1; body = x })
+part_here most c systems i s x there shows = record {
+  shown = record { system = s; before = i; counted = refl; there = there; shown = shows.0 };
+  narrow = shows.1;
+}
+
+pub wide_here : (most : ℕ) (systems : List LinearSystem) (i : ℕ) (s : LinearSystem) (note : WideText) → slice_get systems i ≡ Some s → HasNoteAt most s note → NoneSolvableBelow systems i → IsWideSystem most systems (i + 1) note
+wide_here most systems i s note there noted none = record { before = i; counted = refl; system = s; there = there; noted = noted; none_solvable = none }
+
+none_more : (systems : List LinearSystem) (i : ℕ) (s : LinearSystem) → slice_get systems i ≡ Some s → (IsSolvable s → ⊥) → NoneSolvableBelow systems i → NoneSolvableBelow systems (i + 1)
+none_more systems i s there refuted none j s' less at can =
+    elim (cases_lt j i) [
+      | inl lt ↦ none j s' lt at can
+      | inr le ↦
+          let is : j ≡ i = omega arith in
+          let same : s' ≡ s = some_same (sym at ∙ rw is there) in
+          refuted (subst IsSolvable same can)
+    ]
+
+pub refuted_more : (most : ℕ) (systems : List LinearSystem) (i : ℕ) (s : LinearSystem) (m : Multipliers) (parts : List Part) → AreRefuted most systems i parts → slice_get systems i ≡ Some s
+    → ShowsAsBase most conclusions.Contradiction s (certificates.Multipliers m) → AreRefuted most systems (i + 1) (parts ++ record { at = i + 1; body = certificates.Multipliers m } ∷ [])
+refuted_more most systems i s m parts so_far there shows = record {
+  numbered =
+      let p : Part = record { at = i + 1; body = certificates.Multipliers m } in
+      map-append (λ (p : Part). p.at) parts (p ∷ []) ∙ ap (λ (ns : List ℕ). ns ++ (i + 1) ∷ []) so_far.numbered ∙ sym (range_more i);
+  each = all-append (IsPartOf most conclusions.Contradiction systems) parts _ so_far.each (part_here most conclusions.Contradiction systems i s (certificates.Multipliers m) there shows, tt);
+  none_solvable = none_more systems i s there (λ can. not_both s m.weak m.strict shows.0.refute can) so_far.none_solvable;
+}
+  where
+    range_from : (a n k : ℕ) → k ≡ a + n → range_with_len a (suc n) ≡ range_with_len a n ++ k ∷ []
+    range_from a zero k is = let same : a ≡ k = omega arith in ap (λ (x : ℕ). x ∷ []) same
+    range_from a (suc n) k is = ap (λ (ns : List ℕ). a ∷ ns) (range_from (a + 1) n k (omega arith))
+
+    range_more : (n : ℕ) → range_with_len 1 (n + 1) ≡ range_with_len 1 n ++ (n + 1) ∷ []
+    range_more n = let step : suc n ≡ n + 1 = omega arith in subst (λ (m : ℕ). range_with_len 1 m ≡ range_with_len 1 n ++ (n + 1) ∷ []) step (range_from 1 n (n + 1) (omega arith))

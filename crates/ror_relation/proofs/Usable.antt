@@ -1,0 +1,44 @@
+-- The systems of a question are few, and add few rows, each of what the table has.
+use Rattle.std.proofs.Common.{◌≡◌, ◌≤◌, List, [], ◌∷◌, length, map, ap, sym, subst, arith}
+use Rattle.std.proofs.lemmas.List.{length-map}
+use Rattle.std.specs.List.{AllByRecursion}
+use Rattle.smallvec.specs.SmallVec.{SmallVec}
+use Rattle.ror_text.proofs.Everywhere.{all-map}
+use Rattle.ror_statement.specs.declared.statement.Statement.{Statement}
+use Rattle.ror_statement.specs.declared.comparison.Comparison.{Comparison}
+use Rattle.ror_statement.specs.declared.question.QuestionKind.{QuestionKind}
+use Rattle.ror_statement.specs.declared.question.QuestionKind.TheVariants.{Plain, Any, Every}
+use Rattle.ror_statement.specs.declared.question.Question.{Question}
+use Rattle.ror_statement.specs.Questions.{kind_of, property_of}
+use Rattle.ror_table.specs.Table.{DecisionTable}
+use Rattle.ror_value.specs.Over.{IsNamedIn, IsLawfulIn, IsAskedIn}
+use Rattle.ror_rows.specs.declared.extra.Extra.{Extra}
+use Rattle.ror_rows.specs.Rows.{comparison_of_extra, extras_of, negation_of, conditions_of, systems_by, systems_of_question}
+use Rattle.ror_rows.proofs.Building.{turned-named}
+use Rattle.ror_rows.proofs.Deciding.{conditions_few, conditions_named}
+use Rattle.ror_relation.specs.Decisions.{AreUsable}
+
+usable_by : (t : DecisionTable) (k : QuestionKind) (es : List Extra) → length es ≤ 200 → AllByRecursion (λ e. IsNamedIn t e.form) es → AllByRecursion (AreUsable t) (map (map comparison_of_extra) (systems_by k es))
+usable_by t Plain es few named = tt
+usable_by t Any es few named = ((omega (arith, length-map es comparison_of_extra, few), (all-map (λ c. IsNamedIn t c.form) comparison_of_extra es).0 named), tt)
+usable_by t Every es few named = each es named
+  where
+    each : (es : List Extra) → AllByRecursion (λ e. IsNamedIn t e.form) es → AllByRecursion (AreUsable t) (map (map comparison_of_extra) (systems_by Every es))
+    each [] named = tt
+    each (e ∷ es) named = ((omega arith, (turned-named t e.form named.0, tt)), each es named.1)
+
+few_by : (k : QuestionKind) (es : List Extra) → length es ≤ 200 → length (systems_by k es) ≤ 200
+few_by Plain es few = omega arith
+few_by Any es few = omega arith
+few_by Every es few = omega (arith, length-map es (λ e. negation_of e ∷ []), few)
+
+pub usable : (t : DecisionTable) (list : List Statement) (q : Question) (systems : List (SmallVec Extra)) → IsLawfulIn t list → IsAskedIn t q → map extras_of systems ≡ systems_of_question list q → AllByRecursion (AreUsable t) (map extras_of systems)
+usable t list q systems lawful asked are =
+    let es = conditions_of list (property_of q) in
+    subst (λ (s : List (List Comparison)). AllByRecursion (AreUsable t) s) (sym are) (usable_by t (kind_of q) es (conditions_few t list (property_of q) lawful) (conditions_named t list (property_of q) lawful asked))
+
+pub few : (t : DecisionTable) (list : List Statement) (q : Question) (systems : List (SmallVec Extra)) → IsLawfulIn t list → map extras_of systems ≡ systems_of_question list q → length systems ≤ 200
+few t list q systems lawful are =
+    let es = conditions_of list (property_of q) in
+    let bound = few_by (kind_of q) es (conditions_few t list (property_of q) lawful) in
+    omega (arith, length-map systems extras_of, ap length are, length-map (systems_by (kind_of q) es) (map comparison_of_extra), bound)

@@ -1,0 +1,181 @@
+//! The calls that decide questions.
+
+ghost use Rattle.std.specs.Prelude.{◌≡◌, IfOk};
+ghost use Rattle.std.specs.List.{AllByRecursion, AllZip};
+ghost use Rattle.ror_pivot.specs.Answers.{most_of};
+ghost use Rattle.ror_value.specs.Over.{IsLawfulIn, IsAskedIn};
+ghost use Rattle.ror_check.specs.Proof.{base_system, IsAllowedAnswer};
+ghost use Rattle.ror_relation.specs.Wide.{HasNoteAt};
+ghost use Rattle.ror_relation.specs.Answers.{IsVerdictWithin, IsWideOrTrue, IsGiven};
+ghost use Rattle.ror_relation.specs.Decisions.{IsDecision, IsGivenVerdict, verdict_of};
+
+use crate::decision::{Decision, decide_system};
+use crate::search::{Search, first_solvable};
+use crate::wide::copied_note;
+use ror_pivot::Bits;
+use ror_proof::{Answer, Certificate, Part, Proof, Verdict};
+use ror_rows::question_systems;
+use ror_statement::{Question, QuestionKind, Statement, kind_of};
+use ror_system::{Multipliers, Solution};
+use ror_table::Table;
+use ror_text::Items;
+use std::alloc::{AllocError, Global};
+
+/// Answers a question over all value functions that are compatible with the statements. Systems are decided at this width:
+/// first the base, that of the statements alone, then those of the question in order, up to the first that settles it. A
+/// verdict has a proof that `ror_check` accepts; a system with too wide a number ends the search, and the answer names it
+/// and concludes nothing.
+///
+/// It asks a lawful list and a valid question. Its one error is want of memory.
+pub fn decide(
+    alloc: Global,
+    table: &Table,
+    list: &[Statement],
+    q: &Question,
+    bits: Bits,
+) -> Result<Answer, AllocError>
+    requires lawful { IsLawfulIn table.now list.now }
+    requires asked { IsAskedIn table.now q.now }
+    ensures allowed { IfOk result
+        (IsAllowedAnswer (HasNoteAt (most_of bits)) table.now list.now q.now) }
+    ensures narrow { IfOk result (λ x. IsVerdictWithin (most_of bits) x.verdict) }
+    ensures true_answer { IfOk result (λ x. IsWideOrTrue table.now list.now q.now x.verdict) }
+{
+    let base = decide_system(alloc, table, list, &[], bits)?;
+    answer_over(alloc, table, list, &base, q, bits)
+}
+
+/// Answers each of these questions as `decide` does, in order. The base is decided once.
+pub fn decide_each(
+    alloc: Global,
+    table: &Table,
+    list: &[Statement],
+    questions: &[Question],
+    bits: Bits,
+) -> Result<Vec<Answer>, AllocError>
+    requires lawful { IsLawfulIn table.now list.now }
+    requires asked { AllByRecursion (IsAskedIn table.now) questions.now }
+    ensures { IfOk result (λ answers.
+        AllZip (IsGiven (most_of bits) table.now list.now) questions.now answers.items) }
+{
+    let base = decide_system(alloc, table, list, &[], bits)?;
+    let mut answers = Vec::with_capacity(alloc, questions.len())?;
+    for question in questions {
+        answers.push(answer_over(alloc, table, list, &base, question, bits)?)?;
+    }
+    Ok(answers)
+}
+
+/// Answers the question, where the base comes to this.
+fn answer_over(
+    alloc: Global,
+    table: &Table,
+    list: &[Statement],
+    base: &Decision,
+    question: &Question,
+    bits: Bits,
+) -> Result<Answer, AllocError>
+    requires lawful { IsLawfulIn table.now list.now }
+    requires asked { IsAskedIn table.now question.now }
+    requires base { IsDecision (most_of bits) (base_system table.now list.now) base.now }
+    ensures { IfOk result (IsGiven (most_of bits) table.now list.now question.now) }
+{
+    let verdict = match base {
+        Decision::Solvable(solution) => {
+            verdict_over(alloc, table, list, solution, question, bits)?
+        }
+        Decision::NotSolvable(multipliers) => Verdict::Contradiction(Proof {
+            base: Certificate::Multipliers(copied_multipliers(alloc, multipliers)?),
+            parts: Items::from(Vec::new(alloc)),
+        }),
+        Decision::TooWide(note) => Verdict::Wide {
+            system: 0,
+            note: copied_note(alloc, note)?,
+        },
+    };
+    Ok(Answer {
+        question: *question,
+        verdict,
+    })
+}
+
+/// The verdict on the question, where the base has this solution.
+fn verdict_over(
+    alloc: Global,
+    table: &Table,
+    list: &[Statement],
+    base: &Solution,
+    question: &Question,
+    bits: Bits,
+) -> Result<Verdict, AllocError>
+    requires lawful { IsLawfulIn table.now list.now }
+    requires asked { IsAskedIn table.now question.now }
+    requires base { IsDecision (most_of bits) (base_system table.now list.now)
+        (Decision.Solvable base.now) }
+    ensures { IfOk result (IsGivenVerdict (most_of bits) table.now list.now question.now) }
+{
+    let systems = question_systems(alloc, table, list, question)?;
+    let search = first_solvable(alloc, table, list, systems.as_slice(), bits)?;
+    let base = Certificate::Solution(copied_solution(alloc, base)?);
+    concluded(alloc, kind_of(question), base, search)
+}
+
+/// The verdict on a question of this kind, where the base is solvable and the search among its systems comes to this.
+fn concluded(
+    alloc: Global,
+    kind: QuestionKind,
+    base: Certificate,
+    search: Search,
+) -> Result<Verdict, AllocError>
+    ensures { IfOk result (λ v. v ≡ verdict_of kind base search) }
+{
+    match search {
+        Search::Solvable(part) => {
+            let mut parts = Vec::new(alloc);
+            parts.push(part)?;
+            let proof = proof(base, parts);
+            match kind {
+                QuestionKind::Every => Ok(Verdict::No(proof)),
+                _ => Ok(Verdict::Yes(proof)),
+            }
+        }
+        Search::NoneSolvable(parts) => {
+            let proof = proof(base, parts);
+            match kind {
+                QuestionKind::Any => Ok(Verdict::No(proof)),
+                _ => Ok(Verdict::Yes(proof)),
+            }
+        }
+        Search::TooWide { system, note } => Ok(Verdict::Wide { system, note }),
+    }
+}
+
+/// The proof of this base and these parts.
+fn proof(base: Certificate, parts: Vec<Part>) -> Proof
+    ensures base { result.base ≡ base }
+    ensures parts { result.parts ≡ parts.items }
+{
+    Proof {
+        base,
+        parts: Items::from(parts),
+    }
+}
+
+/// The same solution again.
+fn copied_solution(alloc: Global, x: &Solution) -> Result<Solution, AllocError>
+    ensures { IfOk result (λ copy. copy ≡ x.now) }
+{
+    Ok(Solution {
+        steps: Items::from(Vec::from_slice(alloc, x.steps.as_slice())?),
+    })
+}
+
+/// The same multipliers again.
+fn copied_multipliers(alloc: Global, m: &Multipliers) -> Result<Multipliers, AllocError>
+    ensures { IfOk result (λ copy. copy ≡ m.now) }
+{
+    Ok(Multipliers {
+        weak: Items::from(Vec::from_slice(alloc, m.weak.as_slice())?),
+        strict: Items::from(Vec::from_slice(alloc, m.strict.as_slice())?),
+    })
+}

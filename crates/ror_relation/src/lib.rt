@@ -1,0 +1,28 @@
+//! Deciding questions over all value functions that are compatible with statements, each with its proof.
+//!
+//! `decide` answers one question, `decide_each` many over one list. The base, the system of the statements alone, is
+//! decided first, then the question's systems in order, up to the first that is solvable. The certificates that are found
+//! prove the verdict (`ror_check`), and it is true. A number past the width ends the search: the answer then names the
+//! system and the note of its path, and concludes nothing.
+//!
+//! Let alternative 0 be evaluated 3 and 10, 1 with 2 and 8 and 2 with 1 and 12, where more of the first and less of the
+//! second criterion is better. Over no statements:
+//!
+//! ```text
+//! Necessary(0, 2)   Yes: the system in which 2 is worth more than 0 is refuted by multipliers
+//! Necessary(0, 1)   No: the system in which 1 is worth more than 0 has a solution
+//! Possible(0, 1)    Yes: the system in which 0 is worth at least as much as 1 has a solution
+//! ```
+//!
+//! Over `Prefer(0, 1)` the second is Yes, and over that and `Prefer(1, 0)` each answer is Contradiction.
+#![tactic(auto)]
+
+mod deciding;
+mod decision;
+mod search;
+mod wide;
+
+pub use deciding::{decide, decide_each};
+
+#[cfg(test)]
+mod tests;

@@ -1,0 +1,60 @@
+//! Deciding the systems of a question, in order.
+
+ghost use Rattle.std.specs.Prelude.{◌≡◌, ◌≤◌, length, map, IfOk};
+ghost use Rattle.std.specs.List.{AllByRecursion};
+ghost use Rattle.ror_pivot.specs.Answers.{most_of};
+ghost use Rattle.ror_value.specs.Over.{IsLawfulIn};
+ghost use Rattle.ror_rows.specs.Rows.{system_for, extras_of};
+ghost use Rattle.ror_relation.specs.Decisions.{AreUsable, IsSearch};
+
+use crate::decision::{Decision, decide_system};
+use ror_pivot::Bits;
+use ror_proof::{Certificate, Part, WideText};
+use ror_rows::Extras;
+use ror_statement::Statement;
+use ror_table::Table;
+use std::alloc::{AllocError, Global};
+
+/// What a search for a solvable system comes to. Systems are numbered from 1.
+#[derive(Debug, Drop)]
+pub(crate) enum Search {
+    /// One that is solvable, with its solution.
+    Solvable(Part),
+    /// None is: the multipliers of each, in order.
+    NoneSolvable(Vec<Part>),
+    /// A number on the way to the certificate of a system is too wide, and none before it is solvable.
+    TooWide { system: u32, note: WideText },
+}
+
+/// Decides the systems of the statements with each of these extra rows, in order, up to the first that is solvable or too
+/// wide.
+pub(crate) fn first_solvable(
+    alloc: Global,
+    table: &Table,
+    list: &[Statement],
+    systems: &[Extras],
+    bits: Bits,
+) -> Result<Search, AllocError>
+    requires lawful { IsLawfulIn table.now list.now }
+    requires few { length systems.now ≤ 200 }
+    requires usable { AllByRecursion (AreUsable table.now) (map extras_of systems.now) }
+    ensures { IfOk result (IsSearch (most_of bits)
+        (map (system_for table.now list.now) (map extras_of systems.now))) }
+{
+    let mut parts = Vec::new(alloc);
+    for (place, extra) in systems.iter().enumerate() {
+        let at = place as u32 + 1;
+        match decide_system(alloc, table, list, extra.as_slice(), bits)? {
+            Decision::Solvable(solution) => {
+                let body = Certificate::Solution(solution);
+                return Ok(Search::Solvable(Part { at, body }));
+            }
+            Decision::NotSolvable(multipliers) => {
+                let body = Certificate::Multipliers(multipliers);
+                parts.push(Part { at, body })?;
+            }
+            Decision::TooWide(note) => return Ok(Search::TooWide { system: at, note }),
+        }
+    }
+    Ok(Search::NoneSolvable(parts))
+}
