@@ -90,16 +90,13 @@ pub struct Bench {
 impl Model for Bench {
     ghost use Rattle.std.specs.Prelude.{map};
     ghost use Rattle.std.specs.List.{AllByRecursion};
-    ghost use Rattle.ror_value.specs.Over.{IsLawfulIn};
-    ghost use Rattle.ror_history.specs.History.{statements_of};
-    ghost use Rattle.ror_bench.specs.Bench.{Workbench};
+    ghost use Rattle.ror_bench.specs.Bench.{Workbench, IsHeld};
 
     ghost Value = { Workbench };
 
     ghost view = { λ b. record { table = b.table; state = map (λ h. h.state) b.desks.items } };
 
-    ghost invariant = { λ b. AllByRecursion (λ h. IsLawfulIn b.table
-        (statements_of h.state)) b.desks.items };
+    ghost invariant = { λ b. AllByRecursion (λ h. IsHeld b.table h.state) b.desks.items };
 }
 
 impl Bench {

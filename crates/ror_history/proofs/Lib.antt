@@ -1,4 +1,10 @@
-pub mod AdditionLemmas
+pub mod FaultLemmas
 pub mod HistoryLemmas
+pub mod ItemLemmas
 pub mod RisingLemmas
 pub mod TurnLemmas
+pub mod WalkLemmas
+pub mod RowLemmas
+pub mod UndoLemmas
+pub mod RevisionLemmas
+pub mod ListedLemmas

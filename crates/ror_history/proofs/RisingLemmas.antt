@@ -1,5 +1,5 @@
 -- The numbers of a list rise and stay below a bound, whatever is added, withdrawn and replaced.
-use Rattle.std.proofs.Common.{◌≡◌, ◌⊎◌, inl, inr, ℕ, ◌+◌, ◌<◌, ◌≤◌, suc, Bool, List, [], ◌∷◌, ◌++◌, map, length, get_or, refl, ap, sym, subst, ◌∙◌, arith, append_assoc, length-append}
+use Rattle.std.proofs.Common.{◌≡◌, ◌⊎◌, inl, inr, ℕ, ◌+◌, ◌<◌, ◌≤◌, suc, Bool, List, [], ◌∷◌, ◌++◌, length, get_or, refl, ap, sym, subst, ◌∙◌, arith, append_assoc, length-append}
 use Rattle.std.specs.Prelude.{◌==◌}
 use Rattle.std.specs.List.{filter, All}
 use Rattle.std.specs.List.Sorted.{IsStrictlyIncreasing}
@@ -9,9 +9,7 @@ use Rattle.std.proofs.lemmas.List.Elements.{All-filter}
 use Rattle.std.proofs.lemmas.List.Kept.{IsStrictlyIncreasing-filter}
 use Rattle.ror_statement.specs.declared.statement.Statement.{Statement}
 use Rattle.ror_statement.specs.declared.statement.Numbered.{Numbered}
-use Rattle.ror_history.specs.History.{addition, replacement, revised, with_numbers_from, numbers, standing}
-use Rattle.ror_history.specs.Contents.{revisions_of, IsHeld}
-use Rattle.ror_history.proofs.HistoryLemmas.{standing_is, standing_numbered}
+use Rattle.ror_history.specs.History.{addition, replacement, revised, with_numbers_from, numbers}
 
 -- the numbers rise, and all are below the bound
 pub record Rise (ns : List ℕ) (bound : ℕ) : Type 0 where
@@ -83,7 +81,3 @@ Rise-numbered ns n (s ∷ ss) h =
 
 pub Rise-opening : (opening : List Statement) → Rise (numbers (with_numbers_from 1 opening)) (1 + length opening)
 Rise-opening opening = Rise-numbered [] 1 opening (Rise-none 1)
-
--- the standing list of a history
-pub standing_rises : (opening : List Statement) (added : List Numbered) → IsHeld opening added → IsStrictlyIncreasing (numbers (standing (revisions_of opening added)))
-standing_rises opening added h = rw (standing_is opening added, standing_numbered opening added h) (Rise-opening (opening ++ map (λ x. x.statement) added)).rising

@@ -10,7 +10,7 @@ use Rattle.ror_history.specs.Laws.{AreNumberedInTurn}
 use Rattle.ror_history.proofs.HistoryLemmas.{greatest}
 use Rattle.ror_history.proofs.RisingLemmas.{Rise, Rise-more, Rise-filter, numbers-added, numbers-kept, numbers-replaced, Rise-opening}
 
-abbrev made : List Statement → List Revision → Revisions
+abbrev pub made : List Statement → List Revision → Revisions
 made opening surviving = record { opening = opening; surviving = surviving }
 
 -- ---- one revision more
@@ -18,7 +18,7 @@ made opening surviving = record { opening = opening; surviving = surviving }
 pub standing-more : (opening : List Statement) (before : List Revision) (x : Revision) → standing (made opening (before ++ x ∷ [])) ≡ revised (standing (made opening before)) x
 standing-more opening before x = fold-append revised (with_numbers_from 1 opening) before (x ∷ [])
 
-added_numbers-append : (xs ys : List Revision) → added_numbers (xs ++ ys) ≡ added_numbers xs ++ added_numbers ys
+pub added_numbers-append : (xs ys : List Revision) → added_numbers (xs ++ ys) ≡ added_numbers xs ++ added_numbers ys
 added_numbers-append [] ys = refl
 added_numbers-append (addition n s ∷ xs) ys = ap (λ ns. n ∷ ns) (added_numbers-append xs ys)
 added_numbers-append (withdrawal ns ∷ xs) ys = added_numbers-append xs ys
@@ -64,7 +64,7 @@ rise_after opening before (x ∷ rest) turn h =
     let turn2 : AreNumberedInTurn (made opening ((before ++ x ∷ []) ++ rest)) = subst (λ xs. AreNumberedInTurn (made opening xs)) (sym split) turn in
     subst (λ xs. Rise (numbers (standing (made opening xs))) (next_number (made opening xs))) split (rise_after opening (before ++ x ∷ []) rest turn2 here)
 
-next_number-first : (opening : List Statement) → next_number (made opening []) ≡ 1 + length opening
+pub next_number-first : (opening : List Statement) → next_number (made opening []) ≡ 1 + length opening
 next_number-first opening =
     let whole : numbers (with_numbers_from 1 opening) ++ [] ≡ numbers (with_numbers_from 1 opening) = append-nil (numbers (with_numbers_from 1 opening)) in
     let count : 0 + length opening ≡ length opening = omega arith in
@@ -93,6 +93,13 @@ cut_last (a ∷ xs) x (b ∷ before) y after e =
       | inr found ↦ let same = found.1 in inr (found.0, cc)
     ]
 
+-- a revision that adds no statement, or one with the next number, keeps the turn
+pub turn_more : (r : Revisions) (x : Revision) → ((n : ℕ) (s : Statement) → x ≡ addition n s → n ≡ next_number r) → AreNumberedInTurn r → AreNumberedInTurn (with_revision r x)
+turn_more r x own turn before n t after e = elim (cut_last r.surviving x before (addition n t) after e) [
+  | inl here ↦ own n t here.1 ∙ ap (λ xs. next_number (made r.opening xs)) here.0
+  | inr found ↦ turn before n t found.0 found.1
+]
+
 pub turn_kept : (r : Revisions) (s : Statement) → AreNumberedInTurn r → AreNumberedInTurn (with_revision r (addition (next_number r) s))
 turn_kept r s turn before n t after e = elim (cut_last r.surviving (addition (next_number r) s) before (addition n t) after e) [
   | inl here ↦ let same : next_number r ≡ n = let f = here.1 in cc in sym same ∙ ap (λ xs. next_number (made r.opening xs)) here.0
@@ -101,3 +108,9 @@ turn_kept r s turn before n t after e = elim (cut_last r.surviving (addition (ne
 
 pub one_more : (r : Revisions) (s : Statement) → next_number (with_revision r (addition (next_number r) s)) ≡ 1 + next_number r
 one_more r s = next_number-added r.opening r.surviving (next_number r) s refl ∙ (let e : suc (next_number r) ≡ 1 + next_number r = omega arith in e)
+
+pub withdrawn_stays : (r : Revisions) (ns : List ℕ) → next_number (with_revision r (withdrawal ns)) ≡ next_number r
+withdrawn_stays r ns = next_number-more r.opening r.surviving (withdrawal ns)
+
+pub replaced_stays : (r : Revisions) (n : ℕ) (s : Statement) → next_number (with_revision r (replacement n s)) ≡ next_number r
+replaced_stays r n s = next_number-more r.opening r.surviving (replacement n s)

@@ -1,11 +1,11 @@
 -- Laws of histories: where an added statement stands, how the numbers of a standing list go, and when one can be added.
-use Rattle.std.specs.Prelude.{◌≡◌, ℕ, ◌+◌, ◌<◌, List, [], ◌∷◌, ◌++◌, ◌↔◌}
+use Rattle.std.specs.Prelude.{◌≡◌, ℕ, ◌+◌, ◌<◌, List, [], ◌∷◌, ◌++◌, length, ◌↔◌}
 use Rattle.std.specs.List.{All}
 use Rattle.std.specs.List.Sorted.{IsStrictlyIncreasing}
 use Rattle.ror_text.specs.FirstFault.{IsFirst}
 use Rattle.ror_statement.specs.declared.statement.Statement.{Statement}
 use Rattle.ror_history.specs.declared.history.HistoryFault.{HistoryFault}
-use Rattle.ror_history.specs.History.{Revision, addition, Revisions, standing, numbers, next_number, with_revision}
+use Rattle.ror_history.specs.History.{Revision, addition, withdrawal, replacement, Revisions, standing, numbers, next_number, with_revision}
 use Rattle.ror_history.specs.Faults.{CanBeAdded, FailsAddition, IsEarlierFault}
 
 -- an added statement stands last, with its number, after all that stood
@@ -26,14 +26,21 @@ pub record NumbersRise : Type 0 where
   pub below_next : (r : Revisions) → AreNumberedInTurn r
       → All (λ n. n < next_number r) (numbers (standing r))
 
--- a history that begins is numbered in turn, and stays so as statements get the next number; that is then one more
+-- a history that begins is numbered in turn, and stays so as statements get the next number; that is at first one past the
+-- opening list, then one more with each addition, and stays with each other revision
 pub record NextNumberRises : Type 0 where
+  pub first : (opening : List Statement)
+      → next_number (record { opening = opening; surviving = [] }) ≡ 1 + length opening
   pub at_first : (opening : List Statement) → AreNumberedInTurn
       (record { opening = opening; surviving = [] })
   pub kept : (r : Revisions) (s : Statement) → AreNumberedInTurn r
       → AreNumberedInTurn (with_revision r (addition (next_number r) s))
   pub one_more : (r : Revisions) (s : Statement)
       → next_number (with_revision r (addition (next_number r) s)) ≡ 1 + next_number r
+  pub withdrawn : (r : Revisions) (ns : List ℕ)
+      → next_number (with_revision r (withdrawal ns)) ≡ next_number r
+  pub replaced : (r : Revisions) (n : ℕ) (s : Statement)
+      → next_number (with_revision r (replacement n s)) ≡ next_number r
 
 -- a statement can be added exactly where neither test fails, and two first faults are equal
 pub record OneFirstFault : Type 0 where

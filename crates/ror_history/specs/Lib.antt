@@ -1,4 +1,5 @@
 pub mod Contents
 pub mod Faults
 pub mod History
+pub mod Inverses
 pub mod Laws

@@ -1,13 +1,18 @@
-//! The statements of a desk, and what is added to them.
+//! The statements of a desk, and what is done to them.
 
-ghost use Rattle.std.specs.Prelude.{◌≡◌, ◌+◌, ◌<◌, ◌≤◌, ◌++◌, ◌∷◌, [], length, map, IfOk, IfErr, OnOk};
+ghost use Rattle.std.specs.Prelude.{◌≡◌, ◌-◌, ◌^◌, ◌<◌, ◌≤◌, ◌+◌, ◌∷◌, [], length, IfOk, IfErr, OnOk};
 ghost use Rattle.std.specs.List.Sorted.{IsStrictlyIncreasing};
 ghost use Rattle.ror_text.specs.FirstFault.{IsRefusedBy};
 ghost use Rattle.ror_statement.specs.RowNumbers.{row_count};
-ghost use Rattle.ror_history.specs.History.{addition, with_revision, next_number, with_numbers_from, numbers, standing, statements_of};
-ghost use Rattle.ror_history.specs.Faults.{CanBeAdded, FailsAddition, IsEarlierFault};
+ghost use Rattle.ror_chain.specs.Chain.{linked_items};
+ghost use Rattle.ror_history.specs.History.{Revision, addition, withdrawal, replacement, with_revision, with_numbers_from, next_number, added_numbers, numbers, standing, statements_of};
+ghost use Rattle.ror_history.specs.Faults.{CanBeAdded, FailsAddition, CanBeReplaced, FailsReplacement, CanBeWithdrawn, FailsWithdrawal, FailsUndo, IsEarlierFault};
+ghost use Rattle.ror_history.specs.Inverses.{IsOpened};
 ghost use Rattle.ror_history.specs.declared.history.HistoryFault.TheVariants.{Memory};
 
+use crate::inverse::{Inverse, take_back, unlink_all};
+use crate::listed::{find, find_all, listed, replaced, statements};
+use ror_chain::Chain;
 use ror_statement::{MOST_ROWS, MOST_STATEMENTS, Numbered, Statement, row_count};
 use std::alloc::{AllocError, AllocFailed, Global};
 use std::marker::Model;
@@ -16,6 +21,12 @@ use thiserror::Error;
 /// Why a history is not changed.
 #[derive(Clone, Copy, Debug, PartialEq, Eq, Error)]
 pub enum HistoryFault {
+    /// No statement with the number stands, or it is listed twice.
+    #[error("no such statement")]
+    NoSuchStatement,
+    /// No revision survives.
+    #[error("nothing to undo")]
+    NothingToUndo,
     /// As many statements stand as may.
     #[error("too many statements")]
     TooManyStatements,
@@ -43,10 +54,12 @@ impl<T: Drop> From<AllocFailed<T>> for HistoryFault {
 }
 
 /// The statements that a desk began with, and the revisions that survive. Clauses see it as these.
+///
+/// Each revision is kept as what takes it back, so that an undo takes no memory.
 #[derive(Drop)]
 pub struct History {
-    opening: Vec<Statement>,
-    added: Vec<Numbered>,
+    chain: Chain<Numbered>,
+    inverses: Vec<Inverse>,
     alloc: Global,
 }
 
@@ -55,15 +68,15 @@ impl Model for History {
 
     ghost Value = { HistoryView };
 
-    ghost use Rattle.ror_history.specs.Contents.{contents, IsHeld};
+    ghost use Rattle.ror_history.specs.Contents.{contents, IsWhole};
 
     ghost view = { contents };
 
-    ghost invariant = { λ h. IsHeld h.opening.items h.added.items };
+    ghost invariant = { IsWhole };
 }
 
 impl History {
-    /// The history that begins with these statements, which are within the limits of a desk.
+    /// The history that begins with these statements, which are within the limits of a desk and get the numbers from 1 on.
     ///
     /// # Errors
     ///
@@ -73,21 +86,21 @@ impl History {
         requires rows { row_count opening.now ≤ MOST_ROWS }
         ensures { IfOk result (λ h. h.state ≡ record { opening = opening.now; surviving = [] }) }
     {
-        let opening = Vec::from_slice(alloc, opening)?;
         Ok(History {
-            opening,
-            added: Vec::new(alloc),
+            chain: opened(alloc, opening)?,
+            inverses: Vec::new(alloc),
             alloc,
         })
     }
 
-    /// Adds a statement, which stands last, and gives its number.
+    /// Adds a statement, which stands last, and gives its number. It asks that the next number is below `u32::MAX`.
     ///
     /// # Errors
     ///
     /// `TooManyStatements` where `MOST_STATEMENTS` stand, else `TooManyRows` where all with this one take more than
     /// `MOST_ROWS`. A refusal changes nothing.
     pub fn add(&mut self, s: Statement) -> Result<u32, HistoryFault>
+        requires { next_number self.old.state < 2 ^ 32 - 1 }
         ensures numbered { IfOk result (λ n. n ≡ next_number self.old.state) }
         ensures added { IfOk result (λ n. self.new.state
             ≡ with_revision self.old.state (addition n s)) }
@@ -96,26 +109,128 @@ impl History {
             IsEarlierFault HistoryFault.Memory) }
         ensures unchanged { IfErr result (λ _. self.new.state ≡ self.old.state) }
     {
-        if self.opening.len() + self.added.len() >= MOST_STATEMENTS {
+        let list = listed(self.alloc, &self.chain)?;
+        if list.len() >= MOST_STATEMENTS {
             return Err(HistoryFault::TooManyStatements);
         }
-        let list = statements_with(self.alloc, &self.opening, &self.added, s)?;
-        if row_count(&list) > MOST_ROWS {
+        let mut statements = statements(self.alloc, &list)?;
+        statements.push(s)?;
+        if row_count(&statements) > MOST_ROWS {
             return Err(HistoryFault::TooManyRows);
         }
         let number = self.next_number();
-        self.added.push(Numbered {
+        self.inverses.push(Inverse::Pop)?;
+        let item = Numbered {
             number,
             statement: s,
-        })?;
+        };
+        if self.chain.push(item).is_err() {
+            self.inverses.pop();
+            return Err(HistoryFault::Memory);
+        }
         Ok(number)
     }
 
-    /// The number that the next added statement gets.
+    /// Withdraws the statement with a number.
+    ///
+    /// # Errors
+    ///
+    /// `NoSuchStatement` where no such number stands. A refusal changes nothing.
+    pub fn withdraw(&mut self, number: u32) -> Result<(), HistoryFault>
+        ensures withdrawn { OnOk result (self.new.state
+            ≡ with_revision self.old.state (withdrawal (number ∷ []))) }
+        ensures allowed { OnOk result (CanBeWithdrawn self.old.state (number ∷ [])) }
+        ensures refused { IfErr result (IsRefusedBy (FailsWithdrawal self.old.state (number ∷ []))
+            IsEarlierFault HistoryFault.Memory) }
+        ensures unchanged { IfErr result (λ _. self.new.state ≡ self.old.state) }
+    {
+        let Some(node) = find(&self.chain, number) else {
+            return Err(HistoryFault::NoSuchStatement);
+        };
+        self.inverses.push(Inverse::Relink(node))?;
+        self.chain.unlink(node);
+        Ok(())
+    }
+
+    /// Withdraws the statements with these numbers, of which there may be none, in one revision.
+    ///
+    /// # Errors
+    ///
+    /// `NoSuchStatement` where a number does not stand or is listed twice. A refusal changes nothing.
+    pub fn withdraw_all(&mut self, numbers: &[u32]) -> Result<(), HistoryFault>
+        ensures withdrawn { OnOk result (self.new.state
+            ≡ with_revision self.old.state (withdrawal numbers.now)) }
+        ensures allowed { OnOk result (CanBeWithdrawn self.old.state numbers.now) }
+        ensures refused { IfErr result (IsRefusedBy (FailsWithdrawal self.old.state numbers.now)
+            IsEarlierFault HistoryFault.Memory) }
+        ensures unchanged { IfErr result (λ _. self.new.state ≡ self.old.state) }
+    {
+        let nodes = find_all(self.alloc, &self.chain, numbers)?;
+        // With this room nothing is refused any more.
+        self.inverses.reserve(1)?;
+        unlink_all(&mut self.chain, &nodes);
+        self.inverses.push(Inverse::RelinkAll(nodes.into()))?;
+        Ok(())
+    }
+
+    /// Puts another statement in the place of the one with a number, which it gets.
+    ///
+    /// # Errors
+    ///
+    /// `NoSuchStatement` where no such number stands, else `TooManyRows` where the statements with this one take more than
+    /// `MOST_ROWS`. A refusal changes nothing.
+    pub fn replace(&mut self, number: u32, s: Statement) -> Result<(), HistoryFault>
+        ensures replaced { OnOk result (self.new.state
+            ≡ with_revision self.old.state (replacement number s)) }
+        ensures allowed { OnOk result (CanBeReplaced self.old.state number s) }
+        ensures refused { IfErr result (IsRefusedBy (FailsReplacement self.old.state number s)
+            IsEarlierFault HistoryFault.Memory) }
+        ensures unchanged { IfErr result (λ _. self.new.state ≡ self.old.state) }
+    {
+        let Some(node) = find(&self.chain, number) else {
+            return Err(HistoryFault::NoSuchStatement);
+        };
+        let list = listed(self.alloc, &self.chain)?;
+        let statements = replaced(self.alloc, &list, number, s)?;
+        if row_count(&statements) > MOST_ROWS {
+            return Err(HistoryFault::TooManyRows);
+        }
+        let old = self.chain.item(node);
+        self.inverses.push(Inverse::Set(node, old))?;
+        self.chain.set(
+            node,
+            Numbered {
+                number,
+                statement: s,
+            },
+        );
+        Ok(())
+    }
+
+    /// Takes the last surviving revision back, which gives the whole history before it. It takes no memory.
+    ///
+    /// # Errors
+    ///
+    /// `NothingToUndo` where no revision survives, which changes nothing.
+    pub fn undo(&mut self) -> Result<(), HistoryFault>
+        ensures undone { OnOk result ((revision : Revision)
+            × (self.old.state ≡ with_revision self.new.state revision)) }
+        ensures refused { IfErr result (FailsUndo self.old.state) }
+        ensures unchanged { IfErr result (λ _. self.new.state ≡ self.old.state) }
+    {
+        let Some(inverse) = self.inverses.pop() else {
+            return Err(HistoryFault::NothingToUndo);
+        };
+        take_back(&mut self.chain, inverse);
+        Ok(())
+    }
+
+    /// The number that the next added statement gets, which is asked to be below `u32::MAX`.
     pub fn next_number(&self) -> u32
+        requires { next_number self.now.state < 2 ^ 32 - 1 }
         ensures { result ≡ next_number self.now.state }
     {
-        (self.opening.len() + self.added.len() + 1) as u32
+        (self.chain.nodes() + 1) as u32
     }
 
     /// The standing statements with their numbers, in increasing order of number.
@@ -129,43 +244,33 @@ impl History {
         ensures rows { row_count (statements_of self.now.state) ≤ MOST_ROWS }
         ensures rising { IsStrictlyIncreasing (numbers (standing self.now.state)) }
     {
-        let mut list = numbered(self.alloc, &self.opening)?;
-        list.extend_from_slice(&self.added)?;
-        Ok(list)
+        listed(self.alloc, &self.chain)
+    }
+
+    /// The chain whose linked nodes hold the standing statements in order. It has a node for each statement that the
+    /// history began with and each surviving addition, standing or not, and takes no memory.
+    pub fn chain(&self) -> &Chain<Numbered>
+        ensures listed { linked_items result.now.state ≡ standing self.now.state }
+        ensures nodes { length result.now.state.items ≡ length self.now.state.opening
+            + length (added_numbers self.now.state.surviving) }
+    {
+        &self.chain
     }
 }
 
-/// The statements, numbered from 1.
-fn numbered(alloc: Global, statements: &[Statement]) -> Result<Vec<Numbered>, AllocError>
-    requires { length statements.now ≤ MOST_STATEMENTS }
-    ensures { IfOk result (λ list. list.items ≡ with_numbers_from 1 statements.now) }
+/// The chain of these statements, numbered from 1.
+fn opened(alloc: Global, opening: &[Statement]) -> Result<Chain<Numbered>, AllocError>
+    requires few { length opening.now ≤ MOST_STATEMENTS }
+    ensures { IfOk result (λ chain. IsOpened chain.state (with_numbers_from 1 opening.now)) }
 {
-    let mut list = Vec::new(alloc);
+    let mut chain = Chain::new(alloc);
     let mut number: u32 = 1;
-    for statement in statements {
-        list.push(Numbered {
+    for statement in opening {
+        chain.push(Numbered {
             number,
             statement: *statement,
         })?;
         number += 1;
     }
-    Ok(list)
-}
-
-/// The statements that stand, without their numbers, and one more after them.
-fn statements_with(
-    alloc: Global,
-    opening: &[Statement],
-    added: &[Numbered],
-    s: Statement,
-) -> Result<Vec<Statement>, AllocError>
-    ensures { IfOk result (λ list. list.items
-        ≡ (opening.now ++ map (λ x. x.statement) added.now) ++ s ∷ []) }
-{
-    let mut list = Vec::from_slice(alloc, opening)?;
-    for numbered in added {
-        list.push(numbered.statement)?;
-    }
-    list.push(s)?;
-    Ok(list)
+    Ok(chain)
 }

@@ -12,7 +12,7 @@ pub fn numbers_rise()
     ensures { NumbersRise }
 {}
 
-/// Each added statement gets the next number, which is then one more.
+/// Each added statement gets the next number, which is then one more; other revisions leave it.
 pub fn next_number_rises()
     ensures { NextNumberRises }
 {}

@@ -2,7 +2,9 @@
 #![tactic(auto)]
 
 mod history;
+mod inverse;
 pub mod laws;
+mod listed;
 
 pub use history::{History, HistoryFault};
 

@@ -1,4 +1,4 @@
-use Rattle.ror_history.proofs.AdditionLemmas.{no_fault, can_be_added, one_fault}
+use Rattle.ror_history.proofs.FaultLemmas.{no_fault, can_be_added, one_fault}
 use Rattle.ror_history.proofs.laws.one_first_fault.Goals as goal
 
 pub returns : goal.returns

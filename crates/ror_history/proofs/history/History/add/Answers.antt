@@ -1,56 +1,70 @@
-use Rattle.std.proofs.Common.{◌≡◌, ◌+◌, ◌<◌, ◌≤◌, List, [], ◌∷◌, ◌++◌, map, length, ap, subst, sym, ◌∙◌, arith}
-use Rattle.ror_text.specs.FirstFault.{IsRefusedBy}
-use Rattle.ror_statement.specs.declared.row_number.TheConstants.{MOST_ROWS}
+use Rattle.std.proofs.Common.{◌≡◌, ◌∙◌, ◌<◌, ◌≤◌, List, [], ◌∷◌, ◌++◌, map, length, reverse, sym, ap, subst, arith}
+use Rattle.ror_statement.specs.declared.row_number.TheConstants.{MOST_STATEMENTS, MOST_ROWS}
 use Rattle.ror_statement.specs.declared.statement.Statement.{Statement}
 use Rattle.ror_statement.specs.RowNumbers.{row_count}
-use Rattle.ror_history.specs.History.{HistoryView, next_number, statements_of}
-use Rattle.ror_history.specs.Faults.{CanBeAdded, FailsAddition, IsEarlierFault}
-use Rattle.ror_history.specs.declared.history.HistoryFault.TheVariants.{TooManyStatements, TooManyRows, Memory}
-use Rattle.ror_history.specs.Contents.{revisions_of}
-use Rattle.ror_history.proofs.AdditionLemmas.{full, past_rows}
-use Rattle.ror_history.proofs.HistoryLemmas.{statement_of, standing-length, statements_are, next_number_is, IsHeld-added}
+use Rattle.ror_chain.specs.Chain.{linked_items}
+use Rattle.ror_history.specs.History.{standing, statements_of}
+use Rattle.ror_history.proofs.FaultLemmas.{full, past_rows}
+use Rattle.ror_history.proofs.HistoryLemmas.{statement_of}
+use Rattle.ror_history.proofs.RevisionLemmas.{at_ok, holds, sound, holds_standing, added}
 use Rattle.ror_history.proofs.history.History.add.Goals as goal
+
+pub listed-requires : goal.listed-requires
+listed-requires c =
+    let h = holds c.self.inside.chain.state (reverse c.self.inside.inverses.items) c.args.self.now c.self.invariant c.self.view_is in
+    sound c.self.inside.chain.state (reverse c.self.inside.inverses.items) c.args.self.now.state h
 
 pub returns-then-len-ge-MOST_STATEMENTS-clause-refused : goal.returns-then-len-ge-MOST_STATEMENTS-clause-refused
 returns-then-len-ge-MOST_STATEMENTS-clause-refused c =
-    let r = revisions_of c.self.inside.opening.items c.self.inside.added.items in
-    let count = standing-length c.self.inside.opening.items c.self.inside.added.items in
-    subst (λ (h : HistoryView). IsRefusedBy (FailsAddition h.state c.args.s) IsEarlierFault Memory TooManyStatements) c.self.view_is (full r c.args.s (omega (arith, count, c.len.ensures, c.len-2.ensures, c.if-len-ge-MOST_STATEMENTS.true)))
+    let h = holds c.self.inside.chain.state (reverse c.self.inside.inverses.items) c.args.self.now c.self.invariant c.self.view_is in
+    let count : length (linked_items c.self.inside.chain.state) ≡ c.len.result = sym (ap length c.in_ok-list.ensures) ∙ omega (arith, c.len.ensures, c.in_ok-list.list.ok.0) in
+    let stand : length (standing c.args.self.now.state) ≡ length (linked_items c.self.inside.chain.state) = ap length (holds_standing c.self.inside.chain.state (reverse c.self.inside.inverses.items) c.args.self.now.state h) in
+    full c.args.self.now.state c.args.s (omega (arith, count, stand, c.if-len-ge-MOST_STATEMENTS.true))
 
 pub returns-then-row_count-gt-MOST_ROWS-clause-refused : goal.returns-then-row_count-gt-MOST_ROWS-clause-refused
 returns-then-row_count-gt-MOST_ROWS-clause-refused c =
-    let opening = c.self.inside.opening.items in
-    let added = c.self.inside.added.items in
-    let r = revisions_of opening added in
-    let count = standing-length opening added in
-    let listed : c.deref-3.result.now ≡ (opening ++ map statement_of added) ++ c.args.s ∷ [] =
-    c.deref-3.ensures.value ∙ c.in_ok-list.ensures ∙ ap (λ (xs : List Statement). (xs ++ map statement_of c.deref-2.result.now) ++ c.args.s ∷ []) c.deref.ensures.value ∙ ap (λ xs. (opening ++ map statement_of xs) ++ c.args.s ∷ []) c.deref-2.ensures.value in
-    let many : MOST_ROWS < row_count ((opening ++ map statement_of added) ++ c.args.s ∷ []) = rw (sym listed) (omega (arith, c.row_count.ensures, c.if-row_count-gt-MOST_ROWS.true)) in
-    let past : MOST_ROWS < row_count (statements_of r ++ c.args.s ∷ []) = rw (statements_are opening added) many in
-    subst (λ (h : HistoryView). IsRefusedBy (FailsAddition h.state c.args.s) IsEarlierFault Memory TooManyRows) c.self.view_is (past_rows r c.args.s (omega (arith, count, c.len.ensures, c.len-2.ensures, c.if-len-ge-MOST_STATEMENTS.false)) past)
+    let h = holds c.self.inside.chain.state (reverse c.self.inside.inverses.items) c.args.self.now c.self.invariant c.self.view_is in
+    let count : length (linked_items c.self.inside.chain.state) ≡ c.len.result = sym (ap length c.in_ok-list.ensures) ∙ omega (arith, c.len.ensures, c.in_ok-list.list.ok.0) in
+    let stand : length (standing c.args.self.now.state) ≡ length (linked_items c.self.inside.chain.state) = ap length (holds_standing c.self.inside.chain.state (reverse c.self.inside.inverses.items) c.args.self.now.state h) in
+    let listed : c.deref-2.result.now ≡ map statement_of (linked_items c.self.inside.chain.state) ++ c.args.s ∷ [] = c.deref-2.ensures.value ∙ c.in_ok-push.ensures.items ∙ ap (λ ss. ss ++ c.args.s ∷ []) (c.in_ok-statements.ensures ∙ ap (map statement_of) (c.deref.ensures.value ∙ c.in_ok-list.ensures)) in
+    let said : statements_of c.args.self.now.state ≡ map statement_of (linked_items c.self.inside.chain.state) = ap (map statement_of) (holds_standing c.self.inside.chain.state (reverse c.self.inside.inverses.items) c.args.self.now.state h) in
+    let past : MOST_ROWS < row_count (map statement_of (linked_items c.self.inside.chain.state) ++ c.args.s ∷ []) = subst (λ ss. MOST_ROWS < row_count ss) listed (omega (arith, c.row_count.ensures, c.if-row_count-gt-MOST_ROWS.true)) in
+    past_rows c.args.self.now.state c.args.s (omega (arith, count, stand, c.if-len-ge-MOST_STATEMENTS.false)) (subst (λ (ss : List Statement). MOST_ROWS < row_count (ss ++ c.args.s ∷ [])) (sym said) past)
 
--- the statements that the code counted, and that they are few enough
-few_rows : (c : goal.After-drop-list-2) → row_count ((c.self.inside.opening.items ++ map statement_of c.self.inside.added.items) ++ c.args.s ∷ []) ≤ MOST_ROWS
-few_rows c =
-    let listed : c.deref-3.result.now ≡ (c.self.inside.opening.items ++ map statement_of c.self.inside.added.items) ++ c.args.s ∷ [] =
-    c.deref-3.ensures.value ∙ c.in_ok-list.ensures ∙ ap (λ (xs : List Statement). (xs ++ map statement_of c.deref-2.result.now) ++ c.args.s ∷ []) c.deref.ensures.value ∙ ap (λ xs. (c.self.inside.opening.items ++ map statement_of xs) ++ c.args.s ∷ []) c.deref-2.ensures.value in
-    rw (sym listed) (omega (arith, c.row_count.ensures, c.if-row_count-gt-MOST_ROWS.false))
+pub invariant_of-self-else-is_err : goal.invariant_of-self-else-is_err
+invariant_of-self-else-is_err c =
+    let h = holds c.self.inside.chain.state (reverse c.self.inside.inverses.items) c.args.self.now c.self.invariant c.self.view_is in
+    let count : length (linked_items c.self.inside.chain.state) ≡ c.len.result = sym (ap length c.in_ok-list.ensures) ∙ omega (arith, c.len.ensures, c.in_ok-list.list.ok.0) in
+    let stand : length (standing c.args.self.now.state) ≡ length (linked_items c.self.inside.chain.state) = ap length (holds_standing c.self.inside.chain.state (reverse c.self.inside.inverses.items) c.args.self.now.state h) in
+    let listed : c.deref-2.result.now ≡ map statement_of (linked_items c.self.inside.chain.state) ++ c.args.s ∷ [] = c.deref-2.ensures.value ∙ c.in_ok-push.ensures.items ∙ ap (λ ss. ss ++ c.args.s ∷ []) (c.in_ok-statements.ensures ∙ ap (map statement_of) (c.deref.ensures.value ∙ c.in_ok-list.ensures)) in
+    let said : statements_of c.args.self.now.state ≡ map statement_of (linked_items c.self.inside.chain.state) = ap (map statement_of) (holds_standing c.self.inside.chain.state (reverse c.self.inside.inverses.items) c.args.self.now.state h) in
+    let fits : row_count (map statement_of (linked_items c.self.inside.chain.state) ++ c.args.s ∷ []) ≤ MOST_ROWS = subst (λ ss. row_count ss ≤ MOST_ROWS) listed (omega (arith, c.row_count.ensures, c.if-row_count-gt-MOST_ROWS.false)) in
+    let few : length (linked_items c.self.inside.chain.state) < MOST_STATEMENTS = omega (arith, count, c.if-len-ge-MOST_STATEMENTS.false) in
+    let pushed_it = at_ok c.push-3.result _ (sym c.is_err.ensures.value ∙ c.if-is_err.false) c.push-3.ensures.pushed in
+    (added c.self.inside.chain.state c.push-3.new.self.state c.self.inside.inverses.items c.push-2.new.self.items (record { number = c.next_number-number.result; statement = c.args.s }) c.args.self.now.state h few fits c.next_number-number.ensures pushed_it c.in_ok-push-2.ensures.items).held
 
-pub invariant_of-self-2 : goal.invariant_of-self-2
-invariant_of-self-2 c =
-    let opening = c.self.inside.opening.items in
-    let added = c.self.inside.added.items in
-    let number : c.next_number-number.result ≡ 1 + (length opening + length added) = c.next_number-number.ensures ∙ ap (λ (h : HistoryView). next_number h.state) (sym c.self.view_is) ∙ next_number_is opening added c.self.invariant in
-    rw c.in_ok-push.ensures.items (IsHeld-added opening added (record { number = c.next_number-number.result; statement = c.args.s }) c.self.invariant (omega (arith, c.len.ensures, c.len-2.ensures, c.if-len-ge-MOST_STATEMENTS.false)) (few_rows c) number)
+pub returns-clause-added : goal.returns-clause-added
+returns-clause-added c =
+    let h = holds c.self.inside.chain.state (reverse c.self.inside.inverses.items) c.args.self.now c.self.invariant c.self.view_is in
+    let count : length (linked_items c.self.inside.chain.state) ≡ c.len.result = sym (ap length c.in_ok-list.ensures) ∙ omega (arith, c.len.ensures, c.in_ok-list.list.ok.0) in
+    let stand : length (standing c.args.self.now.state) ≡ length (linked_items c.self.inside.chain.state) = ap length (holds_standing c.self.inside.chain.state (reverse c.self.inside.inverses.items) c.args.self.now.state h) in
+    let listed : c.deref-2.result.now ≡ map statement_of (linked_items c.self.inside.chain.state) ++ c.args.s ∷ [] = c.deref-2.ensures.value ∙ c.in_ok-push.ensures.items ∙ ap (λ ss. ss ++ c.args.s ∷ []) (c.in_ok-statements.ensures ∙ ap (map statement_of) (c.deref.ensures.value ∙ c.in_ok-list.ensures)) in
+    let said : statements_of c.args.self.now.state ≡ map statement_of (linked_items c.self.inside.chain.state) = ap (map statement_of) (holds_standing c.self.inside.chain.state (reverse c.self.inside.inverses.items) c.args.self.now.state h) in
+    let fits : row_count (map statement_of (linked_items c.self.inside.chain.state) ++ c.args.s ∷ []) ≤ MOST_ROWS = subst (λ ss. row_count ss ≤ MOST_ROWS) listed (omega (arith, c.row_count.ensures, c.if-row_count-gt-MOST_ROWS.false)) in
+    let few : length (linked_items c.self.inside.chain.state) < MOST_STATEMENTS = omega (arith, count, c.if-len-ge-MOST_STATEMENTS.false) in
+    let pushed_it = at_ok c.push-3.result _ (sym c.is_err.ensures.value ∙ c.if-is_err.false) c.push-3.ensures.pushed in
+    (added c.self.inside.chain.state c.push-3.new.self.state c.self.inside.inverses.items c.push-2.new.self.items (record { number = c.next_number-number.result; statement = c.args.s }) c.args.self.now.state h few fits c.next_number-number.ensures pushed_it c.in_ok-push-2.ensures.items).is
 
 pub returns-clause-allowed : goal.returns-clause-allowed
 returns-clause-allowed c =
-    let opening = c.self.inside.opening.items in
-    let added = c.self.inside.added.items in
-    let r = revisions_of opening added in
-    let count = standing-length opening added in
-    let can : CanBeAdded r c.args.s = record {
-      few = omega (arith, count, c.len.ensures, c.len-2.ensures, c.if-len-ge-MOST_STATEMENTS.false);
-      rows = rw (statements_are opening added) (few_rows c);
-    } in
-    subst (λ (h : HistoryView). CanBeAdded h.state c.args.s) c.self.view_is can
+    let h = holds c.self.inside.chain.state (reverse c.self.inside.inverses.items) c.args.self.now c.self.invariant c.self.view_is in
+    let count : length (linked_items c.self.inside.chain.state) ≡ c.len.result = sym (ap length c.in_ok-list.ensures) ∙ omega (arith, c.len.ensures, c.in_ok-list.list.ok.0) in
+    let stand : length (standing c.args.self.now.state) ≡ length (linked_items c.self.inside.chain.state) = ap length (holds_standing c.self.inside.chain.state (reverse c.self.inside.inverses.items) c.args.self.now.state h) in
+    let listed : c.deref-2.result.now ≡ map statement_of (linked_items c.self.inside.chain.state) ++ c.args.s ∷ [] = c.deref-2.ensures.value ∙ c.in_ok-push.ensures.items ∙ ap (λ ss. ss ++ c.args.s ∷ []) (c.in_ok-statements.ensures ∙ ap (map statement_of) (c.deref.ensures.value ∙ c.in_ok-list.ensures)) in
+    let said : statements_of c.args.self.now.state ≡ map statement_of (linked_items c.self.inside.chain.state) = ap (map statement_of) (holds_standing c.self.inside.chain.state (reverse c.self.inside.inverses.items) c.args.self.now.state h) in
+    let fits : row_count (map statement_of (linked_items c.self.inside.chain.state) ++ c.args.s ∷ []) ≤ MOST_ROWS = subst (λ ss. row_count ss ≤ MOST_ROWS) listed (omega (arith, c.row_count.ensures, c.if-row_count-gt-MOST_ROWS.false)) in
+    let few : length (linked_items c.self.inside.chain.state) < MOST_STATEMENTS = omega (arith, count, c.if-len-ge-MOST_STATEMENTS.false) in
+    record {
+      few = omega (arith, stand, few);
+      rows = subst (λ (ss : List Statement). row_count (ss ++ c.args.s ∷ []) ≤ MOST_ROWS) (sym said) fits;
+    }

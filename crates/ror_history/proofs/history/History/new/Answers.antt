@@ -1,5 +1,8 @@
-use Rattle.ror_history.proofs.HistoryLemmas.{IsHeld-opening}
+use Rattle.ror_history.proofs.RevisionLemmas.{opened_holds}
 use Rattle.ror_history.proofs.history.History.new.Goals as goal
 
 pub invariant_of-result : goal.invariant_of-result
-invariant_of-result c = rw (c.in_ok-opening.ensures.items, c.new.ensures.items) (IsHeld-opening c.args.opening.now c.requires.few c.requires.rows)
+invariant_of-result c = (opened_holds c.in_ok-opened.field-0.state c.new.result.items c.args.opening.now c.in_ok-opened.ensures c.requires.few c.requires.rows c.new.ensures.items).held
+
+pub returns : goal.returns
+returns c = (opened_holds c.in_ok-opened.field-0.state c.new.result.items c.args.opening.now c.in_ok-opened.ensures c.requires.few c.requires.rows c.new.ensures.items).is

@@ -1,15 +1,18 @@
-use Rattle.std.proofs.Common.{◌≡◌, ◌+◌, length, ap, sym, ◌∙◌, arith}
-use Rattle.ror_history.specs.History.{HistoryView, next_number}
-use Rattle.ror_history.proofs.HistoryLemmas.{standing-length, next_number_is}
+use Rattle.std.proofs.Common.{reverse, arith}
+use Rattle.ror_history.proofs.RevisionLemmas.{holds, holds_next}
 use Rattle.ror_history.proofs.history.History.next_number.Goals as goal
+
+pub overflow_add-result : goal.overflow_add-result
+overflow_add-result c =
+    let h = holds c.self.inside.chain.state (reverse c.self.inside.inverses.items) c.args.self.now c.self.invariant c.self.view_is in
+    omega (arith, holds_next c.self.inside.chain.state (reverse c.self.inside.inverses.items) c.args.self.now.state h, c.nodes.ensures.counted)
 
 pub overflow_cast-result : goal.overflow_cast-result
 overflow_cast-result c =
-    let count = standing-length c.self.inside.opening.items c.self.inside.added.items in
-    omega (arith, count, c.self.invariant.few, c.len.ensures, c.len-2.ensures)
+    let h = holds c.self.inside.chain.state (reverse c.self.inside.inverses.items) c.args.self.now c.self.invariant c.self.view_is in
+    omega (arith, holds_next c.self.inside.chain.state (reverse c.self.inside.inverses.items) c.args.self.now.state h, c.nodes.ensures.counted)
 
 pub returns : goal.returns
 returns c =
-    let next = next_number_is c.self.inside.opening.items c.self.inside.added.items c.self.invariant in
-    let counted : c.len.result + c.len-2.result + 1 ≡ 1 + (length c.self.inside.opening.items + length c.self.inside.added.items) = omega (arith, c.len.ensures, c.len-2.ensures) in
-    counted ∙ sym next ∙ ap (λ (h : HistoryView). next_number h.state) c.self.view_is
+    let h = holds c.self.inside.chain.state (reverse c.self.inside.inverses.items) c.args.self.now c.self.invariant c.self.view_is in
+    omega (arith, holds_next c.self.inside.chain.state (reverse c.self.inside.inverses.items) c.args.self.now.state h, c.nodes.ensures.counted)

@@ -1,28 +1,29 @@
-use Rattle.std.proofs.Common.{◌≡◌, List, ◌++◌, length, ap, subst, sym, ◌∙◌, arith}
-use Rattle.std.specs.List.Sorted.{IsStrictlyIncreasing}
-use Rattle.ror_history.specs.History.{HistoryView, with_numbers_from, numbers, standing}
-use Rattle.ror_statement.specs.declared.statement.Numbered.{Numbered}
-use Rattle.ror_history.proofs.HistoryLemmas.{standing-length, standing_is}
-use Rattle.ror_history.proofs.RisingLemmas.{standing_rises}
+use Rattle.std.proofs.Common.{◌∙◌, reverse, sym}
+use Rattle.std.proofs.lemmas.Result.{IfOk-weaker}
+use Rattle.ror_history.proofs.RevisionLemmas.{holds, sound, holds_standing, holds_few, holds_rows, holds_rising}
 use Rattle.ror_history.proofs.history.History.standing.Goals as goal
 
-pub numbered-requires : goal.numbered-requires
-numbered-requires c =
-    let count = standing-length c.self.inside.opening.items c.self.inside.added.items in
-    omega (arith, count, c.self.invariant.few, ap length c.deref.ensures.value)
-
-pub returns-in_err-list-clause-rising : goal.returns-in_err-list-clause-rising
-returns-in_err-list-clause-rising c = subst (λ (h : HistoryView). IsStrictlyIncreasing (numbers (standing h.state))) c.self.view_is (standing_rises c.self.inside.opening.items c.self.inside.added.items c.self.invariant)
-
-pub returns-in_err-extend_from_slice-clause-rising : goal.returns-in_err-extend_from_slice-clause-rising
-returns-in_err-extend_from_slice-clause-rising c = subst (λ (h : HistoryView). IsStrictlyIncreasing (numbers (standing h.state))) c.self.view_is (standing_rises c.self.inside.opening.items c.self.inside.added.items c.self.invariant)
-
-pub returns-clause-rising : goal.returns-clause-rising
-returns-clause-rising c = subst (λ (h : HistoryView). IsStrictlyIncreasing (numbers (standing h.state))) c.self.view_is (standing_rises c.self.inside.opening.items c.self.inside.added.items c.self.invariant)
+pub listed-requires : goal.listed-requires
+listed-requires c =
+    let h = holds c.self.inside.chain.state (reverse c.self.inside.inverses.items) c.args.self.now c.self.invariant c.self.view_is in
+    sound c.self.inside.chain.state (reverse c.self.inside.inverses.items) c.args.self.now.state h
 
 pub returns-clause-listed : goal.returns-clause-listed
 returns-clause-listed c =
-    let opening = c.self.inside.opening.items in
-    let added = c.self.inside.added.items in
-    let first : c.in_ok-list.list.items ≡ with_numbers_from 1 opening = c.in_ok-list.ensures ∙ ap (with_numbers_from 1) c.deref.ensures.value in
-    c.in_ok-extend_from_slice.ensures.items ∙ ap (λ (xs : List Numbered). xs ++ c.deref-2.result.now) first ∙ ap (λ xs. with_numbers_from 1 opening ++ xs) c.deref-2.ensures.value ∙ sym (standing_is opening added) ∙ ap (λ (h : HistoryView). standing h.state) c.self.view_is
+    let h = holds c.self.inside.chain.state (reverse c.self.inside.inverses.items) c.args.self.now c.self.invariant c.self.view_is in
+    IfOk-weaker c.listed.result _ _ (λ list e. e ∙ sym (holds_standing c.self.inside.chain.state (reverse c.self.inside.inverses.items) c.args.self.now.state h)) c.listed.ensures
+
+pub returns-clause-few : goal.returns-clause-few
+returns-clause-few c =
+    let h = holds c.self.inside.chain.state (reverse c.self.inside.inverses.items) c.args.self.now c.self.invariant c.self.view_is in
+    holds_few c.self.inside.chain.state (reverse c.self.inside.inverses.items) c.args.self.now.state h
+
+pub returns-clause-rows : goal.returns-clause-rows
+returns-clause-rows c =
+    let h = holds c.self.inside.chain.state (reverse c.self.inside.inverses.items) c.args.self.now c.self.invariant c.self.view_is in
+    holds_rows c.self.inside.chain.state (reverse c.self.inside.inverses.items) c.args.self.now.state h
+
+pub returns-clause-rising : goal.returns-clause-rising
+returns-clause-rising c =
+    let h = holds c.self.inside.chain.state (reverse c.self.inside.inverses.items) c.args.self.now c.self.invariant c.self.view_is in
+    holds_rising c.self.inside.chain.state (reverse c.self.inside.inverses.items) c.args.self.now.state h
