@@ -1,47 +1,434 @@
--- Words that spell no command.
-use Rattle.std.proofs.Common.{◌≡◌, ℕ, ◌<◌, ◌≤◌, true, false, List, [], ◌∷◌, length, map, None, refl, sym, arith, get_or}
-use Rattle.std.specs.Prelude.{codes}
+-- What is read of a command's words is what they spell.
+use Rattle.std.proofs.Common.{◌≡◌, ℕ, ◌<◌, ◌≤◌, Bool, true, false, not, cond, eqb, List, [], ◌∷◌, length, drop, Option, Some, None, Result, Ok, Err, refl, sym, ap, subst, ◌∙◌, inl, inr, arith}
+use Rattle.std.specs.Prelude.{codes, IfErr}
 use Rattle.std.specs.Str.{bytes_eq}
-use Rattle.ror_session.specs.Session.{command_of}
+use Rattle.std.proofs.lemmas.Bool.{cases_Bool, eqb-true}
+use Rattle.ror_text.specs.Numbers.{count_of}
+use Rattle.ror_text.specs.Reading.{◌>>=◌, refuse, need}
+use Rattle.ror_text.proofs.ReadingLemmas.{bind_ok, refuse_ok, need_ok}
+use Rattle.ror_session.specs.Grammar.{LineWords, word_at, on_criterion, strength_words, statement_words, question_words, WritesCount, Spells}
+use Rattle.ror_session.specs.Command.{pair_at, two_names, criterion_of, two_pairs, statement_of, necessary_question, possible_question, question_of, number_of_statement, withdrawal, replacement, command_of}
+use Rattle.ror_session.specs.declared.command.TwoPairs.{TwoPairs}
+use Rattle.ror_session.specs.declared.session.NamedPair.{NamedPair}
+use Rattle.ror_session.specs.declared.session.Named.{Named}
+use Rattle.ror_session.specs.declared.session.Named.TheVariants.{Prefer, AtLeast, Same, Stronger, AsStrong, EqualStrength}
+use Rattle.ror_session.specs.declared.session.Asked.{Asked}
+use Rattle.ror_session.specs.declared.session.Asked.TheVariants.{Consistent, Necessary, Possible, NecessaryStrength, PossibleStrength, Relation}
+use Rattle.ror_session.specs.declared.session.Command.{Command}
+use Rattle.ror_session.specs.declared.session.Command.TheVariants.{State, Withdraw, Replace, Undo, Ask}
+use Rattle.ror_session.specs.declared.session.SessionFault.{SessionFault}
+use Rattle.ror_session.specs.declared.session.SessionFault.TheVariants.{BadLine}
+use Rattle.ror_session.proofs.DeskLemmas.{same_bytes}
 
-pub command_of-short : {A : Type 0} (f : A → List ℕ) (xs : List A) → length xs < 3 → None ≡ command_of (map f xs)
-unfolding command_of
-command_of-short f [] h = refl
-command_of-short f (a ∷ []) h = refl
-command_of-short f (a ∷ b ∷ []) h = refl
-command_of-short f (a ∷ b ∷ c ∷ more) h = absurd (omega arith)
+-- ---- words by their number
 
-pub command_of-long : {A : Type 0} (f : A → List ℕ) (xs : List A) → 5 ≤ length xs → None ≡ command_of (map f xs)
-unfolding command_of
-command_of-long f [] h = refl
-command_of-long f (a ∷ []) h = refl
-command_of-long f (a ∷ b ∷ []) h = refl
-command_of-long f (a ∷ b ∷ c ∷ []) h = absurd (omega arith)
-command_of-long f (a ∷ b ∷ c ∷ d ∷ []) h = absurd (omega arith)
-command_of-long f (a ∷ b ∷ c ∷ d ∷ e ∷ more) h = refl
+one_word : (ws : LineWords) → length ws ≡ 1 → ws ≡ word_at ws 0 ∷ []
+one_word [] n = absurd (omega arith)
+one_word (a ∷ []) n = refl
+one_word (a ∷ b ∷ more) n = absurd (omega arith)
 
-pub command_of-three : {A : Type 0} (f : A → List ℕ) (none : A) (xs : List A) → length xs ≡ 3 → false ≡ bytes_eq (f (get_or xs 0 none)) (codes "prefer") → None ≡ command_of (map f xs)
-unfolding command_of
-command_of-three f none [] n h = refl
-command_of-three f none (a ∷ []) n h = refl
-command_of-three f none (a ∷ b ∷ []) n h = refl
-command_of-three f none (a ∷ b ∷ c ∷ []) n h = rw (sym h) refl
-command_of-three f none (a ∷ b ∷ c ∷ d ∷ more) n h = absurd (omega arith)
+two_words : (ws : LineWords) → length ws ≡ 2 → ws ≡ word_at ws 0 ∷ word_at ws 1 ∷ []
+two_words [] n = absurd (omega arith)
+two_words (a ∷ more) n = ap (λ (rest : LineWords). a ∷ rest) (one_word more (omega arith))
 
-pub command_of-other_verb : {A : Type 0} (f : A → List ℕ) (none : A) (xs : List A) → length xs ≡ 4 → false ≡ bytes_eq (f (get_or xs 0 none)) (codes "ask") → None ≡ command_of (map f xs)
-unfolding command_of
-command_of-other_verb f none [] n h = refl
-command_of-other_verb f none (a ∷ []) n h = refl
-command_of-other_verb f none (a ∷ b ∷ []) n h = refl
-command_of-other_verb f none (a ∷ b ∷ c ∷ []) n h = absurd (omega arith)
-command_of-other_verb f none (a ∷ b ∷ c ∷ d ∷ []) n h = rw (sym h) refl
-command_of-other_verb f none (a ∷ b ∷ c ∷ d ∷ e ∷ more) n h = refl
+three_words : (ws : LineWords) → length ws ≡ 3 → ws ≡ word_at ws 0 ∷ word_at ws 1 ∷ word_at ws 2 ∷ []
+three_words [] n = absurd (omega arith)
+three_words (a ∷ more) n = ap (λ (rest : LineWords). a ∷ rest) (two_words more (omega arith))
 
-pub command_of-other_kind : {A : Type 0} (f : A → List ℕ) (none : A) (xs : List A) → length xs ≡ 4 → true ≡ bytes_eq (f (get_or xs 0 none)) (codes "ask") → false ≡ bytes_eq (f (get_or xs 1 none)) (codes "necessary") → None ≡ command_of (map f xs)
+five_words : (ws : LineWords) → length ws ≡ 5 → ws ≡ word_at ws 0 ∷ word_at ws 1 ∷ word_at ws 2 ∷ word_at ws 3 ∷ word_at ws 4 ∷ []
+five_words [] n = absurd (omega arith)
+five_words (a ∷ []) n = absurd (omega arith)
+five_words (a ∷ b ∷ more) n = ap (λ (rest : LineWords). a ∷ b ∷ rest) (three_words more (omega arith))
+
+seven_words : (ws : LineWords) → length ws ≡ 7 → ws ≡ word_at ws 0 ∷ word_at ws 1 ∷ word_at ws 2 ∷ word_at ws 3 ∷ word_at ws 4 ∷ word_at ws 5 ∷ word_at ws 6 ∷ []
+seven_words [] n = absurd (omega arith)
+seven_words (a ∷ []) n = absurd (omega arith)
+seven_words (a ∷ b ∷ more) n = ap (λ (rest : LineWords). a ∷ b ∷ rest) (five_words more (omega arith))
+
+-- the tests of a word and of the number of words, where they did not refuse
+not_refused : (fault : SessionFault) (test : Bool) (x : Unit {0}) → refuse fault (not test) ≡ Ok x → test ≡ true
+not_refused fault true x e = refl
+not_refused fault false x e = absurd cc
+
+-- ---- two names, and two pairs
+
+two_names-sound : (line : ℕ) (ws : LineWords) (p : NamedPair) → two_names line ws ≡ Ok p → ws ≡ word_at ws 0 ∷ p.first ∷ p.second ∷ []
+unfolding two_names
+two_names-sound line ws p e =
+    let b = bind_ok (refuse (BadLine line) (not (eqb (length ws) 3))) _ p e in
+    let number : length ws ≡ 3 = eqb-true (length ws) 3 (not_refused (BadLine line) (eqb (length ws) 3) b.0 b.1) in
+    let same : pair_at ws 1 ≡ p = let h = b.2 in cc in
+    subst (λ (q : NamedPair). ws ≡ word_at ws 0 ∷ q.first ∷ q.second ∷ []) same (three_words ws number)
+
+criterion_of-sound : (line : ℕ) (ws : LineWords) (on : Option (List ℕ)) → criterion_of line ws ≡ Ok on → ws ≡ word_at ws 0 ∷ word_at ws 1 ∷ word_at ws 2 ∷ word_at ws 3 ∷ word_at ws 4 ∷ on_criterion on
+unfolding criterion_of
+criterion_of-sound line ws on e = elim (cases_Bool (eqb (length ws) 5)) [
+  | inl five ↦
+      let same : None ≡ on = let h = rw five at e in cc in
+      subst (λ (o : Option (List ℕ)). ws ≡ word_at ws 0 ∷ word_at ws 1 ∷ word_at ws 2 ∷ word_at ws 3 ∷ word_at ws 4 ∷ on_criterion o) same (five_words ws (eqb-true (length ws) 5 five))
+  | inr other ↦
+      let a = bind_ok (refuse (BadLine line) (not (eqb (length ws) 7))) _ on (rw other at e) in
+      let b = bind_ok (refuse (BadLine line) (not (bytes_eq (word_at ws 5) (codes "on")))) _ on a.2 in
+      let number : length ws ≡ 7 = eqb-true (length ws) 7 (not_refused (BadLine line) (eqb (length ws) 7) a.0 a.1) in
+      let is_on : word_at ws 5 ≡ codes "on" = same_bytes (word_at ws 5) (codes "on") (not_refused (BadLine line) (bytes_eq (word_at ws 5) (codes "on")) b.0 b.1) in
+      let same : Some (word_at ws 6) ≡ on = let h = b.2 in cc in
+      subst (λ (o : Option (List ℕ)). ws ≡ word_at ws 0 ∷ word_at ws 1 ∷ word_at ws 2 ∷ word_at ws 3 ∷ word_at ws 4 ∷ on_criterion o) same (seven_words ws number ∙ ap (λ (w : List ℕ). word_at ws 0 ∷ word_at ws 1 ∷ word_at ws 2 ∷ word_at ws 3 ∷ word_at ws 4 ∷ w ∷ word_at ws 6 ∷ []) is_on)
+]
+
+two_pairs-sound : (line : ℕ) (ws : LineWords) (t : TwoPairs) → two_pairs line ws ≡ Ok t → ws ≡ word_at ws 0 ∷ strength_words t.first t.second t.criterion
+unfolding two_pairs
+two_pairs-sound line ws t e =
+    let b = bind_ok (criterion_of line ws) _ t e in
+    let same : record { first = pair_at ws 1; second = pair_at ws 3; criterion = b.0 } ≡ t = let h = b.2 in cc in
+    subst (λ (u : TwoPairs). ws ≡ word_at ws 0 ∷ strength_words u.first u.second u.criterion) same (criterion_of-sound line ws b.0 b.1)
+
+two_pairs-again : (line : ℕ) (verb : List ℕ) (p q : NamedPair) (on : Option (List ℕ)) → two_pairs line (verb ∷ strength_words p q on) ≡ Ok (record { first = p; second = q; criterion = on })
+unfolding two_pairs criterion_of
+two_pairs-again line verb p q None = refl
+two_pairs-again line verb p q (Some name) = refl
+
+two_names-again : (line : ℕ) (verb a b : List ℕ) → two_names line (verb ∷ a ∷ b ∷ []) ≡ Ok (record { first = a; second = b })
+unfolding two_names
+two_names-again line verb a b = refl
+
+-- a form of two names, and one of two pairs
+of_names : {A : Type 0} (spell : A → LineWords) (make : List ℕ → List ℕ → A) (verb : List ℕ) → ((a b : List ℕ) → spell (make a b) ≡ verb ∷ a ∷ b ∷ []) → (line : ℕ) (ws : LineWords) (x : A) → bytes_eq (word_at ws 0) verb ≡ true → (two_names line ws >>= λ p. Ok (make p.first p.second)) ≡ Ok x → ws ≡ spell x
+of_names spell make verb spells line ws x hit e =
+    let b = bind_ok (two_names line ws) (λ p. Ok (make p.first p.second)) x e in
+    let same : make b.0.first b.0.second ≡ x = let h = b.2 in cc in
+    two_names-sound line ws b.0 b.1 ∙ ap (λ (w : List ℕ). w ∷ b.0.first ∷ b.0.second ∷ []) (same_bytes (word_at ws 0) verb hit) ∙ sym (spells b.0.first b.0.second) ∙ ap spell same
+
+of_pairs : {A : Type 0} (spell : A → LineWords) (make : NamedPair → NamedPair → Option (List ℕ) → A) (verb : List ℕ) → ((p q : NamedPair) (on : Option (List ℕ)) → spell (make p q on) ≡ verb ∷ strength_words p q on) → (line : ℕ) (ws : LineWords) (x : A) → bytes_eq (word_at ws 0) verb ≡ true → (two_pairs line ws >>= λ t. Ok (make t.first t.second t.criterion)) ≡ Ok x → ws ≡ spell x
+of_pairs spell make verb spells line ws x hit e =
+    let b = bind_ok (two_pairs line ws) (λ t. Ok (make t.first t.second t.criterion)) x e in
+    let t : TwoPairs = b.0 in
+    let same : make t.first t.second t.criterion ≡ x = let h = b.2 in cc in
+    two_pairs-sound line ws t b.1 ∙ ap (λ (w : List ℕ). w ∷ strength_words t.first t.second t.criterion) (same_bytes (word_at ws 0) verb hit) ∙ sym (spells t.first t.second t.criterion) ∙ ap spell same
+
+-- a form of one word
+of_one : {A : Type 0} (spell : A → LineWords) (made : A) (verb : List ℕ) → spell made ≡ verb ∷ [] → (line : ℕ) (ws : LineWords) (x : A) → bytes_eq (word_at ws 0) verb ≡ true → (refuse (BadLine line) (not (eqb (length ws) 1)) >>= λ _. Ok made) ≡ Ok x → ws ≡ spell x
+of_one spell made verb spells line ws x hit e =
+    let b = bind_ok (refuse (BadLine line) (not (eqb (length ws) 1))) (λ _. Ok made) x e in
+    let number : length ws ≡ 1 = eqb-true (length ws) 1 (not_refused (BadLine line) (eqb (length ws) 1) b.0 b.1) in
+    let same : made ≡ x = let h = b.2 in cc in
+    one_word ws number ∙ ap (λ (w : List ℕ). w ∷ []) (same_bytes (word_at ws 0) verb hit) ∙ sym spells ∙ ap spell same
+
+-- ---- statements
+
+pub statement_of-sound : (line : ℕ) (ws : LineWords) (named : Named) → statement_of line ws ≡ Ok named → ws ≡ statement_words named
+unfolding statement_of
+statement_of-sound line ws named e = elim (cases_Bool (bytes_eq (word_at ws 0) (codes "prefer"))) [
+  | inl hit ↦ of_names statement_words Prefer (codes "prefer") (λ a b. refl) line ws named hit (rw hit at e)
+  | inr not_prefer ↦ let e1 = rw not_prefer at e in elim (cases_Bool (bytes_eq (word_at ws 0) (codes "atleast"))) [
+    | inl hit ↦ of_names statement_words AtLeast (codes "atleast") (λ a b. refl) line ws named hit (rw hit at e1)
+    | inr not_atleast ↦ let e2 = rw not_atleast at e1 in elim (cases_Bool (bytes_eq (word_at ws 0) (codes "same"))) [
+      | inl hit ↦ of_names statement_words Same (codes "same") (λ a b. refl) line ws named hit (rw hit at e2)
+      | inr not_same ↦ let e3 = rw not_same at e2 in elim (cases_Bool (bytes_eq (word_at ws 0) (codes "stronger"))) [
+        | inl hit ↦ of_pairs statement_words Stronger (codes "stronger") (λ p q on. refl) line ws named hit (rw hit at e3)
+        | inr not_stronger ↦ let e4 = rw not_stronger at e3 in elim (cases_Bool (bytes_eq (word_at ws 0) (codes "asstrong"))) [
+          | inl hit ↦ of_pairs statement_words AsStrong (codes "asstrong") (λ p q on. refl) line ws named hit (rw hit at e4)
+          | inr not_asstrong ↦ let e5 = rw not_asstrong at e4 in elim (cases_Bool (bytes_eq (word_at ws 0) (codes "equal"))) [
+            | inl hit ↦ of_pairs statement_words EqualStrength (codes "equal") (λ p q on. refl) line ws named hit (rw hit at e5)
+            | inr not_equal ↦ absurd (let e6 = rw not_equal at e5 in cc)
+          ]
+        ]
+      ]
+    ]
+  ]
+]
+
+pub statement_of-again : (line : ℕ) (named : Named) → statement_of line (statement_words named) ≡ Ok named
+unfolding statement_of
+statement_of-again line (Prefer a b) = rw (two_names-again line (codes "prefer") a b) refl
+statement_of-again line (AtLeast a b) = rw (two_names-again line (codes "atleast") a b) refl
+statement_of-again line (Same a b) = rw (two_names-again line (codes "same") a b) refl
+statement_of-again line (Stronger p q on) = rw (two_pairs-again line (codes "stronger") p q on) refl
+statement_of-again line (AsStrong p q on) = rw (two_pairs-again line (codes "asstrong") p q on) refl
+statement_of-again line (EqualStrength p q on) = rw (two_pairs-again line (codes "equal") p q on) refl
+
+-- ---- questions
+
+necessary-sound : (line : ℕ) (ws : LineWords) (asked : Asked) → bytes_eq (word_at ws 0) (codes "necessary") ≡ true → necessary_question line ws ≡ Ok asked → ws ≡ question_words asked
+unfolding necessary_question
+necessary-sound line ws asked hit e = elim (cases_Bool (eqb (length ws) 3)) [
+  | inl three ↦ of_names question_words Necessary (codes "necessary") (λ a b. refl) line ws asked hit (rw three at e)
+  | inr other ↦ of_pairs question_words NecessaryStrength (codes "necessary") (λ p q on. refl) line ws asked hit (rw other at e)
+]
+
+possible-sound : (line : ℕ) (ws : LineWords) (asked : Asked) → bytes_eq (word_at ws 0) (codes "possible") ≡ true → possible_question line ws ≡ Ok asked → ws ≡ question_words asked
+unfolding possible_question
+possible-sound line ws asked hit e = elim (cases_Bool (eqb (length ws) 3)) [
+  | inl three ↦ of_names question_words Possible (codes "possible") (λ a b. refl) line ws asked hit (rw three at e)
+  | inr other ↦ of_pairs question_words PossibleStrength (codes "possible") (λ p q on. refl) line ws asked hit (rw other at e)
+]
+
+pub question_of-sound : (line : ℕ) (ws : LineWords) (asked : Asked) → question_of line ws ≡ Ok asked → ws ≡ question_words asked
+unfolding question_of
+question_of-sound line ws asked e = elim (cases_Bool (bytes_eq (word_at ws 0) (codes "consistent"))) [
+  | inl hit ↦ of_one question_words Consistent (codes "consistent") refl line ws asked hit (rw hit at e)
+  | inr not_consistent ↦ let e1 = rw not_consistent at e in elim (cases_Bool (bytes_eq (word_at ws 0) (codes "necessary"))) [
+    | inl hit ↦ necessary-sound line ws asked hit (rw hit at e1)
+    | inr not_necessary ↦ let e2 = rw not_necessary at e1 in elim (cases_Bool (bytes_eq (word_at ws 0) (codes "possible"))) [
+      | inl hit ↦ possible-sound line ws asked hit (rw hit at e2)
+      | inr not_possible ↦ let e3 = rw not_possible at e2 in elim (cases_Bool (bytes_eq (word_at ws 0) (codes "relation"))) [
+        | inl hit ↦ of_one question_words Relation (codes "relation") refl line ws asked hit (rw hit at e3)
+        | inr not_relation ↦ absurd (let e4 = rw not_relation at e3 in cc)
+      ]
+    ]
+  ]
+]
+
+more_than_three : (p q : NamedPair) (verb : List ℕ) (on : Option (List ℕ)) → eqb (length (verb ∷ strength_words p q on)) 3 ≡ false
+more_than_three p q verb None = refl
+more_than_three p q verb (Some name) = refl
+
+pub question_of-again : (line : ℕ) (asked : Asked) → question_of line (question_words asked) ≡ Ok asked
+unfolding question_of necessary_question possible_question
+question_of-again line Consistent = refl
+question_of-again line (Necessary a b) = rw (two_names-again line (codes "necessary") a b) refl
+question_of-again line (Possible a b) = rw (two_names-again line (codes "possible") a b) refl
+question_of-again line (NecessaryStrength p q on) = rw (more_than_three p q (codes "necessary") on, two_pairs-again line (codes "necessary") p q on) refl
+question_of-again line (PossibleStrength p q on) = rw (more_than_three p q (codes "possible") on, two_pairs-again line (codes "possible") p q on) refl
+question_of-again line Relation = refl
+
+-- ---- commands
+
+some_statement : (named : Named) → 0 < length (statement_words named)
+some_statement (Prefer a b) = omega arith
+some_statement (AtLeast a b) = omega arith
+some_statement (Same a b) = omega arith
+some_statement (Stronger p q on) = omega arith
+some_statement (AsStrong p q on) = omega arith
+some_statement (EqualStrength p q on) = omega arith
+
+some_question : (asked : Asked) → 0 < length (question_words asked)
+some_question Consistent = omega arith
+some_question (Necessary a b) = omega arith
+some_question (Possible a b) = omega arith
+some_question (NecessaryStrength p q on) = omega arith
+some_question (PossibleStrength p q on) = omega arith
+some_question Relation = omega arith
+
+after_one : (ws rest : LineWords) → drop 1 ws ≡ rest → 0 < length rest → ws ≡ word_at ws 0 ∷ rest
+after_one [] rest e some = absurd (let h : length rest ≡ 0 = ap length (sym e) in omega arith)
+after_one (a ∷ more) rest e some = ap (λ (r : LineWords). a ∷ r) e
+
+after_two : (ws rest : LineWords) → drop 2 ws ≡ rest → 0 < length rest → ws ≡ word_at ws 0 ∷ word_at ws 1 ∷ rest
+after_two [] rest e some = absurd (let h : length rest ≡ 0 = ap length (sym e) in omega arith)
+after_two (a ∷ []) rest e some = absurd (let h : length rest ≡ 0 = ap length (sym e) in omega arith)
+after_two (a ∷ b ∷ more) rest e some = ap (λ (r : LineWords). a ∷ b ∷ r) e
+
+number_is : (line : ℕ) (ws : LineWords) (n : ℕ) → number_of_statement line ws ≡ Ok n → WritesCount (word_at ws 1) n
+unfolding number_of_statement
+number_is line ws n e = need_ok (BadLine line) (count_of (word_at ws 1)) n e
+
+withdrawal-sound : (line : ℕ) (ws : LineWords) (command : Command) → bytes_eq (word_at ws 0) (codes "withdraw") ≡ true → withdrawal line ws ≡ Ok command → Spells ws command
+unfolding withdrawal
+withdrawal-sound line ws command hit e =
+    let a = bind_ok (refuse (BadLine line) (not (eqb (length ws) 2))) _ command e in
+    let b = bind_ok (number_of_statement line ws) _ command a.2 in
+    let number : length ws ≡ 2 = eqb-true (length ws) 2 (not_refused (BadLine line) (eqb (length ws) 2) a.0 a.1) in
+    let same : Withdraw b.0 ≡ command = let h = b.2 in cc in
+    let is : ws ≡ codes "withdraw" ∷ word_at ws 1 ∷ [] = two_words ws number ∙ ap (λ (w : List ℕ). w ∷ word_at ws 1 ∷ []) (same_bytes (word_at ws 0) (codes "withdraw") hit) in
+    subst (λ (c : Command). Spells ws c) same (word_at ws 1, is, number_is line ws b.0 b.1)
+
+replacement-sound : (line : ℕ) (ws : LineWords) (command : Command) → bytes_eq (word_at ws 0) (codes "replace") ≡ true → replacement line ws ≡ Ok command → Spells ws command
+unfolding replacement
+replacement-sound line ws command hit e =
+    let a = bind_ok (number_of_statement line ws) _ command e in
+    let b = bind_ok (statement_of line (drop 2 ws)) _ command a.2 in
+    let same : Replace a.0 b.0 ≡ command = let h = b.2 in cc in
+    let is : ws ≡ codes "replace" ∷ word_at ws 1 ∷ statement_words b.0 = after_two ws (statement_words b.0) (statement_of-sound line (drop 2 ws) b.0 b.1) (some_statement b.0) ∙ ap (λ (w : List ℕ). w ∷ word_at ws 1 ∷ statement_words b.0) (same_bytes (word_at ws 0) (codes "replace") hit) in
+    subst (λ (c : Command). Spells ws c) same (word_at ws 1, is, number_is line ws a.0 a.1)
+
+asking-sound : (line : ℕ) (ws : LineWords) (command : Command) → bytes_eq (word_at ws 0) (codes "ask") ≡ true → (question_of line (drop 1 ws) >>= λ asked. Ok (Ask asked)) ≡ Ok command → Spells ws command
+asking-sound line ws command hit e =
+    let a = bind_ok (question_of line (drop 1 ws)) (λ asked. Ok (Ask asked)) command e in
+    let same : Ask a.0 ≡ command = let h = a.2 in cc in
+    let is : ws ≡ codes "ask" ∷ question_words a.0 = after_one ws (question_words a.0) (question_of-sound line (drop 1 ws) a.0 a.1) (some_question a.0) ∙ ap (λ (w : List ℕ). w ∷ question_words a.0) (same_bytes (word_at ws 0) (codes "ask") hit) in
+    subst (λ (c : Command). Spells ws c) same is
+
+stating-sound : (line : ℕ) (ws : LineWords) (command : Command) → (statement_of line ws >>= λ named. Ok (State named)) ≡ Ok command → Spells ws command
+stating-sound line ws command e =
+    let a = bind_ok (statement_of line ws) (λ named. Ok (State named)) command e in
+    let same : State a.0 ≡ command = let h = a.2 in cc in
+    subst (λ (c : Command). Spells ws c) same (statement_of-sound line ws a.0 a.1)
+
+undoing-sound : (line : ℕ) (ws : LineWords) (command : Command) → bytes_eq (word_at ws 0) (codes "undo") ≡ true → (refuse (BadLine line) (not (eqb (length ws) 1)) >>= λ _. Ok Undo) ≡ Ok command → Spells ws command
+undoing-sound line ws command hit e =
+    let b = bind_ok (refuse (BadLine line) (not (eqb (length ws) 1))) (λ _. Ok Undo) command e in
+    let number : length ws ≡ 1 = eqb-true (length ws) 1 (not_refused (BadLine line) (eqb (length ws) 1) b.0 b.1) in
+    let same : Undo ≡ command = let h = b.2 in cc in
+    let is : ws ≡ codes "undo" ∷ [] = one_word ws number ∙ ap (λ (w : List ℕ). w ∷ []) (same_bytes (word_at ws 0) (codes "undo") hit) in
+    subst (λ (c : Command). Spells ws c) same is
+
+pub command_of-sound : (line : ℕ) (ws : LineWords) (command : Command) → command_of line ws ≡ Ok command → Spells ws command
 unfolding command_of
-command_of-other_kind f none [] n g h = refl
-command_of-other_kind f none (a ∷ []) n g h = refl
-command_of-other_kind f none (a ∷ b ∷ []) n g h = refl
-command_of-other_kind f none (a ∷ b ∷ c ∷ []) n g h = absurd (omega arith)
-command_of-other_kind f none (a ∷ b ∷ c ∷ d ∷ []) n g h = rw (sym g, sym h) refl
-command_of-other_kind f none (a ∷ b ∷ c ∷ d ∷ e ∷ more) n g h = refl
+command_of-sound line ws command e = elim (cases_Bool (bytes_eq (word_at ws 0) (codes "withdraw"))) [
+  | inl hit ↦ withdrawal-sound line ws command hit (rw hit at e)
+  | inr not_withdraw ↦ let e1 = rw not_withdraw at e in elim (cases_Bool (bytes_eq (word_at ws 0) (codes "replace"))) [
+    | inl hit ↦ replacement-sound line ws command hit (rw hit at e1)
+    | inr not_replace ↦ let e2 = rw not_replace at e1 in elim (cases_Bool (bytes_eq (word_at ws 0) (codes "undo"))) [
+      | inl hit ↦ undoing-sound line ws command hit (rw hit at e2)
+      | inr not_undo ↦ let e3 = rw not_undo at e2 in elim (cases_Bool (bytes_eq (word_at ws 0) (codes "ask"))) [
+        | inl hit ↦ asking-sound line ws command hit (rw hit at e3)
+        | inr not_ask ↦ stating-sound line ws command (rw not_ask at e3)
+      ]
+    ]
+  ]
+]
+
+-- a statement's words begin with no word of another command
+stated_again : (line : ℕ) (named : Named) → command_of line (statement_words named) ≡ (statement_of line (statement_words named) >>= λ x. Ok (State x))
+unfolding command_of
+stated_again line (Prefer a b) = refl
+stated_again line (AtLeast a b) = refl
+stated_again line (Same a b) = refl
+stated_again line (Stronger p q on) = refl
+stated_again line (AsStrong p q on) = refl
+stated_again line (EqualStrength p q on) = refl
+
+withdrawn_again : (line n : ℕ) (word : List ℕ) → WritesCount word n → command_of line (codes "withdraw" ∷ word ∷ []) ≡ Ok (Withdraw n)
+unfolding command_of withdrawal number_of_statement
+withdrawn_again line n word h = rw h refl
+
+replaced_again : (line n : ℕ) (word : List ℕ) (named : Named) → WritesCount word n → command_of line (codes "replace" ∷ word ∷ statement_words named) ≡ Ok (Replace n named)
+unfolding command_of replacement number_of_statement
+replaced_again line n word named h = rw (h, statement_of-again line named) refl
+
+asked_again : (line : ℕ) (asked : Asked) → command_of line (codes "ask" ∷ question_words asked) ≡ Ok (Ask asked)
+unfolding command_of
+asked_again line asked = rw (question_of-again line asked) refl
+
+undone_again : (line : ℕ) → command_of line (codes "undo" ∷ []) ≡ Ok Undo
+unfolding command_of
+undone_again line = refl
+
+pub command_of-again : (line : ℕ) (ws : LineWords) (command : Command) → Spells ws command → command_of line ws ≡ Ok command
+command_of-again line ws (State named) h = ap (command_of line) h ∙ stated_again line named ∙ ap (λ (r : Result Named SessionFault). r >>= λ x. Ok (State x)) (statement_of-again line named)
+command_of-again line ws (Withdraw n) h = ap (command_of line) h.1 ∙ withdrawn_again line n h.0 h.2
+command_of-again line ws (Replace n named) h = ap (command_of line) h.1 ∙ replaced_again line n h.0 named h.2
+command_of-again line ws Undo h = ap (command_of line) h ∙ undone_again line
+command_of-again line ws (Ask asked) h = ap (command_of line) h ∙ asked_again line asked
+
+-- ---- the one fault
+
+-- a reading has no other fault than that its line is bad
+abbrev pub IsBadAt : {A : Type 0} → ℕ → Result A SessionFault → Type 0
+IsBadAt line r = IfErr r (λ fault. fault ≡ BadLine line)
+
+pub bad_bind : {A B : Type 0} (line : ℕ) (r : Result A SessionFault) (f : A → Result B SessionFault) → IsBadAt line r → ((x : A) → IsBadAt line (f x)) → IsBadAt line (r >>= f)
+bad_bind line (Ok x) f h each = each x
+bad_bind line (Err fault) f h each = h
+
+pub bad_refuse : (line : ℕ) (test : Bool) → IsBadAt line (refuse (BadLine line) test)
+bad_refuse line true = refl
+bad_refuse line false = tt
+
+bad_need : {A : Type 0} (line : ℕ) (o : Option A) → IsBadAt line (need (BadLine line) o)
+bad_need line None = refl
+bad_need line (Some x) = tt
+
+two_names-bad : (line : ℕ) (ws : LineWords) → IsBadAt line (two_names line ws)
+unfolding two_names
+two_names-bad line ws = elim (cases_Bool (eqb (length ws) 3)) [ inl hit ↦ rw hit tt | inr miss ↦ rw miss refl ]
+
+criterion_of-bad : (line : ℕ) (ws : LineWords) → IsBadAt line (criterion_of line ws)
+unfolding criterion_of
+criterion_of-bad line ws = elim (cases_Bool (eqb (length ws) 5)) [
+  | inl five ↦ rw five tt
+  | inr other ↦ elim (cases_Bool (eqb (length ws) 7)) [
+    | inr miss ↦ rw (other, miss) refl
+    | inl seven ↦ elim (cases_Bool (bytes_eq (word_at ws 5) (codes "on"))) [ inl hit ↦ rw (other, seven, hit) tt | inr miss ↦ rw (other, seven, miss) refl ]
+  ]
+]
+
+two_pairs-bad : (line : ℕ) (ws : LineWords) → IsBadAt line (two_pairs line ws)
+unfolding two_pairs
+two_pairs-bad line ws = bad_bind line (criterion_of line ws) (λ (on : Option (List ℕ)). Ok (record { first = pair_at ws 1; second = pair_at ws 3; criterion = on })) (criterion_of-bad line ws) (λ on. tt)
+
+names_bad : {A : Type 0} (line : ℕ) (ws : LineWords) (make : List ℕ → List ℕ → A) → IsBadAt line (two_names line ws >>= λ p. Ok (make p.first p.second))
+names_bad line ws make = bad_bind line (two_names line ws) (λ (p : NamedPair). Ok (make p.first p.second)) (two_names-bad line ws) (λ x. tt)
+
+pairs_bad : {A : Type 0} (line : ℕ) (ws : LineWords) (make : NamedPair → NamedPair → Option (List ℕ) → A) → IsBadAt line (two_pairs line ws >>= λ t. Ok (make t.first t.second t.criterion))
+pairs_bad line ws make = bad_bind line (two_pairs line ws) (λ (t : TwoPairs). Ok (make t.first t.second t.criterion)) (two_pairs-bad line ws) (λ x. tt)
+
+one_bad : {A : Type 0} (line n : ℕ) (ws : LineWords) (made : A) → IsBadAt line (refuse (BadLine line) (not (eqb (length ws) n)) >>= λ _. Ok made)
+one_bad line n ws made = elim (cases_Bool (eqb (length ws) n)) [ inl hit ↦ rw hit tt | inr miss ↦ rw miss refl ]
+
+statement_of-bad : (line : ℕ) (ws : LineWords) → IsBadAt line (statement_of line ws)
+unfolding statement_of
+statement_of-bad line ws = elim (cases_Bool (bytes_eq (word_at ws 0) (codes "prefer"))) [
+  | inl hit ↦ rw hit (names_bad line ws Prefer)
+  | inr a ↦ elim (cases_Bool (bytes_eq (word_at ws 0) (codes "atleast"))) [
+    | inl hit ↦ rw (a, hit) (names_bad line ws AtLeast)
+    | inr b ↦ elim (cases_Bool (bytes_eq (word_at ws 0) (codes "same"))) [
+      | inl hit ↦ rw (a, b, hit) (names_bad line ws Same)
+      | inr c ↦ elim (cases_Bool (bytes_eq (word_at ws 0) (codes "stronger"))) [
+        | inl hit ↦ rw (a, b, c, hit) (pairs_bad line ws Stronger)
+        | inr d ↦ elim (cases_Bool (bytes_eq (word_at ws 0) (codes "asstrong"))) [
+          | inl hit ↦ rw (a, b, c, d, hit) (pairs_bad line ws AsStrong)
+          | inr f ↦ elim (cases_Bool (bytes_eq (word_at ws 0) (codes "equal"))) [
+            | inl hit ↦ rw (a, b, c, d, f, hit) (pairs_bad line ws EqualStrength)
+            | inr g ↦ rw (a, b, c, d, f, g) refl
+          ]
+        ]
+      ]
+    ]
+  ]
+]
+
+necessary-bad : (line : ℕ) (ws : LineWords) → IsBadAt line (necessary_question line ws)
+unfolding necessary_question
+necessary-bad line ws = elim (cases_Bool (eqb (length ws) 3)) [ inl three ↦ rw three (names_bad line ws Necessary) | inr other ↦ rw other (pairs_bad line ws NecessaryStrength) ]
+
+possible-bad : (line : ℕ) (ws : LineWords) → IsBadAt line (possible_question line ws)
+unfolding possible_question
+possible-bad line ws = elim (cases_Bool (eqb (length ws) 3)) [ inl three ↦ rw three (names_bad line ws Possible) | inr other ↦ rw other (pairs_bad line ws PossibleStrength) ]
+
+question_of-bad : (line : ℕ) (ws : LineWords) → IsBadAt line (question_of line ws)
+unfolding question_of
+question_of-bad line ws = elim (cases_Bool (bytes_eq (word_at ws 0) (codes "consistent"))) [
+  | inl hit ↦ rw hit (one_bad line 1 ws Consistent)
+  | inr a ↦ elim (cases_Bool (bytes_eq (word_at ws 0) (codes "necessary"))) [
+    | inl hit ↦ rw (a, hit) (necessary-bad line ws)
+    | inr b ↦ elim (cases_Bool (bytes_eq (word_at ws 0) (codes "possible"))) [
+      | inl hit ↦ rw (a, b, hit) (possible-bad line ws)
+      | inr c ↦ elim (cases_Bool (bytes_eq (word_at ws 0) (codes "relation"))) [
+        | inl hit ↦ rw (a, b, c, hit) (one_bad line 1 ws Relation)
+        | inr d ↦ rw (a, b, c, d) refl
+      ]
+    ]
+  ]
+]
+
+number-bad : (line : ℕ) (ws : LineWords) → IsBadAt line (number_of_statement line ws)
+unfolding number_of_statement
+number-bad line ws = bad_need line (count_of (word_at ws 1))
+
+withdrawal-bad : (line : ℕ) (ws : LineWords) → IsBadAt line (withdrawal line ws)
+unfolding withdrawal
+withdrawal-bad line ws = elim (cases_Bool (eqb (length ws) 2)) [
+  | inl hit ↦ rw hit (bad_bind line (number_of_statement line ws) (λ (n : ℕ). Ok (Withdraw n)) (number-bad line ws) (λ n. tt))
+  | inr miss ↦ rw miss refl
+]
+
+replacement-bad : (line : ℕ) (ws : LineWords) → IsBadAt line (replacement line ws)
+unfolding replacement
+replacement-bad line ws = bad_bind line (number_of_statement line ws) (λ (n : ℕ). statement_of line (drop 2 ws) >>= λ (named : Named). Ok (Replace n named)) (number-bad line ws) (λ n. bad_bind line (statement_of line (drop 2 ws)) (λ (named : Named). Ok (Replace n named)) (statement_of-bad line (drop 2 ws)) (λ named. tt))
+
+pub command_of-bad : (line : ℕ) (ws : LineWords) → IsBadAt line (command_of line ws)
+unfolding command_of
+command_of-bad line ws = elim (cases_Bool (bytes_eq (word_at ws 0) (codes "withdraw"))) [
+  | inl hit ↦ rw hit (withdrawal-bad line ws)
+  | inr a ↦ elim (cases_Bool (bytes_eq (word_at ws 0) (codes "replace"))) [
+    | inl hit ↦ rw (a, hit) (replacement-bad line ws)
+    | inr b ↦ elim (cases_Bool (bytes_eq (word_at ws 0) (codes "undo"))) [
+      | inl hit ↦ rw (a, b, hit) (one_bad line 1 ws Undo)
+      | inr c ↦ elim (cases_Bool (bytes_eq (word_at ws 0) (codes "ask"))) [
+        | inl hit ↦ rw (a, b, c, hit) (bad_bind line (question_of line (drop 1 ws)) (λ (asked : Asked). Ok (Ask asked)) (question_of-bad line (drop 1 ws)) (λ asked. tt))
+        | inr d ↦ rw (a, b, c, d) (bad_bind line (statement_of line ws) (λ (named : Named). Ok (State named)) (statement_of-bad line ws) (λ named. tt))
+      ]
+    ]
+  ]
+]

@@ -1,4 +1,7 @@
+pub mod LineLemmas
+pub mod DeskLemmas
 pub mod CommandLemmas
-pub mod GrammarLemmas
+pub mod SaidLemmas
 pub mod SessionLemmas
-pub mod NumberLemmas
+pub mod TextLemmas
+pub mod SoundLemmas

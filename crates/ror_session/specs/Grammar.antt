@@ -1,60 +1,115 @@
--- Well formed sessions: what their lines may be, and what each line says.
-use Rattle.std.specs.Prelude.{◌≡◌, ◌≢◌, ℕ, ◌≤◌, List, [], ◌∷◌, ◌++◌, length, codes}
-use Rattle.std.specs.List.{AllByRecursion}
+-- The grammar of a session: which words write which line, and which lines are which session.
+use Rattle.std.specs.Prelude.{◌≡◌, ◌≢◌, ℕ, ◌≤◌, List, [], ◌∷◌, ◌++◌, length, map, codes, slice_index_or, Option, Some, None}
+use Rattle.std.specs.List.{AllByRecursion, AllZip}
+use Rattle.std.specs.Str.{IsUtf8}
 use Rattle.ror_text.specs.declared.lines.TheConstants.{MOST_TEXT_BYTES}
-use Rattle.ror_text.specs.Lines.{line_count}
-use Rattle.ror_session.specs.declared.reading.TheConstants.{MOST_LINES}
-use Rattle.ror_session.specs.Session.{desks_of}
+use Rattle.ror_text.specs.Lines.{numbered_lines, line_count}
+use Rattle.ror_text.specs.Numbers.{count_of}
+use Rattle.ror_session.specs.declared.limits.TheConstants.{MOST_DESKS, MOST_DESK_NAME_BYTES, MOST_LINES}
+use Rattle.ror_session.specs.declared.session.NamedPair.{NamedPair}
+use Rattle.ror_session.specs.declared.session.Named.{Named}
+use Rattle.ror_session.specs.declared.session.Named.TheVariants.{Prefer, AtLeast, Same, Stronger, AsStrong, EqualStrength}
+use Rattle.ror_session.specs.declared.session.Asked.{Asked}
+use Rattle.ror_session.specs.declared.session.Asked.TheVariants.{Consistent, Necessary, Possible, NecessaryStrength, PossibleStrength, Relation}
+use Rattle.ror_session.specs.declared.session.Command.{Command}
+use Rattle.ror_session.specs.declared.session.Command.TheVariants.{State, Withdraw, Replace, Undo, Ask}
 use Rattle.ror_session.specs.declared.session.Session.{Session}
 use Rattle.ror_session.specs.declared.session.Line.{Line}
-use Rattle.ror_session.specs.declared.session.Command.{Command}
-use Rattle.ror_session.specs.declared.session.Command.TheVariants.{State, Ask}
-use Rattle.ror_session.specs.declared.session.Named.TheVariants.{Prefer}
-use Rattle.ror_session.specs.declared.session.Asked.TheVariants.{Necessary}
+use Rattle.ror_session.specs.declared.reading.Said.{Said}
+use Rattle.ror_session.specs.Desks.{first_appearances, place_of}
 
--- how long a session's text may be: lines that are passed over count too
-pub record IsWithinLimits (bytes : List ℕ) : Type 0 where
-  pub few_bytes : length bytes ≤ MOST_TEXT_BYTES
-  pub few_lines : line_count bytes ≤ MOST_LINES
+-- a line is its words
+abbrev pub LineWords : Type 0
+LineWords = List (List ℕ)
+
+-- a line's word, from 0; past the last word it is empty
+abbrev pub word_at : LineWords → ℕ → List ℕ
+word_at ws i = slice_index_or ws i []
+
+-- `on Q`, where a criterion is named
+abbrev pub on_criterion : Option (List ℕ) → LineWords
+on_criterion None = []
+on_criterion (Some name) = codes "on" ∷ name ∷ []
+
+-- `A B C D`, and `on Q` after them where a criterion is named
+abbrev pub strength_words : NamedPair → NamedPair → Option (List ℕ) → LineWords
+strength_words p q criterion =
+    p.first ∷ p.second ∷ q.first ∷ q.second ∷ on_criterion criterion
+
+-- the words of a statement
+abbrev pub statement_words : Named → LineWords
+statement_words (Prefer a b) = codes "prefer" ∷ a ∷ b ∷ []
+statement_words (AtLeast a b) = codes "atleast" ∷ a ∷ b ∷ []
+statement_words (Same a b) = codes "same" ∷ a ∷ b ∷ []
+statement_words (Stronger p q on) = codes "stronger" ∷ strength_words p q on
+statement_words (AsStrong p q on) = codes "asstrong" ∷ strength_words p q on
+statement_words (EqualStrength p q on) = codes "equal" ∷ strength_words p q on
+
+-- the words of a question
+abbrev pub question_words : Asked → LineWords
+question_words Consistent = codes "consistent" ∷ []
+question_words (Necessary a b) = codes "necessary" ∷ a ∷ b ∷ []
+question_words (Possible a b) = codes "possible" ∷ a ∷ b ∷ []
+question_words (NecessaryStrength p q on) = codes "necessary" ∷ strength_words p q on
+question_words (PossibleStrength p q on) = codes "possible" ∷ strength_words p q on
+question_words Relation = codes "relation" ∷ []
+
+-- the word is a count, and writes this number
+abbrev pub WritesCount : List ℕ → ℕ → Type 0
+WritesCount word n = count_of word ≡ Some n
 
 -- the words spell the command
-abbrev pub Spells : List (List ℕ) → Command → Type 0
-Spells ws (State (Prefer first second)) = ws ≡ codes "prefer" ∷ first ∷ second ∷ []
-Spells ws (Ask (Necessary first second)) =
-    ws ≡ codes "ask" ∷ codes "necessary" ∷ first ∷ second ∷ []
+abbrev pub Spells : LineWords → Command → Type 0
+Spells ws (State named) = ws ≡ statement_words named
+Spells ws (Withdraw n) =
+    (word : List ℕ) × (ws ≡ codes "withdraw" ∷ word ∷ []) × WritesCount word n
+Spells ws (Replace n named) =
+    (word : List ℕ) × (ws ≡ codes "replace" ∷ word ∷ statement_words named) × WritesCount word n
+Spells ws Undo = ws ≡ codes "undo" ∷ []
+Spells ws (Ask asked) = ws ≡ codes "ask" ∷ question_words asked
 
--- no byte of a word is below 0x21 or is 0x7F
-abbrev pub IsClean : List (List ℕ) → Type 0
-IsClean ws = AllByRecursion (AllByRecursion (λ byte. (0x21 ≤ byte) × (byte ≢ 0x7F))) ws
+-- the desk word of a desk, `@` and its name; the desk without a name has none
+abbrev pub desk_words : List ℕ → LineWords
+desk_words [] = []
+desk_words (byte ∷ bytes) = (64 ∷ byte ∷ bytes) ∷ []
+
+-- no byte of the word is below 0x21 or is 0x7F: it has neither blanks nor control bytes
+abbrev pub IsClean : List ℕ → Type 0
+IsClean word = AllByRecursion (λ byte. (0x21 ≤ byte) × (byte ≢ 0x7F)) word
 
 -- a line's number in the file and its words, and what the line says
-pub record IsLine (numbered : ℕ × List (List ℕ)) (line : Line) : Type 0 where
-  pub number : line.number ≡ numbered.0
-  pub desk : line.desk ≡ 0
-  pub clean : IsClean numbered.1
-  pub spelled : Spells numbered.1 line.command
+pub record Says (line : ℕ × LineWords) (said : Said) : Type 0 where
+  pub number : said.number ≡ line.0
+  pub clean : AllByRecursion IsClean line.1
+  pub command_words : LineWords
+  pub is : line.1 ≡ desk_words said.desk ++ command_words
+  pub short : length said.desk ≤ MOST_DESK_NAME_BYTES
+  pub spelled : Spells command_words said.command
 
 -- a line says something
-abbrev pub IsWellFormed : ℕ × List (List ℕ) → Type 0
-IsWellFormed numbered = (line : Line) × IsLine numbered line
+abbrev pub IsWellFormed : ℕ × LineWords → Type 0
+IsWellFormed line = (said : Said) × Says line said
 
--- line by line, in order
-abbrev pub AreLines : List (ℕ × List (List ℕ)) → List Line → Type 0
-AreLines [] [] = Unit {0}
-AreLines [] (line ∷ lines) = ⊥
-AreLines (numbered ∷ more) [] = ⊥
-AreLines (numbered ∷ more) (line ∷ lines) = IsLine numbered line × AreLines more lines
+-- what a line says, with the place of its desk
+abbrev pub placed : List (List ℕ) → Said → Line
+placed desks said =
+    record { number = said.number; desk = place_of desks said.desk; command = said.command }
 
--- the lines that are not passed over, and the session that they are
-pub record IsSession (numbered : List (ℕ × List (List ℕ))) (session : Session) : Type 0 where
-  pub lines : AreLines numbered session.lines
-  pub desks : session.desks ≡ desks_of session.lines
+-- what the lines say is the session: its desks are theirs, in order of first appearance
+pub record IsSession (numbered : List (ℕ × LineWords)) (session : Session) : Type 0 where
+  pub said : List Said
+  pub says : AllZip Says numbered said
+  pub desks : session.desks ≡ first_appearances (map (λ line. line.desk) said)
+  pub few_desks : length session.desks ≤ MOST_DESKS
+  pub lines : session.lines ≡ map (placed session.desks) said
 
--- the line with this number is not well formed, and those before it are
-pub record IsFirstBadLine (numbered : List (ℕ × List (List ℕ))) (number : ℕ) : Type 0 where
-  pub before : List (ℕ × List (List ℕ))
-  pub ws : List (List ℕ)
-  pub after : List (ℕ × List (List ℕ))
-  pub split : numbered ≡ before ++ (number, ws) ∷ after
-  pub well_formed : AllByRecursion IsWellFormed before
-  pub bad : ¬ (IsWellFormed (number, ws))
+-- the bytes are within the limits, and a text
+pub record IsReadable (bytes : List ℕ) : Type 0 where
+  pub few_bytes : length bytes ≤ MOST_TEXT_BYTES
+  pub utf8 : IsUtf8 bytes
+  pub few_lines : line_count bytes ≤ MOST_LINES
+
+-- the bytes are a text of the session
+pub record IsSessionText (bytes : List ℕ) (session : Session) : Type 0 where
+  pub readable : IsReadable bytes
+  pub lines : IsSession (numbered_lines bytes) session

@@ -1,22 +1,20 @@
 //! Laws of the definitions, each the clause of a function that does nothing.
 
-ghost use Rattle.ror_session.specs.Laws.{WellFormedIsRead, FirstBadLineIsNamed, LongTextIsTooLong, OtherBytesAreNotUtf8, ManyLinesAreTooMany};
+ghost use Rattle.ror_session.specs.Laws.{ReadsTheGrammar, GivesTheFirstFault, IsSoundWhenRead};
 
-/// A text is read exactly where it is within the limits, UTF-8 and well formed, and as the session
-/// that its lines are.
-pub fn well_formed_is_read()
-    ensures { WellFormedIsRead }
+/// A text is read exactly where it is within the limits, UTF-8 and in the grammar, and as the
+/// session that its lines are.
+pub fn sessions_are_the_grammar()
+    ensures { ReadsTheGrammar }
 {}
 
-/// A bad line is named exactly where it is the first one of a text that is within the limits and
-/// UTF-8.
-pub fn first_bad_line_is_named()
-    ensures { FirstBadLineIsNamed }
+/// The fault that is given is the first that the text has, and each first fault is given.
+pub fn the_first_fault_is_given()
+    ensures { GivesTheFirstFault }
 {}
 
-/// The faults of the whole text: when each comes.
-pub fn whole_text_faults()
-    ensures too_long { LongTextIsTooLong }
-    ensures not_utf8 { OtherBytesAreNotUtf8 }
-    ensures too_many_lines { ManyLinesAreTooMany }
+/// A session that is read has distinct desks, 64 at most, each of them of some line; its lines'
+/// numbers rise; and no name in it has a blank or a control byte.
+pub fn what_is_read_is_sound()
+    ensures { IsSoundWhenRead }
 {}

@@ -7,19 +7,49 @@ use ror_text::{Items, Text};
 use std::alloc::{AllocError, AllocFailed};
 use thiserror::Error;
 
-/// What a line states, by the names that it gives.
+/// Two alternatives, by their names: the preference of the first over the second.
+#[derive(Debug, Drop)]
+pub struct NamedPair {
+    pub first: Text,
+    pub second: Text,
+}
+
+/// What a line states, by the names that it gives. An alternative's or a criterion's name is any
+/// word; whether the table has it is not asked here. Where the strengths of two preferences are
+/// compared, it is on the criterion that is named, or over all criteria.
 #[derive(Debug, Drop)]
 pub enum Named {
     /// The first alternative is worth more than the second.
     Prefer(Text, Text),
+    /// The first alternative is worth at least as much as the second.
+    AtLeast(Text, Text),
+    /// The two alternatives are worth the same.
+    Same(Text, Text),
+    /// The first preference is stronger than the second.
+    Stronger(NamedPair, NamedPair, Option<Text>),
+    /// The first preference is at least as strong as the second.
+    AsStrong(NamedPair, NamedPair, Option<Text>),
+    /// The two preferences are equally strong.
+    EqualStrength(NamedPair, NamedPair, Option<Text>),
 }
 
-/// What a line asks, by the names that it gives.
+/// What a line asks, by the names that it gives: of every compatible function what is necessary, of
+/// some compatible function what is possible.
 #[derive(Debug, Drop)]
 pub enum Asked {
-    /// Whether the first alternative is at least as good as the second for every compatible
-    /// function.
+    /// Whether some function is compatible.
+    Consistent,
+    /// Whether the first alternative is necessarily worth at least as much as the second.
     Necessary(Text, Text),
+    /// Whether it possibly is.
+    Possible(Text, Text),
+    /// Whether the first preference is necessarily at least as strong as the second, on the
+    /// criterion that is named or over all criteria.
+    NecessaryStrength(NamedPair, NamedPair, Option<Text>),
+    /// Whether it possibly is.
+    PossibleStrength(NamedPair, NamedPair, Option<Text>),
+    /// The necessary and the possible preference between each two alternatives.
+    Relation,
 }
 
 /// What a line says.
@@ -27,6 +57,12 @@ pub enum Asked {
 pub enum Command {
     /// The judge states something.
     State(Named),
+    /// The judge withdraws the statement with this number.
+    Withdraw(u32),
+    /// The judge states something in the place of the statement with this number.
+    Replace(u32, Named),
+    /// The judge takes the last revision back.
+    Undo,
     /// The analyst asks something.
     Ask(Asked),
 }
@@ -63,6 +99,9 @@ pub enum SessionFault {
     /// There are more than 16,777,216 bytes.
     #[error("too long")]
     TooLong,
+    /// The line with this number is well formed, and for a 65th desk.
+    #[error("too many desks at line {0}")]
+    TooManyDesks(u32),
     #[error("out of memory")]
     Memory,
 }

@@ -1,55 +1,115 @@
 //! Tests of the crate's public calls.
 
-use crate::{Asked, Command, Line, Named, Session, SessionFault, read_session};
+use crate::{Asked, Command, Named, NamedPair, Session, SessionFault, read_session};
+use ror_text::Text;
 use std::alloc::Global;
 use std::test::Fail;
 
-/// What a line says of two names.
-#[derive(Clone, Copy)]
-enum Form {
-    Prefer,
-    Necessary,
-}
-
-use Form::{Necessary, Prefer};
-
-/// Whether a line has this number and says this of the names at the desk without a name.
-fn says(line: &Line, number: u32, form: Form, first: &str, second: &str) -> bool {
-    let (one, other) = match (&line.command, form) {
-        (Command::State(Named::Prefer(one, other)), Prefer) => (one, other),
-        (Command::Ask(Asked::Necessary(one, other)), Necessary) => (one, other),
-        _ => return false,
-    };
-    line.number == number && line.desk == 0 && one.as_str() == first && other.as_str() == second
-}
-
-/// Whether the text is read as these lines.
-fn reads_as(alloc: Global, text: &[u8], wanted: &[(u32, Form, &str, &str)]) -> bool {
-    let Ok(session) = read_session(alloc, text) else {
-        return false;
-    };
-    let lines = session.lines.as_slice();
-    if lines.len() != wanted.len() {
+/// Whether the texts are these words.
+fn are(texts: &[&str], words: &[&str]) -> bool {
+    if texts.len() != words.len() {
         return false;
     }
-    for (line, (number, form, first, second)) in lines.iter().zip(wanted) {
-        if !says(line, *number, *form, first, second) {
+    for (text, word) in texts.iter().zip(words) {
+        if *text != *word {
             return false;
         }
     }
-    has_desks(&session)
+    true
 }
 
-/// Whether the desk without a name is the only one, and there is none where there is no line.
-fn has_desks(session: &Session) -> bool {
-    match session.desks.as_slice() {
-        [] => session.lines.is_empty(),
-        [name] => name.as_str() == "" && !session.lines.is_empty(),
-        _ => false,
+fn are_two(verb: &str, first: &Text, second: &Text, words: &[&str]) -> bool {
+    are(&[verb, first.as_str(), second.as_str()], words)
+}
+
+fn are_pairs(
+    verb: &str,
+    p: &NamedPair,
+    q: &NamedPair,
+    criterion: &Option<Text>,
+    words: &[&str],
+) -> bool {
+    let (a, b) = (p.first.as_str(), p.second.as_str());
+    let (c, d) = (q.first.as_str(), q.second.as_str());
+    match criterion {
+        None => are(&[verb, a, b, c, d], words),
+        Some(name) => are(&[verb, a, b, c, d, "on", name.as_str()], words),
     }
 }
 
-/// Whether the text is refused for the line with this number.
+/// Whether the words spell the statement.
+fn states(named: &Named, words: &[&str]) -> bool {
+    match named {
+        Named::Prefer(a, b) => are_two("prefer", a, b, words),
+        Named::AtLeast(a, b) => are_two("atleast", a, b, words),
+        Named::Same(a, b) => are_two("same", a, b, words),
+        Named::Stronger(p, q, on) => are_pairs("stronger", p, q, on, words),
+        Named::AsStrong(p, q, on) => are_pairs("asstrong", p, q, on, words),
+        Named::EqualStrength(p, q, on) => are_pairs("equal", p, q, on, words),
+    }
+}
+
+/// Whether the words spell the question.
+fn asks(asked: &Asked, words: &[&str]) -> bool {
+    match asked {
+        Asked::Consistent => are(&["consistent"], words),
+        Asked::Necessary(a, b) => are_two("necessary", a, b, words),
+        Asked::Possible(a, b) => are_two("possible", a, b, words),
+        Asked::NecessaryStrength(p, q, on) => are_pairs("necessary", p, q, on, words),
+        Asked::PossibleStrength(p, q, on) => are_pairs("possible", p, q, on, words),
+        Asked::Relation => are(&["relation"], words),
+    }
+}
+
+/// Whether the words spell the command, of which a number is given apart.
+fn says(command: &Command, number: u32, words: &[&str]) -> bool {
+    match command {
+        Command::State(named) => states(named, words),
+        Command::Withdraw(n) => *n == number && are(&["withdraw"], words),
+        Command::Replace(n, named) => *n == number && states(named, words),
+        Command::Undo => are(&["undo"], words),
+        Command::Ask(asked) => asks(asked, words),
+    }
+}
+
+/// Whether the line at a place has this number, and its command these words.
+fn has_line(session: &Session, place: usize, number: u32, words: &[&str]) -> bool {
+    match session.lines.get(place) {
+        Some(line) => line.number == number && says(&line.command, 0, words),
+        None => false,
+    }
+}
+
+/// Whether the command of the line at a place has these words, and this number of a statement.
+fn revises(session: &Session, place: usize, number: u32, words: &[&str]) -> bool {
+    match session.lines.get(place) {
+        Some(line) => says(&line.command, number, words),
+        None => false,
+    }
+}
+
+/// Whether the line at a place is for the desk at this one.
+fn is_for(session: &Session, place: usize, desk: u32) -> bool {
+    match session.lines.get(place) {
+        Some(line) => line.desk == desk,
+        None => false,
+    }
+}
+
+/// Whether the session's desks have these names.
+fn has_desks(session: &Session, names: &[&str]) -> bool {
+    if session.desks.len() != names.len() {
+        return false;
+    }
+    for (desk, name) in session.desks.as_slice().iter().zip(names) {
+        if desk.as_str() != *name {
+            return false;
+        }
+    }
+    true
+}
+
+/// Whether the text is refused for the line with this number, as a bad one.
 fn is_bad_at(alloc: Global, text: &[u8], number: u32) -> bool {
     match read_session(alloc, text) {
         Err(SessionFault::BadLine(line)) => line == number,
@@ -57,60 +117,146 @@ fn is_bad_at(alloc: Global, text: &[u8], number: u32) -> bool {
     }
 }
 
-fn is_not_utf8(alloc: Global, text: &[u8]) -> bool {
+/// Whether the text is refused for the line with this number, as for one desk more than there may
+/// be.
+fn has_too_many_desks_at(alloc: Global, text: &[u8], number: u32) -> bool {
     match read_session(alloc, text) {
-        Err(SessionFault::NotUtf8) => true,
-        _ => false,
-    }
-}
-
-fn has_too_many_lines(alloc: Global, text: &[u8]) -> bool {
-    match read_session(alloc, text) {
-        Err(SessionFault::TooManyLines) => true,
+        Err(SessionFault::TooManyDesks(line)) => line == number,
         _ => false,
     }
 }
 
 #[test]
-fn a_text_without_lines_is_an_empty_session(rt: HostRuntime) {
-    assert!(rt; reads_as(rt.alloc(), b"", &[]));
-    assert!(rt; reads_as(rt.alloc(), b"\n \t\r\n# ask necessary a c\n  #", &[]));
-}
-
-#[test]
-fn lines_have_their_numbers_in_the_file(rt: HostRuntime) {
-    let one = b"ask necessary a c";
-    assert!(rt; reads_as(rt.alloc(), one, &[(1, Necessary, "a", "c")]));
-    let three = b"# first\n\nask necessary a c\r\n\task \t necessary  b a \n#\nprefer\tc b\n";
+fn statements_are_read(rt: HostRuntime) -> Result<(), Fail> {
+    let text =
+        b"prefer a b\natleast b c\nsame c a\nstronger a b c d\n\nasstrong a b c d on q\nequal on on on on on on\n";
+    let session = read_session(rt.alloc(), text)?;
+    assert!(rt; session.lines.len() == 6);
+    assert!(rt; has_line(&session, 0, 1, &["prefer", "a", "b"]));
+    assert!(rt; has_line(&session, 1, 2, &["atleast", "b", "c"]));
+    assert!(rt; has_line(&session, 2, 3, &["same", "c", "a"]));
+    assert!(rt; has_line(&session, 3, 4, &["stronger", "a", "b", "c", "d"]));
+    assert!(rt; has_line(&session, 4, 6, &["asstrong", "a", "b", "c", "d", "on", "q"]));
     assert!(rt;
-        reads_as(
-            rt.alloc(),
-            three,
-            &[
-                (3, Necessary, "a", "c"),
-                (4, Necessary, "b", "a"),
-                (6, Prefer, "c", "b")
-            ]
+        has_line(
+            &session,
+            5,
+            7,
+            &["equal", "on", "on", "on", "on", "on", "on"]
         )
     );
+    Ok(())
+}
+
+#[test]
+fn questions_are_read(rt: HostRuntime) -> Result<(), Fail> {
+    let text =
+        b"ask consistent\nask necessary a b\r\nask possible b a\nask necessary a b c d\n# none\nask possible a b c d on q\n \task  relation";
+    let session = read_session(rt.alloc(), text)?;
+    assert!(rt; session.lines.len() == 6);
+    assert!(rt; has_line(&session, 0, 1, &["consistent"]));
+    assert!(rt; has_line(&session, 1, 2, &["necessary", "a", "b"]));
+    assert!(rt; has_line(&session, 2, 3, &["possible", "b", "a"]));
+    assert!(rt; has_line(&session, 3, 4, &["necessary", "a", "b", "c", "d"]));
+    assert!(rt; has_line(&session, 4, 6, &["possible", "a", "b", "c", "d", "on", "q"]));
+    assert!(rt; has_line(&session, 5, 7, &["relation"]));
+    Ok(())
+}
+
+#[test]
+fn revisions_are_read(rt: HostRuntime) -> Result<(), Fail> {
+    let text = b"withdraw 007\nreplace 999999999 equal a b c d\nundo\n";
+    let session = read_session(rt.alloc(), text)?;
+    assert!(rt; session.lines.len() == 3);
+    assert!(rt; revises(&session, 0, 7, &["withdraw"]));
+    assert!(rt; revises(&session, 1, 999_999_999, &["equal", "a", "b", "c", "d"]));
+    assert!(rt; revises(&session, 2, 0, &["undo"]));
+    Ok(())
+}
+
+#[test]
+fn desks_are_in_order_of_first_appearance(rt: HostRuntime) -> Result<(), Fail> {
+    let text = b"@z undo\nundo\n@a undo\n@z undo\n@@ undo\n";
+    let session = read_session(rt.alloc(), text)?;
+    assert!(rt; has_desks(&session, &["z", "", "a", "@"]));
+    assert!(rt; is_for(&session, 0, 0));
+    assert!(rt; is_for(&session, 1, 1));
+    assert!(rt; is_for(&session, 2, 2));
+    assert!(rt; is_for(&session, 3, 0));
+    assert!(rt; is_for(&session, 4, 3));
+    let none = read_session(rt.alloc(), b"# @z\n")?;
+    assert!(rt; has_desks(&none, &[]));
+    Ok(())
+}
+
+#[test]
+fn desk_words_have_one_to_sixty_four_bytes(rt: HostRuntime) -> Result<(), Fail> {
+    let mut text = vec![in rt.alloc(); b'@'; 65]?;
+    text.extend_from_slice(b" undo")?;
+    let session = read_session(rt.alloc(), text.as_slice())?;
+    assert!(rt; session.desks.len() == 1);
+    let mut long = vec![in rt.alloc(); b'@'; 66]?;
+    long.extend_from_slice(b" undo")?;
+    assert!(rt; is_bad_at(rt.alloc(), long.as_slice(), 1));
+    assert!(rt; is_bad_at(rt.alloc(), b"@ undo", 1));
+    assert!(rt; is_bad_at(rt.alloc(), b"@a", 1));
+    Ok(())
+}
+
+/// Lines for the desks `@0`, `@00` and so on.
+fn desks(alloc: Global, count: usize) -> Result<Vec<u8>, Fail> {
+    let mut text = Vec::new(alloc);
+    for n in 0..count {
+        text.push(b'@')?;
+        for _ in 0..n + 1 {
+            text.push(b'0')?;
+        }
+        text.extend_from_slice(b" undo\n")?;
+    }
+    Ok(text)
+}
+
+#[test]
+fn there_are_sixty_four_desks_at_most(rt: HostRuntime) -> Result<(), Fail> {
+    let mut text = desks(rt.alloc(), 63)?;
+    text.extend_from_slice(b"undo\n")?;
+    let session = read_session(rt.alloc(), text.as_slice())?;
+    assert!(rt; session.desks.len() == 64);
+    text.extend_from_slice(b"@0 undo\n@x undo\nfrob\n")?;
+    assert!(rt; has_too_many_desks_at(rt.alloc(), text.as_slice(), 66));
+    Ok(())
 }
 
 #[test]
 fn the_first_bad_line_is_named(rt: HostRuntime) {
-    let text = b"# none\nask necessary a b\n\nprefer a\nask\n";
-    assert!(rt; is_bad_at(rt.alloc(), text, 4));
+    assert!(rt; is_bad_at(rt.alloc(), b"# none\nundo\n\nprefer a\nask\n", 4));
+    assert!(rt; is_bad_at(rt.alloc(), b"stronger a b c d q", 1));
+    assert!(rt; is_bad_at(rt.alloc(), b"stronger a b c d in q", 1));
+    assert!(rt; is_bad_at(rt.alloc(), b"undo\nreplace 1 undo", 2));
+    assert!(rt; is_bad_at(rt.alloc(), b"replace 1", 1));
+    assert!(rt; is_bad_at(rt.alloc(), b"withdraw 1234567890", 1));
+    assert!(rt; is_bad_at(rt.alloc(), b"ask classes a", 1));
+    assert!(rt; is_bad_at(rt.alloc(), b"prefer a \x01", 1));
 }
 
 #[test]
-fn lines_that_are_passed_over_count(rt: HostRuntime) -> Result<(), Fail> {
+fn faults_of_the_whole_text_come_first(rt: HostRuntime) -> Result<(), Fail> {
     let mut text = vec![in rt.alloc(); b'\n'; 99_999]?;
-    text.extend_from_slice(b"prefer a b")?;
-    assert!(rt; reads_as(rt.alloc(), text.as_slice(), &[(100_000, Prefer, "a", "b")]));
-    text.extend_from_slice(b"\n")?;
-    assert!(rt; reads_as(rt.alloc(), text.as_slice(), &[(100_000, Prefer, "a", "b")]));
-    text.extend_from_slice(b"x")?;
-    assert!(rt; has_too_many_lines(rt.alloc(), text.as_slice()));
+    text.extend_from_slice(b"frob")?;
+    assert!(rt; is_bad_at(rt.alloc(), text.as_slice(), 100_000));
+    text.extend_from_slice(b"\nundo")?;
+    assert!(rt;
+        match read_session(rt.alloc(), text.as_slice()) {
+            Err(SessionFault::TooManyLines) => true,
+            _ => false,
+        }
+    );
     text.extend_from_slice(b"\xFF")?;
-    assert!(rt; is_not_utf8(rt.alloc(), text.as_slice()));
+    assert!(rt;
+        match read_session(rt.alloc(), text.as_slice()) {
+            Err(SessionFault::NotUtf8) => true,
+            _ => false,
+        }
+    );
     Ok(())
 }
