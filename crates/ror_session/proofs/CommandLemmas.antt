@@ -1,12 +1,12 @@
 -- What is read of a command's words is what they spell.
-use Rattle.std.proofs.Common.{◌≡◌, ℕ, ◌<◌, ◌≤◌, Bool, true, false, not, cond, eqb, List, [], ◌∷◌, length, drop, Option, Some, None, Result, Ok, Err, refl, sym, ap, subst, ◌∙◌, inl, inr, arith}
+use Rattle.std.proofs.Common.{◌≡◌, ℕ, ◌<◌, Bool, true, false, not, eqb, List, [], ◌∷◌, length, drop, Option, Some, None, Result, Ok, Err, refl, sym, ap, subst, ◌∙◌, inl, inr, arith}
 use Rattle.std.specs.Prelude.{codes, IfErr}
 use Rattle.std.specs.Str.{bytes_eq}
 use Rattle.std.proofs.lemmas.Bool.{cases_Bool, eqb-true}
 use Rattle.ror_text.specs.Numbers.{count_of}
 use Rattle.ror_text.specs.Reading.{◌>>=◌, refuse, need}
-use Rattle.ror_text.proofs.ReadingLemmas.{bind_ok, refuse_ok, need_ok}
-use Rattle.ror_session.specs.Grammar.{LineWords, word_at, on_criterion, strength_words, statement_words, question_words, WritesCount, Spells}
+use Rattle.ror_text.proofs.ReadingLemmas.{bind_ok, need_ok}
+use Rattle.ror_session.specs.Grammar.{LineWords, word_at, on_criterion, strength_words, SpellsStatement, SpellsQuestion, WritesCount, Spells}
 use Rattle.ror_session.specs.Command.{pair_at, two_names, criterion_of, two_pairs, statement_of, necessary_question, possible_question, question_of, number_of_statement, withdrawal, replacement, command_of}
 use Rattle.ror_session.specs.declared.command.TwoPairs.{TwoPairs}
 use Rattle.ror_session.specs.declared.session.NamedPair.{NamedPair}
@@ -92,43 +92,46 @@ unfolding two_names
 two_names-again line verb a b = refl
 
 -- a form of two names, and one of two pairs
-of_names : {A : Type 0} (spell : A → LineWords) (make : List ℕ → List ℕ → A) (verb : List ℕ) → ((a b : List ℕ) → spell (make a b) ≡ verb ∷ a ∷ b ∷ []) → (line : ℕ) (ws : LineWords) (x : A) → bytes_eq (word_at ws 0) verb ≡ true → (two_names line ws >>= λ p. Ok (make p.first p.second)) ≡ Ok x → ws ≡ spell x
-of_names spell make verb spells line ws x hit e =
+of_names : {A : Type 0} (Spell : LineWords → A → Type 0) (make : List ℕ → List ℕ → A) (verb : List ℕ) → ((ws : LineWords) (a b : List ℕ) → ws ≡ verb ∷ a ∷ b ∷ [] → Spell ws (make a b)) → (line : ℕ) (ws : LineWords) (x : A) → bytes_eq (word_at ws 0) verb ≡ true → (two_names line ws >>= λ p. Ok (make p.first p.second)) ≡ Ok x → Spell ws x
+of_names Spell make verb spells line ws x hit e =
     let b = bind_ok (two_names line ws) (λ p. Ok (make p.first p.second)) x e in
     let same : make b.0.first b.0.second ≡ x = let h = b.2 in cc in
-    two_names-sound line ws b.0 b.1 ∙ ap (λ (w : List ℕ). w ∷ b.0.first ∷ b.0.second ∷ []) (same_bytes (word_at ws 0) verb hit) ∙ sym (spells b.0.first b.0.second) ∙ ap spell same
+    let is : ws ≡ verb ∷ b.0.first ∷ b.0.second ∷ [] = two_names-sound line ws b.0 b.1 ∙ ap (λ (w : List ℕ). w ∷ b.0.first ∷ b.0.second ∷ []) (same_bytes (word_at ws 0) verb hit) in
+    subst (Spell ws) same (spells ws b.0.first b.0.second is)
 
-of_pairs : {A : Type 0} (spell : A → LineWords) (make : NamedPair → NamedPair → Option (List ℕ) → A) (verb : List ℕ) → ((p q : NamedPair) (on : Option (List ℕ)) → spell (make p q on) ≡ verb ∷ strength_words p q on) → (line : ℕ) (ws : LineWords) (x : A) → bytes_eq (word_at ws 0) verb ≡ true → (two_pairs line ws >>= λ t. Ok (make t.first t.second t.criterion)) ≡ Ok x → ws ≡ spell x
-of_pairs spell make verb spells line ws x hit e =
+of_pairs : {A : Type 0} (Spell : LineWords → A → Type 0) (make : NamedPair → NamedPair → Option (List ℕ) → A) (verb : List ℕ) → ((ws : LineWords) (p q : NamedPair) (on : Option (List ℕ)) → ws ≡ verb ∷ strength_words p q on → Spell ws (make p q on)) → (line : ℕ) (ws : LineWords) (x : A) → bytes_eq (word_at ws 0) verb ≡ true → (two_pairs line ws >>= λ t. Ok (make t.first t.second t.criterion)) ≡ Ok x → Spell ws x
+of_pairs Spell make verb spells line ws x hit e =
     let b = bind_ok (two_pairs line ws) (λ t. Ok (make t.first t.second t.criterion)) x e in
     let t : TwoPairs = b.0 in
     let same : make t.first t.second t.criterion ≡ x = let h = b.2 in cc in
-    two_pairs-sound line ws t b.1 ∙ ap (λ (w : List ℕ). w ∷ strength_words t.first t.second t.criterion) (same_bytes (word_at ws 0) verb hit) ∙ sym (spells t.first t.second t.criterion) ∙ ap spell same
+    let is : ws ≡ verb ∷ strength_words t.first t.second t.criterion = two_pairs-sound line ws t b.1 ∙ ap (λ (w : List ℕ). w ∷ strength_words t.first t.second t.criterion) (same_bytes (word_at ws 0) verb hit) in
+    subst (Spell ws) same (spells ws t.first t.second t.criterion is)
 
 -- a form of one word
-of_one : {A : Type 0} (spell : A → LineWords) (made : A) (verb : List ℕ) → spell made ≡ verb ∷ [] → (line : ℕ) (ws : LineWords) (x : A) → bytes_eq (word_at ws 0) verb ≡ true → (refuse (BadLine line) (not (eqb (length ws) 1)) >>= λ _. Ok made) ≡ Ok x → ws ≡ spell x
-of_one spell made verb spells line ws x hit e =
+of_one : {A : Type 0} (Spell : LineWords → A → Type 0) (made : A) (verb : List ℕ) → ((ws : LineWords) → ws ≡ verb ∷ [] → Spell ws made) → (line : ℕ) (ws : LineWords) (x : A) → bytes_eq (word_at ws 0) verb ≡ true → (refuse (BadLine line) (not (eqb (length ws) 1)) >>= λ _. Ok made) ≡ Ok x → Spell ws x
+of_one Spell made verb spells line ws x hit e =
     let b = bind_ok (refuse (BadLine line) (not (eqb (length ws) 1))) (λ _. Ok made) x e in
     let number : length ws ≡ 1 = eqb-true (length ws) 1 (not_refused (BadLine line) (eqb (length ws) 1) b.0 b.1) in
     let same : made ≡ x = let h = b.2 in cc in
-    one_word ws number ∙ ap (λ (w : List ℕ). w ∷ []) (same_bytes (word_at ws 0) verb hit) ∙ sym spells ∙ ap spell same
+    let is : ws ≡ verb ∷ [] = one_word ws number ∙ ap (λ (w : List ℕ). w ∷ []) (same_bytes (word_at ws 0) verb hit) in
+    subst (Spell ws) same (spells ws is)
 
 -- ---- statements
 
-pub statement_of-sound : (line : ℕ) (ws : LineWords) (named : Named) → statement_of line ws ≡ Ok named → ws ≡ statement_words named
+pub statement_of-sound : (line : ℕ) (ws : LineWords) (named : Named) → statement_of line ws ≡ Ok named → SpellsStatement ws named
 unfolding statement_of
 statement_of-sound line ws named e = elim (cases_Bool (bytes_eq (word_at ws 0) (codes "prefer"))) [
-  | inl hit ↦ of_names statement_words Prefer (codes "prefer") (λ a b. refl) line ws named hit (rw hit at e)
+  | inl hit ↦ of_names SpellsStatement Prefer (codes "prefer") (λ words a b is. is) line ws named hit (rw hit at e)
   | inr not_prefer ↦ let e1 = rw not_prefer at e in elim (cases_Bool (bytes_eq (word_at ws 0) (codes "atleast"))) [
-    | inl hit ↦ of_names statement_words AtLeast (codes "atleast") (λ a b. refl) line ws named hit (rw hit at e1)
+    | inl hit ↦ of_names SpellsStatement AtLeast (codes "atleast") (λ words a b is. is) line ws named hit (rw hit at e1)
     | inr not_atleast ↦ let e2 = rw not_atleast at e1 in elim (cases_Bool (bytes_eq (word_at ws 0) (codes "same"))) [
-      | inl hit ↦ of_names statement_words Same (codes "same") (λ a b. refl) line ws named hit (rw hit at e2)
+      | inl hit ↦ of_names SpellsStatement Same (codes "same") (λ words a b is. is) line ws named hit (rw hit at e2)
       | inr not_same ↦ let e3 = rw not_same at e2 in elim (cases_Bool (bytes_eq (word_at ws 0) (codes "stronger"))) [
-        | inl hit ↦ of_pairs statement_words Stronger (codes "stronger") (λ p q on. refl) line ws named hit (rw hit at e3)
+        | inl hit ↦ of_pairs SpellsStatement Stronger (codes "stronger") (λ words p q on is. is) line ws named hit (rw hit at e3)
         | inr not_stronger ↦ let e4 = rw not_stronger at e3 in elim (cases_Bool (bytes_eq (word_at ws 0) (codes "asstrong"))) [
-          | inl hit ↦ of_pairs statement_words AsStrong (codes "asstrong") (λ p q on. refl) line ws named hit (rw hit at e4)
+          | inl hit ↦ of_pairs SpellsStatement AsStrong (codes "asstrong") (λ words p q on is. is) line ws named hit (rw hit at e4)
           | inr not_asstrong ↦ let e5 = rw not_asstrong at e4 in elim (cases_Bool (bytes_eq (word_at ws 0) (codes "equal"))) [
-            | inl hit ↦ of_pairs statement_words EqualStrength (codes "equal") (λ p q on. refl) line ws named hit (rw hit at e5)
+            | inl hit ↦ of_pairs SpellsStatement EqualStrength (codes "equal") (λ words p q on is. is) line ws named hit (rw hit at e5)
             | inr not_equal ↦ absurd (let e6 = rw not_equal at e5 in cc)
           ]
         ]
@@ -137,41 +140,47 @@ statement_of-sound line ws named e = elim (cases_Bool (bytes_eq (word_at ws 0) (
   ]
 ]
 
-pub statement_of-again : (line : ℕ) (named : Named) → statement_of line (statement_words named) ≡ Ok named
+pub statement_of-again : (line : ℕ) (ws : LineWords) (named : Named) → SpellsStatement ws named → statement_of line ws ≡ Ok named
 unfolding statement_of
-statement_of-again line (Prefer a b) = rw (two_names-again line (codes "prefer") a b) refl
-statement_of-again line (AtLeast a b) = rw (two_names-again line (codes "atleast") a b) refl
-statement_of-again line (Same a b) = rw (two_names-again line (codes "same") a b) refl
-statement_of-again line (Stronger p q on) = rw (two_pairs-again line (codes "stronger") p q on) refl
-statement_of-again line (AsStrong p q on) = rw (two_pairs-again line (codes "asstrong") p q on) refl
-statement_of-again line (EqualStrength p q on) = rw (two_pairs-again line (codes "equal") p q on) refl
+statement_of-again line ws (Prefer a b) h = ap (statement_of line) h ∙ rw (two_names-again line (codes "prefer") a b) refl
+statement_of-again line ws (AtLeast a b) h = ap (statement_of line) h ∙ rw (two_names-again line (codes "atleast") a b) refl
+statement_of-again line ws (Same a b) h = ap (statement_of line) h ∙ rw (two_names-again line (codes "same") a b) refl
+statement_of-again line ws (Stronger p q on) h = ap (statement_of line) h ∙ rw (two_pairs-again line (codes "stronger") p q on) refl
+statement_of-again line ws (AsStrong p q on) h = ap (statement_of line) h ∙ rw (two_pairs-again line (codes "asstrong") p q on) refl
+statement_of-again line ws (EqualStrength p q on) h = ap (statement_of line) h ∙ rw (two_pairs-again line (codes "equal") p q on) refl
+
+-- a statement has words
+some_statement : (line : ℕ) (ws : LineWords) (named : Named) → statement_of line ws ≡ Ok named → 0 < length ws
+unfolding statement_of
+some_statement line [] named e = absurd cc
+some_statement line (w ∷ ws) named e = omega arith
 
 -- ---- questions
 
-necessary-sound : (line : ℕ) (ws : LineWords) (asked : Asked) → bytes_eq (word_at ws 0) (codes "necessary") ≡ true → necessary_question line ws ≡ Ok asked → ws ≡ question_words asked
+necessary-sound : (line : ℕ) (ws : LineWords) (asked : Asked) → bytes_eq (word_at ws 0) (codes "necessary") ≡ true → necessary_question line ws ≡ Ok asked → SpellsQuestion ws asked
 unfolding necessary_question
 necessary-sound line ws asked hit e = elim (cases_Bool (eqb (length ws) 3)) [
-  | inl three ↦ of_names question_words Necessary (codes "necessary") (λ a b. refl) line ws asked hit (rw three at e)
-  | inr other ↦ of_pairs question_words NecessaryStrength (codes "necessary") (λ p q on. refl) line ws asked hit (rw other at e)
+  | inl three ↦ of_names SpellsQuestion Necessary (codes "necessary") (λ words a b is. is) line ws asked hit (rw three at e)
+  | inr other ↦ of_pairs SpellsQuestion NecessaryStrength (codes "necessary") (λ words p q on is. is) line ws asked hit (rw other at e)
 ]
 
-possible-sound : (line : ℕ) (ws : LineWords) (asked : Asked) → bytes_eq (word_at ws 0) (codes "possible") ≡ true → possible_question line ws ≡ Ok asked → ws ≡ question_words asked
+possible-sound : (line : ℕ) (ws : LineWords) (asked : Asked) → bytes_eq (word_at ws 0) (codes "possible") ≡ true → possible_question line ws ≡ Ok asked → SpellsQuestion ws asked
 unfolding possible_question
 possible-sound line ws asked hit e = elim (cases_Bool (eqb (length ws) 3)) [
-  | inl three ↦ of_names question_words Possible (codes "possible") (λ a b. refl) line ws asked hit (rw three at e)
-  | inr other ↦ of_pairs question_words PossibleStrength (codes "possible") (λ p q on. refl) line ws asked hit (rw other at e)
+  | inl three ↦ of_names SpellsQuestion Possible (codes "possible") (λ words a b is. is) line ws asked hit (rw three at e)
+  | inr other ↦ of_pairs SpellsQuestion PossibleStrength (codes "possible") (λ words p q on is. is) line ws asked hit (rw other at e)
 ]
 
-pub question_of-sound : (line : ℕ) (ws : LineWords) (asked : Asked) → question_of line ws ≡ Ok asked → ws ≡ question_words asked
+pub question_of-sound : (line : ℕ) (ws : LineWords) (asked : Asked) → question_of line ws ≡ Ok asked → SpellsQuestion ws asked
 unfolding question_of
 question_of-sound line ws asked e = elim (cases_Bool (bytes_eq (word_at ws 0) (codes "consistent"))) [
-  | inl hit ↦ of_one question_words Consistent (codes "consistent") refl line ws asked hit (rw hit at e)
+  | inl hit ↦ of_one SpellsQuestion Consistent (codes "consistent") (λ words is. is) line ws asked hit (rw hit at e)
   | inr not_consistent ↦ let e1 = rw not_consistent at e in elim (cases_Bool (bytes_eq (word_at ws 0) (codes "necessary"))) [
     | inl hit ↦ necessary-sound line ws asked hit (rw hit at e1)
     | inr not_necessary ↦ let e2 = rw not_necessary at e1 in elim (cases_Bool (bytes_eq (word_at ws 0) (codes "possible"))) [
       | inl hit ↦ possible-sound line ws asked hit (rw hit at e2)
       | inr not_possible ↦ let e3 = rw not_possible at e2 in elim (cases_Bool (bytes_eq (word_at ws 0) (codes "relation"))) [
-        | inl hit ↦ of_one question_words Relation (codes "relation") refl line ws asked hit (rw hit at e3)
+        | inl hit ↦ of_one SpellsQuestion Relation (codes "relation") (λ words is. is) line ws asked hit (rw hit at e3)
         | inr not_relation ↦ absurd (let e4 = rw not_relation at e3 in cc)
       ]
     ]
@@ -182,41 +191,31 @@ more_than_three : (p q : NamedPair) (verb : List ℕ) (on : Option (List ℕ)) �
 more_than_three p q verb None = refl
 more_than_three p q verb (Some name) = refl
 
-pub question_of-again : (line : ℕ) (asked : Asked) → question_of line (question_words asked) ≡ Ok asked
+pub question_of-again : (line : ℕ) (ws : LineWords) (asked : Asked) → SpellsQuestion ws asked → question_of line ws ≡ Ok asked
 unfolding question_of necessary_question possible_question
-question_of-again line Consistent = refl
-question_of-again line (Necessary a b) = rw (two_names-again line (codes "necessary") a b) refl
-question_of-again line (Possible a b) = rw (two_names-again line (codes "possible") a b) refl
-question_of-again line (NecessaryStrength p q on) = rw (more_than_three p q (codes "necessary") on, two_pairs-again line (codes "necessary") p q on) refl
-question_of-again line (PossibleStrength p q on) = rw (more_than_three p q (codes "possible") on, two_pairs-again line (codes "possible") p q on) refl
-question_of-again line Relation = refl
+question_of-again line ws Consistent h = ap (question_of line) h
+question_of-again line ws (Necessary a b) h = ap (question_of line) h ∙ rw (two_names-again line (codes "necessary") a b) refl
+question_of-again line ws (Possible a b) h = ap (question_of line) h ∙ rw (two_names-again line (codes "possible") a b) refl
+question_of-again line ws (NecessaryStrength p q on) h = ap (question_of line) h ∙ rw (more_than_three p q (codes "necessary") on, two_pairs-again line (codes "necessary") p q on) refl
+question_of-again line ws (PossibleStrength p q on) h = ap (question_of line) h ∙ rw (more_than_three p q (codes "possible") on, two_pairs-again line (codes "possible") p q on) refl
+question_of-again line ws Relation h = ap (question_of line) h
+
+-- a question has words
+some_question : (line : ℕ) (ws : LineWords) (asked : Asked) → question_of line ws ≡ Ok asked → 0 < length ws
+unfolding question_of
+some_question line [] asked e = absurd cc
+some_question line (w ∷ ws) asked e = omega arith
 
 -- ---- commands
 
-some_statement : (named : Named) → 0 < length (statement_words named)
-some_statement (Prefer a b) = omega arith
-some_statement (AtLeast a b) = omega arith
-some_statement (Same a b) = omega arith
-some_statement (Stronger p q on) = omega arith
-some_statement (AsStrong p q on) = omega arith
-some_statement (EqualStrength p q on) = omega arith
+after_one : (ws : LineWords) → 0 < length (drop 1 ws) → ws ≡ word_at ws 0 ∷ drop 1 ws
+after_one [] some = absurd (omega arith)
+after_one (a ∷ more) some = refl
 
-some_question : (asked : Asked) → 0 < length (question_words asked)
-some_question Consistent = omega arith
-some_question (Necessary a b) = omega arith
-some_question (Possible a b) = omega arith
-some_question (NecessaryStrength p q on) = omega arith
-some_question (PossibleStrength p q on) = omega arith
-some_question Relation = omega arith
-
-after_one : (ws rest : LineWords) → drop 1 ws ≡ rest → 0 < length rest → ws ≡ word_at ws 0 ∷ rest
-after_one [] rest e some = absurd (let h : length rest ≡ 0 = ap length (sym e) in omega arith)
-after_one (a ∷ more) rest e some = ap (λ (r : LineWords). a ∷ r) e
-
-after_two : (ws rest : LineWords) → drop 2 ws ≡ rest → 0 < length rest → ws ≡ word_at ws 0 ∷ word_at ws 1 ∷ rest
-after_two [] rest e some = absurd (let h : length rest ≡ 0 = ap length (sym e) in omega arith)
-after_two (a ∷ []) rest e some = absurd (let h : length rest ≡ 0 = ap length (sym e) in omega arith)
-after_two (a ∷ b ∷ more) rest e some = ap (λ (r : LineWords). a ∷ b ∷ r) e
+after_two : (ws : LineWords) → 0 < length (drop 2 ws) → ws ≡ word_at ws 0 ∷ word_at ws 1 ∷ drop 2 ws
+after_two [] some = absurd (omega arith)
+after_two (a ∷ []) some = absurd (omega arith)
+after_two (a ∷ b ∷ more) some = refl
 
 number_is : (line : ℕ) (ws : LineWords) (n : ℕ) → number_of_statement line ws ≡ Ok n → WritesCount (word_at ws 1) n
 unfolding number_of_statement
@@ -238,29 +237,21 @@ replacement-sound line ws command hit e =
     let a = bind_ok (number_of_statement line ws) _ command e in
     let b = bind_ok (statement_of line (drop 2 ws)) _ command a.2 in
     let same : Replace a.0 b.0 ≡ command = let h = b.2 in cc in
-    let is : ws ≡ codes "replace" ∷ word_at ws 1 ∷ statement_words b.0 = after_two ws (statement_words b.0) (statement_of-sound line (drop 2 ws) b.0 b.1) (some_statement b.0) ∙ ap (λ (w : List ℕ). w ∷ word_at ws 1 ∷ statement_words b.0) (same_bytes (word_at ws 0) (codes "replace") hit) in
-    subst (λ (c : Command). Spells ws c) same (word_at ws 1, is, number_is line ws a.0 a.1)
+    let is : ws ≡ codes "replace" ∷ word_at ws 1 ∷ drop 2 ws = after_two ws (some_statement line (drop 2 ws) b.0 b.1) ∙ ap (λ (w : List ℕ). w ∷ word_at ws 1 ∷ drop 2 ws) (same_bytes (word_at ws 0) (codes "replace") hit) in
+    subst (λ (c : Command). Spells ws c) same (word_at ws 1, drop 2 ws, is, number_is line ws a.0 a.1, statement_of-sound line (drop 2 ws) b.0 b.1)
 
 asking-sound : (line : ℕ) (ws : LineWords) (command : Command) → bytes_eq (word_at ws 0) (codes "ask") ≡ true → (question_of line (drop 1 ws) >>= λ asked. Ok (Ask asked)) ≡ Ok command → Spells ws command
 asking-sound line ws command hit e =
     let a = bind_ok (question_of line (drop 1 ws)) (λ asked. Ok (Ask asked)) command e in
     let same : Ask a.0 ≡ command = let h = a.2 in cc in
-    let is : ws ≡ codes "ask" ∷ question_words a.0 = after_one ws (question_words a.0) (question_of-sound line (drop 1 ws) a.0 a.1) (some_question a.0) ∙ ap (λ (w : List ℕ). w ∷ question_words a.0) (same_bytes (word_at ws 0) (codes "ask") hit) in
-    subst (λ (c : Command). Spells ws c) same is
+    let is : ws ≡ codes "ask" ∷ drop 1 ws = after_one ws (some_question line (drop 1 ws) a.0 a.1) ∙ ap (λ (w : List ℕ). w ∷ drop 1 ws) (same_bytes (word_at ws 0) (codes "ask") hit) in
+    subst (λ (c : Command). Spells ws c) same (drop 1 ws, is, question_of-sound line (drop 1 ws) a.0 a.1)
 
 stating-sound : (line : ℕ) (ws : LineWords) (command : Command) → (statement_of line ws >>= λ named. Ok (State named)) ≡ Ok command → Spells ws command
 stating-sound line ws command e =
     let a = bind_ok (statement_of line ws) (λ named. Ok (State named)) command e in
     let same : State a.0 ≡ command = let h = a.2 in cc in
     subst (λ (c : Command). Spells ws c) same (statement_of-sound line ws a.0 a.1)
-
-undoing-sound : (line : ℕ) (ws : LineWords) (command : Command) → bytes_eq (word_at ws 0) (codes "undo") ≡ true → (refuse (BadLine line) (not (eqb (length ws) 1)) >>= λ _. Ok Undo) ≡ Ok command → Spells ws command
-undoing-sound line ws command hit e =
-    let b = bind_ok (refuse (BadLine line) (not (eqb (length ws) 1))) (λ _. Ok Undo) command e in
-    let number : length ws ≡ 1 = eqb-true (length ws) 1 (not_refused (BadLine line) (eqb (length ws) 1) b.0 b.1) in
-    let same : Undo ≡ command = let h = b.2 in cc in
-    let is : ws ≡ codes "undo" ∷ [] = one_word ws number ∙ ap (λ (w : List ℕ). w ∷ []) (same_bytes (word_at ws 0) (codes "undo") hit) in
-    subst (λ (c : Command). Spells ws c) same is
 
 pub command_of-sound : (line : ℕ) (ws : LineWords) (command : Command) → command_of line ws ≡ Ok command → Spells ws command
 unfolding command_of
@@ -269,7 +260,7 @@ command_of-sound line ws command e = elim (cases_Bool (bytes_eq (word_at ws 0) (
   | inr not_withdraw ↦ let e1 = rw not_withdraw at e in elim (cases_Bool (bytes_eq (word_at ws 0) (codes "replace"))) [
     | inl hit ↦ replacement-sound line ws command hit (rw hit at e1)
     | inr not_replace ↦ let e2 = rw not_replace at e1 in elim (cases_Bool (bytes_eq (word_at ws 0) (codes "undo"))) [
-      | inl hit ↦ undoing-sound line ws command hit (rw hit at e2)
+      | inl hit ↦ of_one Spells Undo (codes "undo") (λ words is. is) line ws command hit (rw hit at e2)
       | inr not_undo ↦ let e3 = rw not_undo at e2 in elim (cases_Bool (bytes_eq (word_at ws 0) (codes "ask"))) [
         | inl hit ↦ asking-sound line ws command hit (rw hit at e3)
         | inr not_ask ↦ stating-sound line ws command (rw not_ask at e3)
@@ -279,37 +270,40 @@ command_of-sound line ws command e = elim (cases_Bool (bytes_eq (word_at ws 0) (
 ]
 
 -- a statement's words begin with no word of another command
-stated_again : (line : ℕ) (named : Named) → command_of line (statement_words named) ≡ (statement_of line (statement_words named) >>= λ x. Ok (State x))
+stated : (line : ℕ) (ws words : LineWords) → ws ≡ words → command_of line words ≡ (statement_of line words >>= λ x. Ok (State x)) → command_of line ws ≡ (statement_of line ws >>= λ x. Ok (State x))
+stated line ws words is e = subst (λ (x : LineWords). command_of line x ≡ (statement_of line x >>= λ y. Ok (State y))) (sym is) e
+
+stated_again : (line : ℕ) (ws : LineWords) (named : Named) → SpellsStatement ws named → command_of line ws ≡ (statement_of line ws >>= λ x. Ok (State x))
 unfolding command_of
-stated_again line (Prefer a b) = refl
-stated_again line (AtLeast a b) = refl
-stated_again line (Same a b) = refl
-stated_again line (Stronger p q on) = refl
-stated_again line (AsStrong p q on) = refl
-stated_again line (EqualStrength p q on) = refl
+stated_again line ws (Prefer a b) h = stated line ws (codes "prefer" ∷ a ∷ b ∷ []) h refl
+stated_again line ws (AtLeast a b) h = stated line ws (codes "atleast" ∷ a ∷ b ∷ []) h refl
+stated_again line ws (Same a b) h = stated line ws (codes "same" ∷ a ∷ b ∷ []) h refl
+stated_again line ws (Stronger p q on) h = stated line ws (codes "stronger" ∷ strength_words p q on) h refl
+stated_again line ws (AsStrong p q on) h = stated line ws (codes "asstrong" ∷ strength_words p q on) h refl
+stated_again line ws (EqualStrength p q on) h = stated line ws (codes "equal" ∷ strength_words p q on) h refl
 
 withdrawn_again : (line n : ℕ) (word : List ℕ) → WritesCount word n → command_of line (codes "withdraw" ∷ word ∷ []) ≡ Ok (Withdraw n)
 unfolding command_of withdrawal number_of_statement
 withdrawn_again line n word h = rw h refl
 
-replaced_again : (line n : ℕ) (word : List ℕ) (named : Named) → WritesCount word n → command_of line (codes "replace" ∷ word ∷ statement_words named) ≡ Ok (Replace n named)
+replaced_again : (line n : ℕ) (word : List ℕ) (ws : LineWords) (named : Named) → WritesCount word n → SpellsStatement ws named → command_of line (codes "replace" ∷ word ∷ ws) ≡ Ok (Replace n named)
 unfolding command_of replacement number_of_statement
-replaced_again line n word named h = rw (h, statement_of-again line named) refl
+replaced_again line n word ws named h spelled = rw (h, statement_of-again line ws named spelled) refl
 
-asked_again : (line : ℕ) (asked : Asked) → command_of line (codes "ask" ∷ question_words asked) ≡ Ok (Ask asked)
+asked_again : (line : ℕ) (ws : LineWords) (asked : Asked) → SpellsQuestion ws asked → command_of line (codes "ask" ∷ ws) ≡ Ok (Ask asked)
 unfolding command_of
-asked_again line asked = rw (question_of-again line asked) refl
+asked_again line ws asked h = rw (question_of-again line ws asked h) refl
 
 undone_again : (line : ℕ) → command_of line (codes "undo" ∷ []) ≡ Ok Undo
 unfolding command_of
 undone_again line = refl
 
 pub command_of-again : (line : ℕ) (ws : LineWords) (command : Command) → Spells ws command → command_of line ws ≡ Ok command
-command_of-again line ws (State named) h = ap (command_of line) h ∙ stated_again line named ∙ ap (λ (r : Result Named SessionFault). r >>= λ x. Ok (State x)) (statement_of-again line named)
+command_of-again line ws (State named) h = stated_again line ws named h ∙ ap (λ (r : Result Named SessionFault). r >>= λ x. Ok (State x)) (statement_of-again line ws named h)
 command_of-again line ws (Withdraw n) h = ap (command_of line) h.1 ∙ withdrawn_again line n h.0 h.2
-command_of-again line ws (Replace n named) h = ap (command_of line) h.1 ∙ replaced_again line n h.0 named h.2
+command_of-again line ws (Replace n named) h = ap (command_of line) h.2 ∙ replaced_again line n h.0 h.1 named h.3 h.4
 command_of-again line ws Undo h = ap (command_of line) h ∙ undone_again line
-command_of-again line ws (Ask asked) h = ap (command_of line) h ∙ asked_again line asked
+command_of-again line ws (Ask asked) h = ap (command_of line) h.1 ∙ asked_again line h.0 asked h.2
 
 -- ---- the one fault
 

@@ -1,5 +1,5 @@
 -- What is read of a line is what it says.
-use Rattle.std.proofs.Common.{◌≡◌, ◌≢◌, ℕ, ◌+◌, ◌≤◌, Bool, true, false, eqb, ltb, List, [], ◌∷◌, ◌++◌, length, Result, Ok, Err, refl, sym, ap, subst, ◌∙◌, inl, inr, arith}
+use Rattle.std.proofs.Common.{◌≡◌, ◌≢◌, ℕ, ◌+◌, ◌≤◌, Bool, false, eqb, ltb, List, [], ◌∷◌, ◌++◌, length, Result, Ok, Err, refl, sym, ap, subst, ◌∙◌, inl, inr, arith}
 use Rattle.std.specs.Prelude.{nat_lt}
 use Rattle.std.specs.List.{AllByRecursion, list_any}
 use Rattle.std.proofs.lemmas.Bool.{cases_Bool, ltb-false, le-ltb, eqb-true, eq-eqb, ne_eqb}
@@ -14,7 +14,7 @@ use Rattle.ror_session.specs.declared.session.Command.{Command}
 use Rattle.ror_session.specs.declared.session.Command.TheVariants.{State, Withdraw, Replace, Undo, Ask}
 use Rattle.ror_session.specs.declared.session.SessionFault.{SessionFault}
 use Rattle.ror_session.specs.declared.session.SessionFault.TheVariants.{BadLine}
-use Rattle.ror_session.specs.Grammar.{LineWords, word_at, statement_words, Spells, desk_words, IsClean, Says, IsWellFormed}
+use Rattle.ror_session.specs.Grammar.{LineWords, word_at, SpellsStatement, Spells, desk_words, IsClean, Says, IsWellFormed}
 use Rattle.ror_session.specs.Command.{command_of}
 use Rattle.ror_session.specs.Session.{has_desk_word, desk_of, command_words, said_of}
 use Rattle.ror_session.proofs.CommandLemmas.{command_of-sound, command_of-again, IsBadAt, bad_bind, bad_refuse, command_of-bad}
@@ -100,21 +100,21 @@ command_words-again : (ws : LineWords) (desk : List ℕ) (more : LineWords) → 
 command_words-again ws [] more is none = ap command_words is ∙ own_words more none
 command_words-again ws (byte ∷ bytes) more is none = ap command_words is
 
-statement_no_desk : (named : Named) → has_desk_word (statement_words named) ≡ false
-statement_no_desk (Prefer a b) = refl
-statement_no_desk (AtLeast a b) = refl
-statement_no_desk (Same a b) = refl
-statement_no_desk (Stronger p q on) = refl
-statement_no_desk (AsStrong p q on) = refl
-statement_no_desk (EqualStrength p q on) = refl
+statement_no_desk : (ws : LineWords) (named : Named) → SpellsStatement ws named → has_desk_word ws ≡ false
+statement_no_desk ws (Prefer a b) h = ap has_desk_word h
+statement_no_desk ws (AtLeast a b) h = ap has_desk_word h
+statement_no_desk ws (Same a b) h = ap has_desk_word h
+statement_no_desk ws (Stronger p q on) h = ap has_desk_word h
+statement_no_desk ws (AsStrong p q on) h = ap has_desk_word h
+statement_no_desk ws (EqualStrength p q on) h = ap has_desk_word h
 
 -- no command begins with a desk word
 command_no_desk : (ws : LineWords) (command : Command) → Spells ws command → has_desk_word ws ≡ false
-command_no_desk ws (State named) h = ap has_desk_word h ∙ statement_no_desk named
+command_no_desk ws (State named) h = statement_no_desk ws named h
 command_no_desk ws (Withdraw n) h = ap has_desk_word h.1
-command_no_desk ws (Replace n named) h = ap has_desk_word h.1
+command_no_desk ws (Replace n named) h = ap has_desk_word h.2
 command_no_desk ws Undo h = ap has_desk_word h
-command_no_desk ws (Ask asked) h = ap has_desk_word h
+command_no_desk ws (Ask asked) h = ap has_desk_word h.1
 
 desk_of-bad : (line : ℕ) (ws : LineWords) → IsBadAt line (desk_of line ws)
 unfolding desk_of

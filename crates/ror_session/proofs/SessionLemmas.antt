@@ -1,10 +1,10 @@
 -- What is read of the lines is the session that they are.
-use Rattle.std.proofs.Common.{◌≡◌, ℕ, ◌<◌, ◌≤◌, Bool, true, false, List, [], ◌∷◌, ◌++◌, length, map, Result, Ok, Err, refl, sym, ap, subst, ◌∙◌, inl, inr, arith, append_assoc}
+use Rattle.std.proofs.Common.{◌≡◌, ℕ, ◌<◌, ◌≤◌, true, false, List, [], ◌∷◌, ◌++◌, length, map, Ok, Err, refl, sym, ap, subst, ◌∙◌, inl, inr, arith, append_assoc}
 use Rattle.std.specs.List.{AllZip}
 use Rattle.std.proofs.lemmas.Bool.{cases_Bool, leb-true, leb-false, le-leb, lt-leb}
 use Rattle.std.proofs.lemmas.List.{append-nil, length-append}
 use Rattle.std.proofs.Math.Dec.{leb}
-use Rattle.ror_text.specs.Reading.{◌>>=◌, refuse, read_all}
+use Rattle.ror_text.specs.Reading.{refuse, read_all}
 use Rattle.ror_text.proofs.ReadingLemmas.{bind_ok, bind_err, bind-at_ok, refuse_ok, refuse_err}
 use Rattle.ror_session.specs.declared.limits.TheConstants.{MOST_DESKS}
 use Rattle.ror_session.specs.declared.reading.Said.{Said}
@@ -12,7 +12,7 @@ use Rattle.ror_session.specs.declared.session.Session.{Session}
 use Rattle.ror_session.specs.declared.session.Line.{Line}
 use Rattle.ror_session.specs.declared.session.SessionFault.{SessionFault}
 use Rattle.ror_session.specs.declared.session.SessionFault.TheVariants.{TooManyDesks}
-use Rattle.ror_session.specs.Desks.{first_appearances, place_of}
+use Rattle.ror_session.specs.Desks.{place_of}
 use Rattle.ror_session.specs.Grammar.{LineWords, Says, placed, IsSession}
 use Rattle.ror_session.specs.Session.{said_of, seat, add_said, add_line, empty_session}
 use Rattle.ror_session.proofs.DeskLemmas.{has_desk, with_desk, desks_after, desks_after-none, place_kept, place_new, find_hit, find_miss, after_length}

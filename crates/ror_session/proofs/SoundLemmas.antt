@@ -1,5 +1,6 @@
 -- What holds of every session that is read.
 use Rattle.std.proofs.Common.{◌≡◌, ℕ, zero, suc, ◌+◌, ◌<◌, ◌≤◌, Bool, true, not, filter, List, [], ◌∷◌, ◌++◌, length, map, Option, Some, None, refl, sym, ap, subst, ◌∙◌, inl, inr, arith, add-one}
+use Rattle.std.specs.Prelude.{codes}
 use Rattle.std.specs.List.{AllByRecursion, AllZip, enumerate_from}
 use Rattle.std.specs.List.Sorted.{IsStrictlyIncreasing}
 use Rattle.std.specs.Str.Lines as text
@@ -18,7 +19,7 @@ use Rattle.ror_session.specs.declared.session.Command.TheVariants.{State, Withdr
 use Rattle.ror_session.specs.declared.session.Session.{Session}
 use Rattle.ror_session.specs.declared.session.Line.{Line}
 use Rattle.ror_session.specs.Desks.{first_appearances}
-use Rattle.ror_session.specs.Grammar.{LineWords, strength_words, statement_words, question_words, Spells, desk_words, IsClean, Says, placed, IsSession, IsSessionText}
+use Rattle.ror_session.specs.Grammar.{LineWords, strength_words, SpellsStatement, SpellsQuestion, Spells, desk_words, IsClean, Says, placed, IsSession, IsSessionText}
 use Rattle.ror_session.specs.Sound.{names_of_pairs, names_of_statement, names_of_question, names_of, desk_name, IsSound}
 use Rattle.ror_session.proofs.DeskLemmas.{has_desk, place_below, name_at, appearances_keep, appearances_distinct, appearances_have}
 use Rattle.ror_session.proofs.SessionLemmas.{desks_of}
@@ -109,28 +110,31 @@ pairs_clean : (p q : NamedPair) (on : Option (List ℕ)) → AllByRecursion IsCl
 pairs_clean p q None h = h
 pairs_clean p q (Some name) h = (h.0, (h.1.0, (h.1.1.0, (h.1.1.1.0, h.1.1.1.1.1))))
 
-statement_clean : (named : Named) → AllByRecursion IsClean (statement_words named) → AllByRecursion IsClean (names_of_statement named)
-statement_clean (Prefer a b) h = h.1
-statement_clean (AtLeast a b) h = h.1
-statement_clean (Same a b) h = h.1
-statement_clean (Stronger p q on) h = pairs_clean p q on h.1
-statement_clean (AsStrong p q on) h = pairs_clean p q on h.1
-statement_clean (EqualStrength p q on) h = pairs_clean p q on h.1
+rest_clean : (ws rest : LineWords) (verb : List ℕ) → ws ≡ verb ∷ rest → AllByRecursion IsClean ws → AllByRecursion IsClean rest
+rest_clean ws rest verb is clean = (subst (λ (x : LineWords). AllByRecursion IsClean x) is clean).1
 
-question_clean : (asked : Asked) → AllByRecursion IsClean (question_words asked) → AllByRecursion IsClean (names_of_question asked)
-question_clean Consistent h = tt
-question_clean (Necessary a b) h = h.1
-question_clean (Possible a b) h = h.1
-question_clean (NecessaryStrength p q on) h = pairs_clean p q on h.1
-question_clean (PossibleStrength p q on) h = pairs_clean p q on h.1
-question_clean Relation h = tt
+statement_clean : (ws : LineWords) (named : Named) → SpellsStatement ws named → AllByRecursion IsClean ws → AllByRecursion IsClean (names_of_statement named)
+statement_clean ws (Prefer a b) h clean = rest_clean ws (a ∷ b ∷ []) (codes "prefer") h clean
+statement_clean ws (AtLeast a b) h clean = rest_clean ws (a ∷ b ∷ []) (codes "atleast") h clean
+statement_clean ws (Same a b) h clean = rest_clean ws (a ∷ b ∷ []) (codes "same") h clean
+statement_clean ws (Stronger p q on) h clean = pairs_clean p q on (rest_clean ws (strength_words p q on) (codes "stronger") h clean)
+statement_clean ws (AsStrong p q on) h clean = pairs_clean p q on (rest_clean ws (strength_words p q on) (codes "asstrong") h clean)
+statement_clean ws (EqualStrength p q on) h clean = pairs_clean p q on (rest_clean ws (strength_words p q on) (codes "equal") h clean)
+
+question_clean : (ws : LineWords) (asked : Asked) → SpellsQuestion ws asked → AllByRecursion IsClean ws → AllByRecursion IsClean (names_of_question asked)
+question_clean ws Consistent h clean = tt
+question_clean ws (Necessary a b) h clean = rest_clean ws (a ∷ b ∷ []) (codes "necessary") h clean
+question_clean ws (Possible a b) h clean = rest_clean ws (a ∷ b ∷ []) (codes "possible") h clean
+question_clean ws (NecessaryStrength p q on) h clean = pairs_clean p q on (rest_clean ws (strength_words p q on) (codes "necessary") h clean)
+question_clean ws (PossibleStrength p q on) h clean = pairs_clean p q on (rest_clean ws (strength_words p q on) (codes "possible") h clean)
+question_clean ws Relation h clean = tt
 
 spelled_clean : (ws : LineWords) (command : Command) → Spells ws command → AllByRecursion IsClean ws → AllByRecursion IsClean (names_of command)
-spelled_clean ws (State named) h clean = statement_clean named (subst (λ (x : LineWords). AllByRecursion IsClean x) h clean)
+spelled_clean ws (State named) h clean = statement_clean ws named h clean
 spelled_clean ws (Withdraw n) h clean = tt
-spelled_clean ws (Replace n named) h clean = let c = subst (λ (x : LineWords). AllByRecursion IsClean x) h.1 clean in statement_clean named c.1.1
+spelled_clean ws (Replace n named) h clean = let c = rest_clean ws (h.0 ∷ h.1) (codes "replace") h.2 clean in statement_clean h.1 named h.4 c.1
 spelled_clean ws Undo h clean = tt
-spelled_clean ws (Ask asked) h clean = let c = subst (λ (x : LineWords). AllByRecursion IsClean x) h clean in question_clean asked c.1
+spelled_clean ws (Ask asked) h clean = question_clean h.0 asked h.2 (rest_clean ws h.0 (codes "ask") h.1 clean)
 
 lines_clean : (numbered : List (ℕ × LineWords)) (said : List Said) (desks : List (List ℕ)) → AllZip Says numbered said → AllByRecursion (λ (line : Line). AllByRecursion IsClean (names_of line.command)) (map (placed desks) said)
 lines_clean [] [] desks h = tt

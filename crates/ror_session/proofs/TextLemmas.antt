@@ -1,6 +1,6 @@
 -- What a whole text is read as, and its first fault.
-use Rattle.std.proofs.Common.{◌≡◌, ℕ, ◌<◌, ◌≤◌, true, false, List, [], ◌∷◌, ◌++◌, length, Result, Ok, Err, refl, sym, ap, subst, ◌∙◌, inl, inr, arith}
-use Rattle.std.specs.Prelude.{◌↔◌, nat_lt, Contains}
+use Rattle.std.proofs.Common.{◌≡◌, ℕ, ◌<◌, ◌≤◌, true, false, List, length, Ok, Err, refl, sym, ap, ◌∙◌, inl, inr, arith}
+use Rattle.std.specs.Prelude.{nat_lt, Contains}
 use Rattle.std.specs.Cmp.Lexicographic.{nat_list_eq_equiv}
 use Rattle.std.specs.Str.{IsUtf8, is_utf8, bytes_eq}
 use Rattle.std.proofs.lemmas.Bool.{cases_Bool, ltb-true, ltb-false}
@@ -8,16 +8,15 @@ use Rattle.std.proofs.lemmas.Map.Views.{list_any-from_Contains, Contains-from_an
 use Rattle.std.proofs.lemmas.Str.{IsUtf8-from_is_utf8, is_utf8-from_IsUtf8}
 use Rattle.ror_text.specs.declared.lines.TheConstants.{MOST_TEXT_BYTES}
 use Rattle.ror_text.specs.Lines.{numbered_lines, line_count}
-use Rattle.ror_text.specs.Reading.{◌>>=◌, read_all}
+use Rattle.ror_text.specs.Reading.{read_all}
 use Rattle.ror_text.proofs.ReadingLemmas.{bind_err, bind-at_ok, bind-at_err, first_fault, read_all_fails}
-use Rattle.ror_session.specs.declared.limits.TheConstants.{MOST_DESKS, MOST_LINES}
-use Rattle.ror_session.specs.declared.reading.Said.{Said}
+use Rattle.ror_session.specs.declared.limits.TheConstants.{MOST_LINES}
 use Rattle.ror_session.specs.declared.session.Session.{Session}
 use Rattle.ror_session.specs.declared.session.SessionFault.{SessionFault}
 use Rattle.ror_session.specs.declared.session.SessionFault.TheVariants as faults
-use Rattle.ror_session.specs.Grammar.{LineWords, Says, IsReadable, IsSessionText}
+use Rattle.ror_session.specs.Grammar.{LineWords, IsReadable, IsSessionText}
 use Rattle.ror_session.specs.Session.{said_of, add_said, add_line, empty_session, session_of}
-use Rattle.ror_session.specs.Faults.{IsReadBefore, IsForOneDeskMore, IsFirstFaultOf}
+use Rattle.ror_session.specs.Faults.{IsReadBefore, IsFirstFaultOf}
 use Rattle.ror_session.specs.Faults.IsFirstFaultOf.{too_long, not_utf8, too_many_lines, bad_line, too_many_desks}
 use Rattle.ror_session.proofs.DeskLemmas.{has_desk, same_bytes}
 use Rattle.ror_session.proofs.SaidLemmas.{said_of-sound, said_of-again, said_of-err, refused_says_nothing, says_nothing_refused}

@@ -1,5 +1,5 @@
 -- What the words of a command are read as, or that the line is a bad one.
-use Rattle.std.specs.Prelude.{ℕ, ◌+◌, not, ◌==◌, List, [], ◌∷◌, length, drop, codes, Option, Some, None, Result, Ok, Err, if◌then◌else◌}
+use Rattle.std.specs.Prelude.{ℕ, ◌+◌, not, ◌==◌, List, length, drop, codes, Option, Some, None, Result, Ok, Err, if◌then◌else◌}
 use Rattle.std.specs.Str.{bytes_eq}
 use Rattle.ror_text.specs.Numbers.{count_of}
 use Rattle.ror_text.specs.Reading.{◌>>=◌, refuse, need}

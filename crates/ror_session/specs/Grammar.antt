@@ -36,23 +36,23 @@ abbrev pub strength_words : NamedPair → NamedPair → Option (List ℕ) → Li
 strength_words p q criterion =
     p.first ∷ p.second ∷ q.first ∷ q.second ∷ on_criterion criterion
 
--- the words of a statement
-abbrev pub statement_words : Named → LineWords
-statement_words (Prefer a b) = codes "prefer" ∷ a ∷ b ∷ []
-statement_words (AtLeast a b) = codes "atleast" ∷ a ∷ b ∷ []
-statement_words (Same a b) = codes "same" ∷ a ∷ b ∷ []
-statement_words (Stronger p q on) = codes "stronger" ∷ strength_words p q on
-statement_words (AsStrong p q on) = codes "asstrong" ∷ strength_words p q on
-statement_words (EqualStrength p q on) = codes "equal" ∷ strength_words p q on
+-- the words spell the statement
+abbrev pub SpellsStatement : LineWords → Named → Type 0
+SpellsStatement ws (Prefer a b) = ws ≡ codes "prefer" ∷ a ∷ b ∷ []
+SpellsStatement ws (AtLeast a b) = ws ≡ codes "atleast" ∷ a ∷ b ∷ []
+SpellsStatement ws (Same a b) = ws ≡ codes "same" ∷ a ∷ b ∷ []
+SpellsStatement ws (Stronger p q on) = ws ≡ codes "stronger" ∷ strength_words p q on
+SpellsStatement ws (AsStrong p q on) = ws ≡ codes "asstrong" ∷ strength_words p q on
+SpellsStatement ws (EqualStrength p q on) = ws ≡ codes "equal" ∷ strength_words p q on
 
--- the words of a question
-abbrev pub question_words : Asked → LineWords
-question_words Consistent = codes "consistent" ∷ []
-question_words (Necessary a b) = codes "necessary" ∷ a ∷ b ∷ []
-question_words (Possible a b) = codes "possible" ∷ a ∷ b ∷ []
-question_words (NecessaryStrength p q on) = codes "necessary" ∷ strength_words p q on
-question_words (PossibleStrength p q on) = codes "possible" ∷ strength_words p q on
-question_words Relation = codes "relation" ∷ []
+-- the words, those after `ask`, spell the question
+abbrev pub SpellsQuestion : LineWords → Asked → Type 0
+SpellsQuestion ws Consistent = ws ≡ codes "consistent" ∷ []
+SpellsQuestion ws (Necessary a b) = ws ≡ codes "necessary" ∷ a ∷ b ∷ []
+SpellsQuestion ws (Possible a b) = ws ≡ codes "possible" ∷ a ∷ b ∷ []
+SpellsQuestion ws (NecessaryStrength p q on) = ws ≡ codes "necessary" ∷ strength_words p q on
+SpellsQuestion ws (PossibleStrength p q on) = ws ≡ codes "possible" ∷ strength_words p q on
+SpellsQuestion ws Relation = ws ≡ codes "relation" ∷ []
 
 -- the word is a count, and writes this number
 abbrev pub WritesCount : List ℕ → ℕ → Type 0
@@ -60,13 +60,15 @@ WritesCount word n = count_of word ≡ Some n
 
 -- the words spell the command
 abbrev pub Spells : LineWords → Command → Type 0
-Spells ws (State named) = ws ≡ statement_words named
+Spells ws (State named) = SpellsStatement ws named
 Spells ws (Withdraw n) =
     (word : List ℕ) × (ws ≡ codes "withdraw" ∷ word ∷ []) × WritesCount word n
 Spells ws (Replace n named) =
-    (word : List ℕ) × (ws ≡ codes "replace" ∷ word ∷ statement_words named) × WritesCount word n
+    (word : List ℕ) × (statement : LineWords) × (ws ≡ codes "replace" ∷ word ∷ statement)
+    × WritesCount word n × SpellsStatement statement named
 Spells ws Undo = ws ≡ codes "undo" ∷ []
-Spells ws (Ask asked) = ws ≡ codes "ask" ∷ question_words asked
+Spells ws (Ask asked) =
+    (question : LineWords) × (ws ≡ codes "ask" ∷ question) × SpellsQuestion question asked
 
 -- the desk word of a desk, `@` and its name; the desk without a name has none
 abbrev pub desk_words : List ℕ → LineWords

@@ -13,8 +13,9 @@ pub fn the_first_fault_is_given()
     ensures { GivesTheFirstFault }
 {}
 
-/// A session that is read has distinct desks, 64 at most, each of them of some line; its lines'
-/// numbers rise; and no name in it has a blank or a control byte.
+/// A session that is read has distinct desks, 64 at most, each of them of some line, and each line
+/// is for one of them. It has 100,000 lines at most, whose numbers rise and are 100,000 at most. No
+/// name in it has a blank or a control byte.
 pub fn what_is_read_is_sound()
     ensures { IsSoundWhenRead }
 {}
