@@ -2,10 +2,13 @@
 #![tactic(auto)]
 
 mod calls;
+mod files;
 pub mod memory_shelf;
 pub mod memory_sink;
 pub mod shelf;
 pub mod sink;
+pub mod steady_shelf;
+pub mod steady_sink;
 #[cfg(test)]
 mod tests;
 
@@ -13,3 +16,5 @@ pub use memory_shelf::MemoryShelf;
 pub use memory_sink::MemorySink;
 pub use shelf::{Fetched, Shelf, ShelfFault};
 pub use sink::{Sink, SinkFault, write_all, write_pieces};
+pub use steady_shelf::SteadyShelf;
+pub use steady_sink::SteadySink;

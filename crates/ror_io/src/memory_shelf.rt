@@ -1,33 +1,31 @@
 //! A shelf in memory.
 
 ghost use Rattle.std.specs.Prelude.{◌≡◌, ◌≢◌, ◌≤◌, ℕ, ◌⊎◌, Option, Some, Err, List, IfOk, MatchResult, OnOk, OnErr, IsErrOf, Contains};
-ghost use Rattle.std.specs.Option.{option_copied};
 ghost use Rattle.ror_io.specs.Counts.{Rose, DidNotRise, next_count};
 ghost use Rattle.ror_io.specs.Files.{Files, no_files, file, with_file, Lacks, HasFile};
 
 use crate::calls::CallCounter;
+use crate::files::FileMap;
 use crate::shelf::{Fetched, Shelf, ShelfFault};
 use std::alloc::{AllocError, Global};
-use std::collections::BTreeMap;
 use std::marker::Model;
 
 /// Files in memory, with chosen fetches that fail. It tells its files.
 #[derive(Drop)]
 pub struct MemoryShelf {
-    alloc: Global,
-    files: BTreeMap<String, Vec<u8>>,
+    files: FileMap,
     calls: CallCounter,
     faults: u64,
 }
 
 impl Model for MemoryShelf {
-    ghost use Rattle.ror_io.specs.ShelfMemory.{ShelfMemory, shelf_memory_code, files_of};
+    ghost use Rattle.ror_io.specs.ShelfMemory.{ShelfMemory, shelf_memory_code};
 
     ghost Value = { ShelfMemory };
 
     ghost coded = { shelf_memory_code };
 
-    ghost view = { λ shelf. record { files = files_of shelf.files.entries; calls = shelf.calls; faults = shelf.faults } };
+    ghost view = { λ shelf. record { files = shelf.files; calls = shelf.calls; faults = shelf.faults } };
 }
 
 impl MemoryShelf {
@@ -39,8 +37,7 @@ impl MemoryShelf {
         ensures { result ≡ record { files = no_files; calls = no_calls; faults = 0 } }
     {
         MemoryShelf {
-            alloc,
-            files: BTreeMap::new(alloc),
+            files: FileMap::new(alloc),
             calls: CallCounter::new(alloc),
             faults: 0,
         }
@@ -55,10 +52,7 @@ impl MemoryShelf {
             (self.new ≡ record self.old { files = with_file self.old.files name.now bytes.now }) }
         ensures err { OnErr result (self.new ≡ self.old) }
     {
-        let name = String::from_str(self.alloc, name)?;
-        let bytes = Vec::from_slice(self.alloc, bytes)?;
-        self.files.insert(name, bytes)?;
-        Ok(())
+        self.files.put(name, bytes)
     }
 
     /// Lets the fetch with this number fail, if there is such a file. Fetches are counted from 1
@@ -69,13 +63,6 @@ impl MemoryShelf {
         ensures err { OnErr result (self.new ≡ self.old) }
     {
         self.calls.fail_at(call)
-    }
-
-    fn bytes(&self, name: &str) -> Option<&[u8]>
-        ensures { option_copied result ≡ file self.now.files name.now }
-    {
-        let bytes = self.files.get(name)?;
-        Some(bytes)
     }
 }
 
@@ -118,7 +105,7 @@ impl Shelf for MemoryShelf {
         ensures called { self.new.calls ≡ after_call self.old.calls }
     {
         let fails = self.calls.count_call();
-        let Some(bytes) = self.bytes(name) else {
+        let Some(bytes) = self.files.bytes(name) else {
             return Err(ShelfFault::Failed);
         };
         if fails {

@@ -121,3 +121,27 @@ fn writes_whole_pieces(rt: HostRuntime) -> Result<(), Fail> {
     assert_eq!(rt; sink.written(), b"abcde".as_slice());
     Ok(())
 }
+
+#[test]
+fn a_steady_shelf_fetches_what_was_put(rt: HostRuntime) -> Result<(), Fail> {
+    let mut shelf = SteadyShelf::new(rt.alloc());
+    shelf.put("a", b"first")?;
+    shelf.put("a", b"two")?;
+    let whole = Fetched::Whole(b"two".to_vec(rt.alloc())?);
+    assert_eq!(rt; fetched(&mut shelf, rt.alloc(), "a", 3), Ok(whole));
+    assert_eq!(rt;
+        fetched(&mut shelf, rt.alloc(), "b", 3),
+        Err(ShelfFault::Failed)
+    );
+    Ok(())
+}
+
+#[test]
+fn a_steady_sink_takes_what_fits(rt: HostRuntime) -> Result<(), Fail> {
+    let mut sink = SteadySink::new(rt.alloc(), 3)?;
+    assert_eq!(rt; written(&mut sink, b"abcd"), Ok(3));
+    assert_eq!(rt; written(&mut sink, b"d"), Err(SinkFault::Failed));
+    assert_eq!(rt; written(&mut sink, b""), Ok(0));
+    assert_eq!(rt; sink.written(), b"abc".as_slice());
+    Ok(())
+}
