@@ -1,49 +1,38 @@
 -- The fault of a block and of the last line is the one that is given.
-use Rattle.std.proofs.Common.{◌≡◌, ℕ, ◌+◌, ◌≤◌, zero, suc, Bool, true, false, not, eqb, List, [], ◌∷◌, length, length-append, Result, Ok, Err, refl, sym, ap, ◌∙◌, arith, inl, inr}
+use Rattle.std.proofs.Common.{◌≡◌, ℕ, ◌+◌, ◌≤◌, zero, suc, Bool, true, false, not, eqb, Option, Some, None, List, [], ◌∷◌, length, length-append, Result, Ok, Err, refl, sym, ap, ◌∙◌, arith, inl, inr}
 use Rattle.std.specs.Prelude.{◌≢◌, codes}
-use Rattle.std.proofs.lemmas.Bool.{cases_Bool, cond-true, cond-false, ne_eqb, eqb-false}
-use Rattle.ror_text.specs.Cursor.{Cursor}
+use Rattle.std.proofs.lemmas.Bool.{cases_Bool, ne_eqb, eqb-false}
+use Rattle.ror_text.specs.Cursor.{Cursor, line_words}
 use Rattle.ror_text.specs.Reading.{◌>>=◌, refuse}
 use Rattle.ror_text.proofs.ReadingLemmas.{bind_err, refuse_err}
 use Rattle.ror_table.specs.Table.{DecisionTable, IsTable}
 use Rattle.ror_proof.specs.declared.answer.Answer.{Answer}
-use Rattle.ror_proof.specs.declared.read.ProofFault.{ProofFault}
+use Rattle.ror_proof.specs.Expected.{IsLine}
 use Rattle.ror_proof.specs.Reading.{answer_at}
 use Rattle.ror_proof.specs.Text.{answer_text}
 use Rattle.ror_proof.proofs.AnswerLemmas.{answer_is_text, is_read_iff_text}
 use Rattle.ror_proof.proofs.LineFaults.{answer_err, answer_fails}
 use Rattle.ror_report.specs.declared.block.Block.{Block}
 use Rattle.ror_report.specs.declared.block.Body.{Body}
-use Rattle.ror_report.specs.declared.block.Body.TheVariants.{Added, Answers}
+use Rattle.ror_report.specs.declared.block.Body.TheVariants.{Answers}
+use Rattle.ror_report.specs.declared.names.LineForm.{LineForm}
 use Rattle.ror_report.specs.declared.read.ReportFault.{ReportFault}
 use Rattle.ror_report.specs.declared.read.ReportFault.TheVariants.{BadLine}
-use Rattle.ror_report.specs.Reading.{numbered_line, fault_of_answer, read_in_report, begins_added, ends_body, body_answers, added_at, answers_at, body_at, block_at, end_at}
-use Rattle.ror_report.specs.Faults.{IsFaultOfAnswers, IsFaultOfBlock, IsFaultOfEnd}
+use Rattle.ror_report.specs.Reading.{numbered_line, read_in_report, form_line, form_of, ends_body, body_answers, one_line_at, answers_at, body_of, body_at, block_at, end_at}
+use Rattle.ror_report.specs.Faults.{expected_number, expected_form, IsFaultOfAnswers, IsFaultOfBlock, IsFaultOfEnd}
 use Rattle.ror_report.specs.Faults.IsFaultOfAnswers.{this_answer, later_answer}
-use Rattle.ror_report.specs.Faults.IsFaultOfBlock.{in_name, in_added, after_added, in_answers}
+use Rattle.ror_report.specs.Faults.IsFaultOfBlock.{in_name, in_form, after_form, in_answers}
 use Rattle.ror_report.specs.Faults.IsFaultOfEnd.{in_end, after_end}
 use Rattle.ror_report.proofs.Bodies.{answer_step, no_answers, goes_on_some}
-use Rattle.ror_report.proofs.BlockLemmas.{answer_has_bytes, in_report_ok}
-use Rattle.ror_report.proofs.LineForms.{done}
-use Rattle.ror_report.proofs.NumberFaults.{number_err, number_ok, number_fails, number_reads}
-
-no_fault : {A : Type 0} (x : A) (f : ReportFault) → done x ≡ Err f → ⊥
-no_fault x f e = cc
+use Rattle.ror_report.proofs.BlockLemmas.{answer_has_bytes}
+use Rattle.ror_report.proofs.LineForms.{in_report_ok}
+use Rattle.ror_report.proofs.FormFaults.{no_fault, in_report_err, line_fails, line_goes, number_reads, form_reads}
 
 not_true : (b : Bool) → not b ≡ true → b ≡ false
 not_true true e = absurd cc
 not_true false e = refl
 
 -- ---- answers
-
-record IsHandedOn (r : Result (Answer × Cursor) ProofFault) (fault : ReportFault) : Type 0 where
-  first : ProofFault
-  is : r ≡ Err first
-  becomes : fault ≡ fault_of_answer first
-
-in_report_err : (r : Result (Answer × Cursor) ProofFault) (fault : ReportFault) → read_in_report r ≡ Err fault → IsHandedOn r fault
-in_report_err (Ok x) fault e = absurd (no_fault x fault e)
-in_report_err (Err f) fault e = let at : fault ≡ fault_of_answer f = cc in record { first = f; is = refl; becomes = at }
 
 abbrev one_more : Answer → List Answer × Cursor → Result (List Answer × Cursor) ReportFault
 one_more x others = Ok (x ∷ others.0, others.1)
@@ -82,52 +71,53 @@ answers_fail t (suc most) c f table room (later_answer _ after x more text fault
 abbrev block_read : ℕ → Body × Cursor → Result (Block × Cursor) ReportFault
 block_read line body = Ok (record { line = line; body = body.0 }, body.1)
 
-abbrev added_read : ℕ × Cursor → Result (Body × Cursor) ReportFault
-added_read number = Ok (Added number.0, number.1)
-
 abbrev answers_read : List Answer × Cursor → Result (Body × Cursor) ReportFault
 answers_read answers = Ok (Answers answers.0, answers.1)
 
+abbrev line_read : Body × Cursor → Result (Body × Cursor) ReportFault
+line_read body = Ok body
+
+-- the fault of a body behind the line that names the session's line
+body_err : (t : DecisionTable) (c at : Cursor) (form : Option LineForm) (f : ReportFault) → IsLine t (expected_number (codes "line")) c at → form_of (line_words at) ≡ form → body_of t form at ≡ Err f → IsFaultOfBlock t c f
+unfolding one_line_at answers_at
+body_err t c at None f line found e =
+    elim (bind_err (body_answers t (length at.rest) at) (λ answers. answers_read answers) f e) [
+      | inl faulty ↦ in_answers at line found (answers_err t (length at.rest) at f faulty)
+      | inr none ↦ absurd (no_fault _ f none.2)
+    ]
+body_err t c at (Some form) f line found e =
+    elim (bind_err (form_line form at) (λ body. refuse (BadLine body.1.place) (not (ends_body body.1.rest)) >>= λ _. line_read body) f e) [
+      | inl faulty ↦ in_form at form line found ((form_reads t form at).err f faulty)
+      | inr b ↦
+          elim (bind_err (refuse (BadLine b.0.1.place) (not (ends_body b.0.1.rest))) (λ _. line_read b.0) f b.2) [
+            | inl more ↦
+                let tested = refuse_err (BadLine b.0.1.place) f (not (ends_body b.0.1.rest)) more in
+                after_form at b.0.1 form line found ((form_reads t form at).ok b.0 b.1) (not_true (ends_body b.0.1.rest) tested.0) tested.1
+            | inr none ↦ absurd (no_fault _ f none.2)
+          ]
+    ]
+
 pub block_err : (t : DecisionTable) (c : Cursor) (f : ReportFault) → block_at t c ≡ Err f → IsFaultOfBlock t c f
-unfolding block_at body_at added_at answers_at
+unfolding block_at body_at
 block_err t c f e =
     elim (bind_err (numbered_line (codes "line") c) (λ line. body_at t line.1 >>= λ body. block_read line.0 body) f e) [
-      | inl here ↦ in_name (number_err t (codes "line") c f here)
+      | inl here ↦ in_name ((number_reads t (codes "line") c).err f here)
       | inr a ↦
-          let line = number_ok t (codes "line") c a.0 a.1 in
-          let at = a.0.1 in
-          elim (bind_err (body_at t at) (λ body. block_read a.0.0 body) f a.2) [
+          elim (bind_err (body_at t a.0.1) (λ body. block_read a.0.0 body) f a.2) [
+            | inl here ↦ body_err t c a.0.1 (form_of (line_words a.0.1)) f ((number_reads t (codes "line") c).ok a.0 a.1) refl here
             | inr none ↦ absurd (no_fault _ f none.2)
-            | inl here ↦
-                elim (cases_Bool (begins_added at.rest)) [
-                  | inl added ↦
-                      elim (bind_err (numbered_line (codes "added") at) (λ number. refuse (BadLine number.1.place) (not (ends_body number.1.rest)) >>= λ _. added_read number) f (sym (cond-true _ _ _ added) ∙ here)) [
-                        | inl faulty ↦ in_added at line added (number_err t (codes "added") at f faulty)
-                        | inr b ↦
-                            elim (bind_err (refuse (BadLine b.0.1.place) (not (ends_body b.0.1.rest))) (λ _. added_read b.0) f b.2) [
-                              | inl more ↦
-                                  let tested = refuse_err (BadLine b.0.1.place) f (not (ends_body b.0.1.rest)) more in
-                                  after_added at b.0.1 line added (number_ok t (codes "added") at b.0 b.1) (not_true (ends_body b.0.1.rest) tested.0) tested.1
-                              | inr none ↦ absurd (no_fault _ f none.2)
-                            ]
-                      ]
-                  | inr other ↦
-                      elim (bind_err (body_answers t (length at.rest) at) (λ answers. answers_read answers) f (sym (cond-false _ _ _ other) ∙ here)) [
-                        | inl faulty ↦ in_answers at line other (answers_err t (length at.rest) at f faulty)
-                        | inr none ↦ absurd (no_fault _ f none.2)
-                      ]
-                ]
           ]
     ]
 
 pub block_fails : (t : DecisionTable) (c : Cursor) (f : ReportFault) → IsTable t → IsFaultOfBlock t c f → block_at t c ≡ Err f
-unfolding block_at body_at added_at answers_at
-block_fails t c f table (in_name fault) = rw (number_fails t (codes "line") c f fault) refl
-block_fails t c f table (in_added body line added fault) = rw ((number_reads t (codes "line") c body line).1, added, number_fails t (codes "added") body f fault) refl
-block_fails t c f table (after_added body after line added number more is) =
-    rw ((number_reads t (codes "line") c body line).1, added, (number_reads t (codes "added") body after number).1, more) (ap Err (sym is))
-block_fails t c f table (in_answers body line other fault) =
-    rw ((number_reads t (codes "line") c body line).1, other, answers_fail t (length body.rest) body f table (omega arith) fault) refl
+unfolding block_at body_at one_line_at answers_at
+block_fails t c f table (in_name fault) = rw (line_fails t (expected_number (codes "line")) c (numbered_line (codes "line") c) f (number_reads t (codes "line") c) fault) refl
+block_fails t c f table (in_form body form line found fault) =
+    rw ((line_goes t (expected_number (codes "line")) c body (numbered_line (codes "line") c) (number_reads t (codes "line") c) line).1, found, line_fails t (expected_form form) body (form_line form body) f (form_reads t form body) fault) refl
+block_fails t c f table (after_form body after form line found own more is) =
+    rw ((line_goes t (expected_number (codes "line")) c body (numbered_line (codes "line") c) (number_reads t (codes "line") c) line).1, found, (line_goes t (expected_form form) body after (form_line form body) (form_reads t form body) own).1, more) (ap Err (sym is))
+block_fails t c f table (in_answers body line found fault) =
+    rw ((line_goes t (expected_number (codes "line")) c body (numbered_line (codes "line") c) (number_reads t (codes "line") c) line).1, found, answers_fail t (length body.rest) body f table (omega arith) fault) refl
 
 -- ---- the last line
 
@@ -145,17 +135,17 @@ pub end_err : (t : DecisionTable) (c : Cursor) (f : ReportFault) → end_at c �
 unfolding end_at
 end_err t c f e =
     elim (bind_err (numbered_line (codes "end") c) (λ end. refuse (BadLine end.1.place) (not (eqb (length end.1.rest) 0)) >>= λ _. end_read end) f e) [
-      | inl here ↦ in_end (number_err t (codes "end") c f here)
+      | inl here ↦ in_end ((number_reads t (codes "end") c).err f here)
       | inr a ↦
           elim (bind_err (refuse (BadLine a.0.1.place) (not (eqb (length a.0.1.rest) 0))) (λ _. end_read a.0) f a.2) [
             | inl more ↦
                 let tested = refuse_err (BadLine a.0.1.place) f (not (eqb (length a.0.1.rest) 0)) more in
-                after_end a.0.1 (number_ok t (codes "end") c a.0 a.1) (some_bytes a.0.1.rest tested.0) tested.1
+                after_end a.0.1 ((number_reads t (codes "end") c).ok a.0 a.1) (some_bytes a.0.1.rest tested.0) tested.1
             | inr none ↦ absurd (no_fault _ f none.2)
           ]
     ]
 
 pub end_fails : (t : DecisionTable) (c : Cursor) (f : ReportFault) → IsFaultOfEnd t c f → end_at c ≡ Err f
 unfolding end_at
-end_fails t c f (in_end fault) = rw (number_fails t (codes "end") c f fault) refl
-end_fails t c f (after_end after line some is) = rw ((number_reads t (codes "end") c after line).1, bytes_there after.rest some) (ap Err (sym is))
+end_fails t c f (in_end fault) = rw (line_fails t (expected_number (codes "end")) c (numbered_line (codes "end") c) f (number_reads t (codes "end") c) fault) refl
+end_fails t c f (after_end after line some is) = rw ((line_goes t (expected_number (codes "end")) c after (numbered_line (codes "end") c) (number_reads t (codes "end") c) line).1, bytes_there after.rest some) (ap Err (sym is))

@@ -1,27 +1,29 @@
 -- Blocks as texts, both ways: what was written is read again, and what is read was so written.
-use Rattle.std.proofs.Common.{◌≡◌, ℕ, zero, suc, ◌+◌, ◌<◌, ◌≤◌, true, false, not, List, [], ◌∷◌, ◌++◌, length, Result, Ok, Err, refl, sym, ap, subst, ◌∙◌, append_assoc, arith, inl, inr, length-append}
+use Rattle.std.proofs.Common.{◌≡◌, ℕ, zero, suc, ◌+◌, ◌<◌, ◌≤◌, true, false, not, Option, Some, None, List, [], ◌∷◌, ◌++◌, length, Ok, refl, sym, ap, subst, ◌∙◌, append_assoc, arith, inl, inr, length-append}
 use Rattle.std.specs.Prelude.{codes, ◌↔◌}
 use Rattle.std.specs.List.{flat_map, AllByRecursion}
-use Rattle.std.proofs.lemmas.Bool.{cases_Bool, cond-true, cond-false}
+use Rattle.std.proofs.lemmas.Bool.{cases_Bool}
 use Rattle.ror_text.specs.Reading.{◌>>=◌, refuse}
+use Rattle.ror_text.specs.SpacedLines.{line_text}
 use Rattle.ror_text.proofs.ReadingLemmas.{bind_ok, refuse_ok}
 use Rattle.ror_table.specs.Table.{DecisionTable, IsTable}
 use Rattle.ror_proof.specs.declared.answer.Answer.{Answer}
-use Rattle.ror_proof.specs.declared.read.ProofFault.{ProofFault}
-use Rattle.ror_text.specs.Cursor.{Cursor}
+use Rattle.ror_text.specs.Cursor.{Cursor, line_words}
 use Rattle.ror_proof.specs.Text.{answer_text, IsPrintable}
 use Rattle.ror_proof.specs.Reading.{begins_part, answer_at}
 use Rattle.ror_proof.proofs.AnswerLemmas.{answer_reads_back, answer_is_text, answer_begins}
 use Rattle.ror_report.specs.declared.block.Block.{Block}
 use Rattle.ror_report.specs.declared.block.Body.{Body}
-use Rattle.ror_report.specs.declared.block.Body.TheVariants.{Added, Answers}
+use Rattle.ror_report.specs.declared.block.Body.TheVariants.{Added, Withdrawn, Replaced, Undone, Answers, Refused}
+use Rattle.ror_report.specs.declared.names.LineForm.{LineForm}
 use Rattle.ror_report.specs.declared.read.ReportFault.TheVariants.{BadLine}
-use Rattle.ror_report.specs.Text.{body_text, block_text, IsPrintableBody, IsPrintableBlock}
-use Rattle.ror_report.specs.Reading.{read_in_report, numbered_line, begins_added, ends_body, body_answers, added_at, answers_at, body_at, block_at}
+use Rattle.ror_report.specs.Names.{form_word}
+use Rattle.ror_report.specs.Text.{answers_of, lines_text, body_text, block_text, IsPrintableBody, IsPrintableBlock}
+use Rattle.ror_report.specs.Reading.{read_in_report, numbered_line, form_words, form_line, form_of, ends_body, body_answers, one_line_at, answers_at, body_of, body_at, block_at}
 use Rattle.ror_report.specs.Laws.{IsBlockText}
 use Rattle.ror_report.proofs.Bodies.{answer_step, no_answers}
-use Rattle.ror_text.proofs.CursorLemmas.{Spans, spans_then}
-use Rattle.ror_report.proofs.LineForms.{numbered_text, numbered_again, numbered_sound, passed, done, ok_is, begins_added_text, goes_on_at_answer, ends_no_added, ends_no_part}
+use Rattle.ror_text.proofs.CursorLemmas.{Spans, spans_then, line_again, line_spans}
+use Rattle.ror_report.proofs.LineForms.{numbered_text, numbered_again, numbered_sound, in_report_ok, line_reads_back, line_is_read, passed, done, ok_is, IsOneLine, added_line, withdrawn_line, replaced_line, undone_line, refused_line, form_found, form_words_again, form_words_sound, goes_on_at_answer, ends_no_part, no_form_at_answer, ends_no_form}
 
 -- ---- what was written is read again
 
@@ -58,19 +60,50 @@ body_has_bytes : (t : DecisionTable) (xs : List Answer) → length xs ≤ length
 body_has_bytes t [] = omega arith
 body_has_bytes t (x ∷ xs) = omega (arith, body_has_bytes t xs, answer_has_bytes t x, length-append (answer_text t x) (flat_map (answer_text t) xs))
 
--- no line of an added statement stands where the answers begin
-no_added_ahead : (t : DecisionTable) (xs : List Answer) (rest : List ℕ) → ends_body rest ≡ true → begins_added (flat_map (answer_text t) xs ++ rest) ≡ false
-no_added_ahead t [] rest ends = ends_no_added rest ends
-no_added_ahead t (x ∷ xs) rest ends = ap (λ (l : List ℕ). begins_added ((l ++ flat_map (answer_text t) xs) ++ rest)) (answer_begins t x).1
+-- no body of one line stands where the answers begin
+no_form_ahead : (t : DecisionTable) (place : ℕ) (xs : List Answer) (rest : List ℕ) → ends_body rest ≡ true → form_of (line_words (record { place = place; rest = flat_map (answer_text t) xs ++ rest })) ≡ None
+no_form_ahead t place [] rest ends = ends_no_form place rest ends
+no_form_ahead t place (x ∷ xs) rest ends =
+    let begins = answer_begins t x in
+    ap (λ (l : List ℕ). form_of (line_words (record { place = place; rest = (l ++ flat_map (answer_text t) xs) ++ rest }))) begins.1 ∙ no_form_at_answer place ((begins.0 ++ flat_map (answer_text t) xs) ++ rest)
+
+-- a body of one line, once its line is read
+one_line_step : (t : DecisionTable) (c after : Cursor) (form : LineForm) (body : Body) → form_of (line_words c) ≡ Some form → form_line form c ≡ Ok (body, after) → ends_body after.rest ≡ true → body_at t c ≡ Ok (body, after)
+unfolding body_at one_line_at
+one_line_step t c after form body found line ends = rw (found, line, ends) refl
+
+answers_step : (t : DecisionTable) (c after : Cursor) (body : Body) → form_of (line_words c) ≡ None → answers_at t c ≡ Ok (body, after) → body_at t c ≡ Ok (body, after)
+unfolding body_at
+answers_step t c after body none read = rw none read
+
+one_line_reads_back : (t : DecisionTable) (body : Body) (place : ℕ) (rest : List ℕ) → IsOneLine body → ends_body rest ≡ true
+    → body_at t (record { place = place; rest = body_text t body ++ rest }) ≡ Ok (body, record { place = place + length (body_text t body); rest = rest })
+one_line_reads_back t body place rest is ends =
+    let first = form_word is.form in
+    let line = line_text (first ∷ is.operand) in
+    let text : body_text t body ≡ line = ap (λ ws. lines_text t ws (answers_of body)) is.written in
+    let found : form_of (line_words (record { place = place; rest = line ++ rest })) ≡ Some is.form = ap form_of (line_again place first is.operand rest is.are).0 ∙ form_found is.form in
+    let read = line_reads_back (form_words is.form) body place first is.operand rest is.are (form_words_again body is place) in
+    let whole : body_at t (record { place = place; rest = line ++ rest }) ≡ Ok (body, record { place = place + length line; rest = rest }) = one_line_step t _ _ is.form body found read ends in
+    subst (λ (l : List ℕ). body_at t (record { place = place; rest = l ++ rest }) ≡ Ok (body, record { place = place + length l; rest = rest })) (sym text) whole
+
+answers_read_back : (t : DecisionTable) (xs : List Answer) (place : ℕ) (rest : List ℕ) → IsTable t → AllByRecursion (IsPrintable t) xs → ends_body rest ≡ true
+    → answers_at t (record { place = place; rest = flat_map (answer_text t) xs ++ rest }) ≡ Ok (Answers xs, record { place = place + length (flat_map (answer_text t) xs); rest = rest })
+unfolding answers_at
+answers_read_back t xs place rest table printable ends =
+    let body = flat_map (answer_text t) xs in
+    let room : length xs ≤ length (body ++ rest) = omega (arith, body_has_bytes t xs, length-append body rest) in
+    rw (body_again t (length (body ++ rest)) place xs rest table printable ends room) refl
 
 body_reads_back : (t : DecisionTable) (body : Body) (place : ℕ) (rest : List ℕ) → IsTable t → IsPrintableBody t body → ends_body rest ≡ true
     → body_at t (record { place = place; rest = body_text t body ++ rest }) ≡ Ok (body, record { place = place + length (body_text t body); rest = rest })
-unfolding body_at added_at answers_at
-body_reads_back t (Added n) place rest table small ends = rw (begins_added_text n rest, numbered_again (codes "added") place n rest refl small, ends) refl
+body_reads_back t (Added n) place rest table small ends = one_line_reads_back t (Added n) place rest (added_line n small) ends
+body_reads_back t (Withdrawn n) place rest table small ends = one_line_reads_back t (Withdrawn n) place rest (withdrawn_line n small) ends
+body_reads_back t (Replaced n) place rest table small ends = one_line_reads_back t (Replaced n) place rest (replaced_line n small) ends
+body_reads_back t Undone place rest table printable ends = one_line_reads_back t Undone place rest undone_line ends
+body_reads_back t (Refused fault) place rest table printable ends = one_line_reads_back t (Refused fault) place rest (refused_line fault) ends
 body_reads_back t (Answers xs) place rest table printable ends =
-    let body = flat_map (answer_text t) xs in
-    let room : length xs ≤ length (body ++ rest) = omega (arith, body_has_bytes t xs, length-append body rest) in
-    rw (no_added_ahead t xs rest ends, body_again t (length (body ++ rest)) place xs rest table printable ends room) refl
+    answers_step t _ _ (Answers xs) (no_form_ahead t place xs rest ends) (answers_read_back t xs place rest table printable ends)
 
 pub block_reads_back : (t : DecisionTable) (b : Block) (place : ℕ) (rest : List ℕ) → IsTable t → IsPrintableBlock t b → ends_body rest ≡ true
     → block_at t (record { place = place; rest = block_text t b ++ rest }) ≡ Ok (b, record { place = place + length (block_text t b); rest = rest })
@@ -85,10 +118,6 @@ block_reads_back t b place rest table printable ends =
     (ap (λ m. Ok (b, record { place = m; rest = rest })) to))
 
 -- ---- what is read was so written
-
-pub in_report_ok : {A : Type 0} (r : Result A ProofFault) (x : A) → read_in_report r ≡ Ok x → r ≡ Ok x
-in_report_ok (Ok y) x e = cc
-in_report_ok (Err f) x e = absurd cc
 
 -- what was read as the answers of a body
 record AreReadAnswers (t : DecisionTable) (c : Cursor) (xs : List Answer) (after : Cursor) : Type 0 where
@@ -128,16 +157,17 @@ record IsReadBody (t : DecisionTable) (c : Cursor) (body : Body) (after : Cursor
   printable : IsPrintableBody t body
   ended : ends_body after.rest ≡ true
 
-added_sound : (t : DecisionTable) (c : Cursor) (x : Body × Cursor) → added_at c ≡ Ok x → IsReadBody t c x.0 x.1
-unfolding added_at
-added_sound t c x e =
-    let last = λ (number : ℕ × Cursor). refuse (BadLine number.1.place) (not (ends_body number.1.rest)) >>= λ _. done (Added number.0, number.1) in
-    let a = bind_ok (numbered_line (codes "added") c) last x e in
-    let b = bind_ok (refuse (BadLine a.0.1.place) (not (ends_body a.0.1.rest))) (λ _. done (Added a.0.0, a.0.1)) x a.2 in
-    let line = numbered_sound (codes "added") c a.0 a.1 in
-    subst (λ (y : Body × Cursor). IsReadBody t c y.0 y.1) {x = (Added a.0.0, a.0.1)} (ok_is (Added a.0.0, a.0.1) x b.2) (record {
-      spans = line.0;
-      printable = line.1;
+one_line_sound : (t : DecisionTable) (form : LineForm) (c : Cursor) (x : Body × Cursor) → one_line_at form c ≡ Ok x → IsReadBody t c x.0 x.1
+unfolding one_line_at
+one_line_sound t form c x e =
+    let a = bind_ok (form_line form c) (λ body. refuse (BadLine body.1.place) (not (ends_body body.1.rest)) >>= λ _. done body) x e in
+    let b = bind_ok (refuse (BadLine a.0.1.place) (not (ends_body a.0.1.rest))) (λ _. done a.0) x a.2 in
+    let line = line_is_read c (form_words form c.place (line_words c)) a.0 a.1 in
+    let read = form_words_sound t form c.place (line_words c) a.0.0 line.0 in
+    let text : body_text t a.0.0 ≡ line_text (line_words c) = ap (λ ws. lines_text t ws (answers_of a.0.0)) read.0 in
+    subst (λ (y : Body × Cursor). IsReadBody t c y.0 y.1) (ok_is a.0 x b.2) (record {
+      spans = subst (λ (l : List ℕ). Spans c l a.0.1) (sym text) (line_spans c a.0.1 (line_words c) refl line.1);
+      printable = read.1;
       ended = passed _ (refuse_ok _ _ b.0 b.1);
     })
 
@@ -152,13 +182,13 @@ answers_sound t c x e =
       ended = answers.ended;
     })
 
+read_body_of : (t : DecisionTable) (form : Option LineForm) (c : Cursor) (x : Body × Cursor) → body_of t form c ≡ Ok x → IsReadBody t c x.0 x.1
+read_body_of t (Some form) c x e = one_line_sound t form c x e
+read_body_of t None c x e = answers_sound t c x e
+
 read_body : (t : DecisionTable) (c : Cursor) (x : Body × Cursor) → body_at t c ≡ Ok x → IsReadBody t c x.0 x.1
 unfolding body_at
-read_body t c x e =
-    elim (cases_Bool (begins_added c.rest)) [
-      | inl added ↦ added_sound t c x (sym (cond-true _ _ _ added) ∙ e)
-      | inr other ↦ answers_sound t c x (sym (cond-false _ _ _ other) ∙ e)
-    ]
+read_body t c x e = read_body_of t (form_of (line_words c)) c x e
 
 pub block_is_text : (t : DecisionTable) (c : Cursor) (b : Block) (after : Cursor) → block_at t c ≡ Ok (b, after) → IsBlockText t c b after
 unfolding block_at block_text

@@ -1,52 +1,39 @@
--- A line of a name and a number, both ways, and how the pieces of a report begin.
-use Rattle.std.proofs.Common.{◌≡◌, ℕ, ◌+◌, ◌<◌, ◌^◌, Bool, true, false, not, eqb, List, [], ◌∷◌, ◌++◌, length, drop, Some, Result, Ok, refl, ap, subst, ◌∙◌, arith, inl, inr}
-use Rattle.std.specs.Prelude.{codes, slice_get}
+-- Lines of a name and a number and bodies of one line, both ways, and how the pieces of a report begin.
+use Rattle.std.proofs.Common.{◌≡◌, ℕ, suc, ◌<◌, ◌^◌, ◌+◌, Bool, true, false, not, eqb, List, [], ◌∷◌, ◌++◌, length, drop, Option, Some, None, Result, Ok, Err, refl, sym, ap, subst, ◌∙◌, arith, inl, inr}
+use Rattle.std.specs.Prelude.{codes, nat_eq}
 use Rattle.std.specs.Fmt.{decimal}
-use Rattle.std.specs.Str.{bytes_eq}
-use Rattle.std.proofs.lemmas.Bool.{cases_Bool, and_from, ne_eqb, eqb-true}
-use Rattle.std.proofs.lemmas.Slice.Eq.{bytes_eq-Decides}
-use Rattle.ror_text.specs.Numbers.{small_number_of}
-use Rattle.ror_text.specs.Reading.{◌>>=◌, refuse, need}
-use Rattle.ror_text.specs.SpacedLines.{is_word, are_words}
-use Rattle.ror_text.proofs.NumberLemmas.{small_number_of-decimal, small_number_of-sound, decimal_some, is_word-decimal}
-use Rattle.ror_text.proofs.ReadingLemmas.{bind_ok, need_ok, refuse_ok}
-use Rattle.ror_table.specs.Table.{DecisionTable}
-use Rattle.ror_text.specs.Cursor.{Cursor}
-use Rattle.ror_text.specs.SpacedLines.{line_text}
-use Rattle.ror_text.specs.Cursor.{line_words, line_after}
-use Rattle.ror_proof.specs.Reading.{begins_part}
-use Rattle.ror_text.proofs.ListLemmas.{bytes_same}
+use Rattle.std.specs.List.{starts_with, position_or_len, before_first}
+use Rattle.std.proofs.lemmas.Bool.{cases_Bool, and_from, and_parts, not-true, ne_eqb, eqb-true}
+use Rattle.std.proofs.lemmas.Bool.Decides.{Decides-eqb}
+use Rattle.std.proofs.lemmas.List.{append-nil}
+use Rattle.std.proofs.lemmas.Slice.Eq.{starts_is}
+use Rattle.ror_text.specs.Reading.{◌>>=◌, need}
+use Rattle.ror_text.specs.Lines.{is_line_end}
+use Rattle.ror_text.specs.SpacedLines.{spaced_words, is_word, are_words, line_text}
+use Rattle.ror_text.specs.Cursor.{Cursor, line_words, line_after}
+use Rattle.ror_text.proofs.NumberLemmas.{is_word-decimal}
+use Rattle.ror_text.proofs.ReadingLemmas.{bind_ok, need_ok}
+use Rattle.ror_text.proofs.SpacedLemmas.{is_one_line}
 use Rattle.ror_text.proofs.CursorLemmas.{Spans, line_again, line_spans}
+use Rattle.ror_table.specs.Table.{DecisionTable}
+use Rattle.ror_proof.specs.declared.read.ProofFault.{ProofFault}
+use Rattle.ror_proof.specs.declared.read.ProofFault.TheVariants as words
+use Rattle.ror_proof.specs.Names.{name_of}
+use Rattle.ror_proof.specs.Words.{after_word, name_at, no_more, small_number_at}
+use Rattle.ror_proof.specs.Reading.{begins_part, ended}
+use Rattle.ror_proof.proofs.WordLemmas as word_lemmas
+use Rattle.ror_proof.proofs.WordLemmas.{after_word_again, after_word_sound, no_more_sound, small_number_again, small_number_sound, name_again, name_sound}
 use Rattle.ror_report.specs.declared.block.Block.{Block}
+use Rattle.ror_report.specs.declared.block.Body.{Body}
+use Rattle.ror_report.specs.declared.block.Body.TheVariants.{Added, Withdrawn, Replaced, Undone, Refused}
+use Rattle.ror_report.specs.declared.block.LineFault.{LineFault}
+use Rattle.ror_report.specs.declared.block.LineFault.TheVariants as faults
+use Rattle.ror_report.specs.declared.names.LineForm.{LineForm}
+use Rattle.ror_report.specs.declared.names.LineForm.TheVariants as forms
 use Rattle.ror_report.specs.declared.read.ReportFault.{ReportFault}
-use Rattle.ror_report.specs.declared.read.ReportFault.TheVariants.{BadLine, BadNumber}
-use Rattle.ror_report.specs.Text.{body_text, block_text, end_text}
-use Rattle.ror_report.specs.Reading.{numbered_line, begins_added, ends_body}
-
--- ---- a line of a name and a number
-
-abbrev pub numbered_text : List ℕ → ℕ → List ℕ
-numbered_text name n = line_text (name ∷ decimal n ∷ [])
-
-pub numbered_again : (name : List ℕ) (place n : ℕ) (rest : List ℕ) → is_word name ≡ true → n < 2 ^ 32
-    → numbered_line name (record { place = place; rest = numbered_text name n ++ rest }) ≡ Ok (n, record { place = place + length (numbered_text name n); rest = rest })
-unfolding numbered_line
-numbered_again name place n rest word small =
-    let words : are_words (name ∷ decimal n ∷ []) ≡ true = and_from _ _ word (and_from _ _ (is_word-decimal n (omega (arith, small))) refl) in
-    let line = line_again place name (decimal n ∷ []) rest words in
-    let some : eqb (length (decimal n)) 0 ≡ false = ne_eqb (length (decimal n)) 0 (λ (e : length (decimal n) ≡ 0). omega (arith, decimal_some n (omega (arith, small)))) in
-    rw (line.0, bytes_same name, some, small_number_of-decimal n small, line.1) refl
-
--- the opposite of a test that failed
-pub passed : (b : Bool) → not b ≡ false → b ≡ true
-passed true e = refl
-passed false e = absurd cc
-
-two_words : (ws : List (List ℕ)) (a b : List ℕ) → slice_get ws 0 ≡ Some a → slice_get ws 1 ≡ Some b → length ws ≡ 2 → ws ≡ a ∷ b ∷ []
-two_words [] a b p q e = absurd cc
-two_words (x ∷ []) a b p q e = absurd cc
-two_words (x ∷ y ∷ []) a b p q e = cc
-two_words (x ∷ y ∷ z ∷ ws) a b p q e = absurd (omega arith)
+use Rattle.ror_report.specs.Names.{form_word, line_forms, fault_word, line_faults}
+use Rattle.ror_report.specs.Text.{body_words, body_text, block_text, end_text, IsPrintableBody}
+use Rattle.ror_report.specs.Reading.{read_in_report, number_words, numbered_line, operand_at, form_words, form_of, begins_block, begins_end, ends_body}
 
 abbrev pub done : {A : Type 0} → A → Result A ReportFault
 done x = Ok x
@@ -54,33 +41,163 @@ done x = Ok x
 pub ok_is : {A : Type 0} (x y : A) → done x ≡ done y → x ≡ y
 ok_is x y e = cc
 
--- what the tests say of the words
-named_words : (name : List ℕ) (ws : List (List ℕ)) (first word : List ℕ) (n : ℕ) → slice_get ws 0 ≡ Some first → not (bytes_eq first name) ≡ false → slice_get ws 1 ≡ Some word → small_number_of word ≡ Some n → not (eqb (length ws) 2) ≡ false
-    → (ws ≡ name ∷ decimal n ∷ []) × (n < 2 ^ 32)
-named_words name ws first word n p same q says two =
-    let is : first ≡ name = (bytes_eq-Decides first name).0 (passed _ same) in
-    let number = small_number_of-sound word n says in
-    (two_words ws first word p q (eqb-true _ _ (passed _ two)) ∙ ap (λ (w : List ℕ). w ∷ word ∷ []) is ∙ ap (λ (w : List ℕ). name ∷ w ∷ []) number.0, number.1)
+-- the opposite of a test that failed
+pub passed : (b : Bool) → not b ≡ false → b ≡ true
+passed true e = refl
+passed false e = absurd cc
+
+-- ---- any line
+
+pub in_report_ok : {A : Type 0} (r : Result A ProofFault) (x : A) → read_in_report r ≡ Ok x → r ≡ Ok x
+in_report_ok (Ok y) x e = cc
+in_report_ok (Err f) x e = absurd cc
+
+-- a line that was written is read as its words are
+pub line_reads_back : {A : Type 0} (reading : ℕ → List (List ℕ) → Result A ProofFault) (x : A) (place : ℕ) (word : List ℕ) (ws : List (List ℕ)) (rest : List ℕ) → are_words (word ∷ ws) ≡ true → reading place (word ∷ ws) ≡ Ok x
+    → read_in_report (ended (record { place = place; rest = line_text (word ∷ ws) ++ rest }) (reading place (line_words (record { place = place; rest = line_text (word ∷ ws) ++ rest })))) ≡ Ok (x, record { place = place + length (line_text (word ∷ ws)); rest = rest })
+unfolding ended
+line_reads_back reading x place word ws rest are read =
+    let line = line_again place word ws rest are in
+    rw (line.0, read, line.1) refl
+
+-- what is read of a line is read of its words, and a line feed ends it
+pub line_is_read : {A : Type 0} (c : Cursor) (reading : Result A ProofFault) (x : A × Cursor) → read_in_report (ended c reading) ≡ Ok x → (reading ≡ Ok x.0) × (line_after c ≡ Some x.1)
+unfolding ended
+line_is_read c reading x e =
+    let a = bind_ok reading (λ value. need (words.BadLine c.place) (line_after c) >>= λ next. word_lemmas.done (value, next)) x (in_report_ok (ended c reading) x e) in
+    let b = bind_ok (need (words.BadLine c.place) (line_after c)) (λ next. word_lemmas.done (a.0, next)) x a.2 in
+    let same = word_lemmas.ok_is (a.0, b.0) x b.2 in
+    (a.1 ∙ ap (λ y. word_lemmas.done y.0) same, need_ok (words.BadLine c.place) (line_after c) b.0 b.1 ∙ ap (λ y. Some y.1) same)
+
+-- ---- a line of a name and a number
+
+abbrev pub numbered_text : List ℕ → ℕ → List ℕ
+numbered_text name n = line_text (name ∷ decimal n ∷ [])
+
+number_words_again : (name : List ℕ) (place n : ℕ) → n < 2 ^ 32 → number_words name place (name ∷ decimal n ∷ []) ≡ Ok n
+unfolding number_words
+number_words_again name place n small = rw (after_word_again place name (decimal n ∷ []), small_number_again place n [] small) refl
+
+pub numbered_again : (name : List ℕ) (place n : ℕ) (rest : List ℕ) → is_word name ≡ true → n < 2 ^ 32
+    → numbered_line name (record { place = place; rest = numbered_text name n ++ rest }) ≡ Ok (n, record { place = place + length (numbered_text name n); rest = rest })
+numbered_again name place n rest word small =
+    let words : are_words (name ∷ decimal n ∷ []) ≡ true = and_from _ _ word (and_from _ _ (is_word-decimal n (omega (arith, small))) refl) in
+    line_reads_back (number_words name) n place name (decimal n ∷ []) rest words (number_words_again name place n small)
+
+number_words_sound : (name : List ℕ) (place : ℕ) (ws : List (List ℕ)) (n : ℕ) → number_words name place ws ≡ Ok n → (ws ≡ name ∷ decimal n ∷ []) × (n < 2 ^ 32)
+unfolding number_words
+number_words_sound name place ws n e =
+    let last = λ (number : ℕ × List (List ℕ)). no_more place number.1 >>= λ _. word_lemmas.done number.0 in
+    let a = bind_ok (after_word place name ws) (λ more. small_number_at place more >>= λ number. last number) n e in
+    let b = bind_ok (small_number_at place a.0) (λ number. last number) n a.2 in
+    let d = bind_ok (no_more place b.0.1) (λ _. word_lemmas.done b.0.0) n b.2 in
+    let number = small_number_sound place a.0 b.0 b.1 in
+    let operand : a.0 ≡ decimal b.0.0 ∷ [] = number.0 ∙ ap (λ (more : List (List ℕ)). decimal b.0.0 ∷ more) (no_more_sound place b.0.1 d.0 d.1) in
+    subst (λ m. (ws ≡ name ∷ decimal m ∷ []) × (m < 2 ^ 32)) (word_lemmas.ok_is b.0.0 n d.2) (after_word_sound place name ws a.0 a.1 ∙ ap (λ (more : List (List ℕ)). name ∷ more) operand, number.1)
 
 pub numbered_sound : (name : List ℕ) (c : Cursor) (x : ℕ × Cursor) → numbered_line name c ≡ Ok x → Spans c (numbered_text name x.0) x.1 × (x.0 < 2 ^ 32)
-unfolding numbered_line
 numbered_sound name c x e =
-    let ws = line_words c in
-    let last = λ (number : ℕ). need (BadLine c.place) (line_after c) >>= λ next. done (number, next) in
-    let only = λ (number : ℕ). refuse (BadLine c.place) (not (eqb (length ws) 2)) >>= λ _. last number in
-    let says = λ (word : List ℕ). need (BadNumber c.place) (small_number_of word) >>= λ number. only number in
-    let some = λ (word : List ℕ). refuse (BadLine c.place) (eqb (length word) 0) >>= λ _. says word in
-    let second = need (BadLine c.place) (slice_get ws 1) >>= λ word. some word in
-    let named = λ (first : List ℕ). refuse (BadLine c.place) (not (bytes_eq first name)) >>= λ _. second in
-    let a = bind_ok (need (BadLine c.place) (slice_get ws 0)) (λ first. named first) x e in
-    let b = bind_ok (refuse (BadLine c.place) (not (bytes_eq a.0 name))) (λ _. second) x a.2 in
-    let d = bind_ok (need (BadLine c.place) (slice_get ws 1)) (λ word. some word) x b.2 in
-    let f = bind_ok (refuse (BadLine c.place) (eqb (length d.0) 0)) (λ _. says d.0) x d.2 in
-    let g = bind_ok (need (BadNumber c.place) (small_number_of d.0)) (λ number. only number) x f.2 in
-    let h = bind_ok (refuse (BadLine c.place) (not (eqb (length ws) 2))) (λ _. last g.0) x g.2 in
-    let k = bind_ok (need (BadLine c.place) (line_after c)) (λ next. done (g.0, next)) x h.2 in
-    let words = named_words name ws a.0 d.0 g.0 (need_ok _ _ a.0 a.1) (refuse_ok _ _ b.0 b.1) (need_ok _ _ d.0 d.1) (need_ok _ _ g.0 g.1) (refuse_ok _ _ h.0 h.1) in
-    subst (λ (y : ℕ × Cursor). Spans c (numbered_text name y.0) y.1 × (y.0 < 2 ^ 32)) {x = (g.0, k.0)} (ok_is (g.0, k.0) x k.2) (line_spans c k.0 (name ∷ decimal g.0 ∷ []) words.0 (need_ok _ _ k.0 k.1), words.1)
+    let line = line_is_read c (number_words name c.place (line_words c)) x e in
+    let ws = number_words_sound name c.place (line_words c) x.0 line.0 in
+    (line_spans c x.1 (name ∷ decimal x.0 ∷ []) ws.0 line.1, ws.1)
+
+-- ---- a body of one line
+
+pub form_found : (form : LineForm) → name_of form_word line_forms (form_word form) ≡ Some form
+form_found forms.Added = refl
+form_found forms.Withdrawn = refl
+form_found forms.Replaced = refl
+form_found forms.Undone = refl
+form_found forms.Refused = refl
+
+fault_found : (fault : LineFault) → name_of fault_word line_faults (fault_word fault) ≡ Some fault
+fault_found faults.UnknownAlternative = refl
+fault_found faults.UnknownCriterion = refl
+fault_found faults.UnknownClass = refl
+fault_found faults.BadInterval = refl
+fault_found faults.NoSuchStatement = refl
+fault_found faults.NothingToUndo = refl
+fault_found faults.TooManyStatements = refl
+fault_found faults.TooManyRows = refl
+fault_found faults.TooManyPairs = refl
+
+fault_is_word : (fault : LineFault) → is_word (fault_word fault) ≡ true
+fault_is_word faults.UnknownAlternative = refl
+fault_is_word faults.UnknownCriterion = refl
+fault_is_word faults.UnknownClass = refl
+fault_is_word faults.BadInterval = refl
+fault_is_word faults.NoSuchStatement = refl
+fault_is_word faults.NothingToUndo = refl
+fault_is_word faults.TooManyStatements = refl
+fault_is_word faults.TooManyRows = refl
+fault_is_word faults.TooManyPairs = refl
+
+-- the form of a body of one line, and what follows its first word and is read as the body again
+pub record IsOneLine (body : Body) : Type 0 where
+  pub form : LineForm
+  pub operand : List (List ℕ)
+  pub written : body_words body ≡ Some (form_word form ∷ operand)
+  pub are : are_words (form_word form ∷ operand) ≡ true
+  pub read : (place : ℕ) → operand_at form place operand ≡ Ok (body, [])
+
+number_are_words : (word : List ℕ) (n : ℕ) → is_word word ≡ true → n < 2 ^ 32 → are_words (word ∷ decimal n ∷ []) ≡ true
+number_are_words word n is small = and_from _ _ is (and_from _ _ (is_word-decimal n (omega (arith, small))) refl)
+
+pub added_line : (n : ℕ) → n < 2 ^ 32 → IsOneLine (Added n)
+added_line n small = record { form = forms.Added; operand = decimal n ∷ []; written = refl; are = number_are_words (form_word forms.Added) n refl small; read = λ place. rw (small_number_again place n [] small) refl }
+
+pub withdrawn_line : (n : ℕ) → n < 2 ^ 32 → IsOneLine (Withdrawn n)
+withdrawn_line n small = record { form = forms.Withdrawn; operand = decimal n ∷ []; written = refl; are = number_are_words (form_word forms.Withdrawn) n refl small; read = λ place. rw (small_number_again place n [] small) refl }
+
+pub replaced_line : (n : ℕ) → n < 2 ^ 32 → IsOneLine (Replaced n)
+replaced_line n small = record { form = forms.Replaced; operand = decimal n ∷ []; written = refl; are = number_are_words (form_word forms.Replaced) n refl small; read = λ place. rw (small_number_again place n [] small) refl }
+
+pub undone_line : IsOneLine Undone
+undone_line = record { form = forms.Undone; operand = []; written = refl; are = refl; read = λ place. refl }
+
+pub refused_line : (fault : LineFault) → IsOneLine (Refused fault)
+refused_line fault = record { form = forms.Refused; operand = fault_word fault ∷ []; written = refl; are = and_from (is_word (form_word forms.Refused)) _ refl (and_from _ _ (fault_is_word fault) refl); read = λ place. rw (name_again fault_word line_faults place fault [] (fault_found fault)) refl }
+
+pub form_words_again : (body : Body) (is : IsOneLine body) (place : ℕ) → form_words is.form place (form_word is.form ∷ is.operand) ≡ Ok body
+unfolding form_words
+form_words_again body is place = rw (after_word_again place (form_word is.form) is.operand, is.read place) refl
+
+-- what was read after the first word
+record IsReadOperand (t : DecisionTable) (form : LineForm) (more : List (List ℕ)) (y : Body × List (List ℕ)) : Type 0 where
+  operand : List (List ℕ)
+  written : body_words y.0 ≡ Some (form_word form ∷ operand)
+  is : more ≡ operand ++ y.1
+  printable : IsPrintableBody t y.0
+
+number_operand : (t : DecisionTable) (form : LineForm) (make : ℕ → Body) → ((n : ℕ) → body_words (make n) ≡ Some (form_word form ∷ decimal n ∷ [])) → ((n : ℕ) → n < 2 ^ 32 → IsPrintableBody t (make n))
+    → (place : ℕ) (more : List (List ℕ)) (y : Body × List (List ℕ)) → (small_number_at place more >>= λ number. word_lemmas.done (make number.0, number.1)) ≡ Ok y → IsReadOperand t form more y
+number_operand t form make written printable place more y e =
+    let a = bind_ok (small_number_at place more) (λ number. word_lemmas.done (make number.0, number.1)) y e in
+    let number = small_number_sound place more a.0 a.1 in
+    subst (IsReadOperand t form more) (word_lemmas.ok_is (make a.0.0, a.0.1) y a.2) (record { operand = decimal a.0.0 ∷ []; written = written a.0.0; is = number.0; printable = printable a.0.0 number.1 })
+
+operand_sound : (t : DecisionTable) (form : LineForm) (place : ℕ) (more : List (List ℕ)) (y : Body × List (List ℕ)) → operand_at form place more ≡ Ok y → IsReadOperand t form more y
+operand_sound t forms.Added place more y e = number_operand t forms.Added Added (λ n. refl) (λ n small. small) place more y e
+operand_sound t forms.Withdrawn place more y e = number_operand t forms.Withdrawn Withdrawn (λ n. refl) (λ n small. small) place more y e
+operand_sound t forms.Replaced place more y e = number_operand t forms.Replaced Replaced (λ n. refl) (λ n small. small) place more y e
+operand_sound t forms.Undone place more y e = subst (IsReadOperand t forms.Undone more) (word_lemmas.ok_is (Undone, more) y e) (record { operand = []; written = refl; is = refl; printable = tt })
+operand_sound t forms.Refused place more y e =
+    let a = bind_ok (name_at fault_word line_faults place more) (λ fault. word_lemmas.done (Refused fault.0, fault.1)) y e in
+    let name = name_sound fault_word line_faults place more a.0 a.1 in
+    subst (IsReadOperand t forms.Refused more) (word_lemmas.ok_is (Refused a.0.0, a.0.1) y a.2) (record { operand = fault_word a.0.0 ∷ []; written = refl; is = name; printable = tt })
+
+-- the words of what was read as a body of this form
+pub form_words_sound : (t : DecisionTable) (form : LineForm) (place : ℕ) (ws : List (List ℕ)) (body : Body) → form_words form place ws ≡ Ok body → (body_words body ≡ Some ws) × IsPrintableBody t body
+unfolding form_words
+form_words_sound t form place ws body e =
+    let last = λ (y : Body × List (List ℕ)). no_more place y.1 >>= λ _. word_lemmas.done y.0 in
+    let a = bind_ok (after_word place (form_word form) ws) (λ more. operand_at form place more >>= λ y. last y) body e in
+    let b = bind_ok (operand_at form place a.0) (λ y. last y) body a.2 in
+    let d = bind_ok (no_more place b.0.1) (λ _. word_lemmas.done b.0.0) body b.2 in
+    let read = operand_sound t form place a.0 b.0 b.1 in
+    let all : a.0 ≡ read.operand = read.is ∙ ap (λ (more : List (List ℕ)). read.operand ++ more) (no_more_sound place b.0.1 d.0 d.1) ∙ append-nil read.operand in
+    let is : ws ≡ form_word form ∷ read.operand = after_word_sound place (form_word form) ws a.0 a.1 ∙ ap (λ (more : List (List ℕ)). form_word form ∷ more) all in
+    subst (λ (x : Body). (body_words x ≡ Some ws) × IsPrintableBody t x) (word_lemmas.ok_is b.0.0 body d.2) (read.written ∙ ap Some (sym is), read.printable)
 
 -- ---- how the pieces begin
 
@@ -94,13 +211,6 @@ block_begins t b =
     let body = body_text t b.body in
     let head = line_begins b.line in
     (head.0 ++ body, ap (λ (l : List ℕ). l ++ body) head.1)
-
-added_begins : (n : ℕ) → (more : List ℕ) × (numbered_text (codes "added") n ≡ codes "added " ++ more)
-unfolding line_text
-added_begins n = (drop 6 (numbered_text (codes "added") n), refl)
-
-pub begins_added_text : (n : ℕ) (rest : List ℕ) → begins_added (numbered_text (codes "added") n ++ rest) ≡ true
-begins_added_text n rest = ap (λ (l : List ℕ). begins_added (l ++ rest)) (added_begins n).1
 
 pub end_begins : (n : ℕ) → (more : List ℕ) × (end_text n ≡ codes "end " ++ more)
 unfolding end_text line_text
@@ -126,15 +236,6 @@ ends_at_block t b rest =
 pub ends_at_end_text : (n : ℕ) → ends_body (end_text n) ≡ true
 ends_at_end_text n = let begins = end_begins n in ap ends_body begins.1 ∙ ends_at_end begins.0
 
--- what ends a body is no line of an added statement
-pub ends_no_added : (rest : List ℕ) → ends_body rest ≡ true → begins_added rest ≡ false
-ends_no_added [] ends = refl
-ends_no_added (b ∷ bs) ends =
-    elim (cases_Bool (eqb 97 b)) [
-      | inl hit ↦ absurd (let no = rw (← (eqb-true 97 b hit), some_bytes 97 bs) at ends in cc)
-      | inr miss ↦ rw miss refl
-    ]
-
 -- what ends a body is no part, and no more is an answer
 pub ends_no_part : (rest : List ℕ) → ends_body rest ≡ true → begins_part rest ≡ false
 ends_no_part [] ends = refl
@@ -142,4 +243,51 @@ ends_no_part (b ∷ bs) ends =
     elim (cases_Bool (eqb 112 b)) [
       | inl hit ↦ absurd (let no = rw (← (eqb-true 112 b hit), some_bytes 112 bs) at ends in cc)
       | inr miss ↦ rw miss refl
+    ]
+
+-- ---- where no body of one line begins
+
+abbrev form_at : ℕ → List ℕ → Option LineForm
+form_at place rest = form_of (line_words (record { place = place; rest = rest }))
+
+-- the line goes on behind its first bytes
+line_goes_on : (front more : List ℕ) → is_one_line front ≡ true → before_first is_line_end (front ++ more) ≡ front ++ before_first is_line_end more
+line_goes_on [] more h = refl
+line_goes_on (b ∷ bs) more h =
+    let both = and_parts (not (is_line_end b)) (is_one_line bs) h in
+    let n : ℕ = position_or_len is_line_end (bs ++ more) in
+    let one : 1 + n ≡ suc n = omega arith in
+    rw (not-true _ both.0, one) (ap (λ (l : List ℕ). b ∷ l) (line_goes_on bs more both.1))
+
+form_at_front : (place : ℕ) (front more : List ℕ) → is_one_line front ≡ true → form_at place (front ++ more) ≡ form_of (spaced_words (front ++ before_first is_line_end more))
+unfolding line_words
+form_at_front place front more h = ap (λ (line : List ℕ). form_of (spaced_words line)) (line_goes_on front more h)
+
+pub no_form_at_answer : (place : ℕ) (more : List ℕ) → form_at place (codes "answer " ++ more) ≡ None
+no_form_at_answer place more = form_at_front place (codes "answer ") more refl
+
+no_form_at_line : (place : ℕ) (more : List ℕ) → form_at place (codes "line " ++ more) ≡ None
+no_form_at_line place more = form_at_front place (codes "line ") more refl
+
+no_form_at_end : (place : ℕ) (more : List ℕ) → form_at place (codes "end " ++ more) ≡ None
+no_form_at_end place more = form_at_front place (codes "end ") more refl
+
+no_form_at_nothing : (place : ℕ) → form_at place [] ≡ None
+unfolding line_words
+no_form_at_nothing place = refl
+
+begun : (rest front : List ℕ) → starts_with nat_eq rest front ≡ true → rest ≡ front ++ drop (length front) rest
+begun rest front begins = (starts_is Decides-eqb rest front (starts_with nat_eq rest front) refl).0 begins
+
+-- what ends a body is no body of one line
+pub ends_no_form : (place : ℕ) (rest : List ℕ) → ends_body rest ≡ true → form_at place rest ≡ None
+ends_no_form place [] ends = no_form_at_nothing place
+ends_no_form place (b ∷ bs) ends =
+    elim (cases_Bool (begins_block (b ∷ bs))) [
+      | inl block ↦ ap (form_at place) (begun (b ∷ bs) (codes "line ") block) ∙ no_form_at_line place (drop 5 (b ∷ bs))
+      | inr other ↦
+          elim (cases_Bool (begins_end (b ∷ bs))) [
+            | inl end ↦ ap (form_at place) (begun (b ∷ bs) (codes "end ") end) ∙ no_form_at_end place (drop 4 (b ∷ bs))
+            | inr none ↦ absurd (let no = rw (some_bytes b bs, other, none) at ends in cc)
+          ]
     ]

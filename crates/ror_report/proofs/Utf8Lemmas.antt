@@ -11,7 +11,11 @@ use Rattle.ror_proof.specs.Text.{answer_text, IsPrintable}
 use Rattle.ror_proof.proofs.Utf8Lemmas.{ascii_is_utf8, decimal_is_utf8, line_text_is_utf8, answer_text_is_utf8}
 use Rattle.ror_report.specs.declared.block.Block.{Block}
 use Rattle.ror_report.specs.declared.block.Body.{Body}
-use Rattle.ror_report.specs.declared.block.Body.TheVariants.{Added, Answers}
+use Rattle.ror_report.specs.declared.block.Body.TheVariants.{Added, Withdrawn, Replaced, Undone, Answers, Refused}
+use Rattle.ror_report.specs.declared.block.LineFault.{LineFault}
+use Rattle.ror_report.specs.declared.block.LineFault.TheVariants as faults
+use Rattle.ror_report.specs.declared.names.LineForm.TheVariants as forms
+use Rattle.ror_report.specs.Names.{form_word, fault_word}
 use Rattle.ror_report.specs.Text.{body_text, block_text, header_text, end_text, report_text, IsPrintableBody, IsPrintableBlock}
 use Rattle.ror_report.proofs.LineForms.{numbered_text}
 
@@ -22,8 +26,23 @@ answers_are_utf8 : (t : DecisionTable) (xs : List Answer) → IsTable t → AllB
 answers_are_utf8 t [] table printable = IsUtf8-nil
 answers_are_utf8 t (x ∷ xs) table printable = IsUtf8-append (answer_text t x) (flat_map (answer_text t) xs) (answer_text_is_utf8 t x table printable.0) (answers_are_utf8 t xs table printable.1)
 
+fault_is_utf8 : (fault : LineFault) → IsUtf8 (fault_word fault)
+fault_is_utf8 faults.UnknownAlternative = ascii_is_utf8 (fault_word faults.UnknownAlternative) refl
+fault_is_utf8 faults.UnknownCriterion = ascii_is_utf8 (fault_word faults.UnknownCriterion) refl
+fault_is_utf8 faults.UnknownClass = ascii_is_utf8 (fault_word faults.UnknownClass) refl
+fault_is_utf8 faults.BadInterval = ascii_is_utf8 (fault_word faults.BadInterval) refl
+fault_is_utf8 faults.NoSuchStatement = ascii_is_utf8 (fault_word faults.NoSuchStatement) refl
+fault_is_utf8 faults.NothingToUndo = ascii_is_utf8 (fault_word faults.NothingToUndo) refl
+fault_is_utf8 faults.TooManyStatements = ascii_is_utf8 (fault_word faults.TooManyStatements) refl
+fault_is_utf8 faults.TooManyRows = ascii_is_utf8 (fault_word faults.TooManyRows) refl
+fault_is_utf8 faults.TooManyPairs = ascii_is_utf8 (fault_word faults.TooManyPairs) refl
+
 body_is_utf8 : (t : DecisionTable) (body : Body) → IsTable t → IsPrintableBody t body → IsUtf8 (body_text t body)
-body_is_utf8 t (Added n) table small = numbered_is_utf8 (codes "added") n (ascii_is_utf8 (codes "added") refl) small
+body_is_utf8 t (Added n) table small = numbered_is_utf8 (form_word forms.Added) n (ascii_is_utf8 (form_word forms.Added) refl) small
+body_is_utf8 t (Withdrawn n) table small = numbered_is_utf8 (form_word forms.Withdrawn) n (ascii_is_utf8 (form_word forms.Withdrawn) refl) small
+body_is_utf8 t (Replaced n) table small = numbered_is_utf8 (form_word forms.Replaced) n (ascii_is_utf8 (form_word forms.Replaced) refl) small
+body_is_utf8 t Undone table printable = line_text_is_utf8 (form_word forms.Undone ∷ []) (ascii_is_utf8 (form_word forms.Undone) refl, tt)
+body_is_utf8 t (Refused fault) table printable = line_text_is_utf8 (form_word forms.Refused ∷ fault_word fault ∷ []) (ascii_is_utf8 (form_word forms.Refused) refl, (fault_is_utf8 fault, tt))
 body_is_utf8 t (Answers xs) table printable = answers_are_utf8 t xs table printable
 
 pub block_text_is_utf8 : (t : DecisionTable) (b : Block) → IsTable t → IsPrintableBlock t b → IsUtf8 (block_text t b)

@@ -1,22 +1,24 @@
 -- Reading a report piece by piece: its first line, a block and where it ends, its last line; or the
 -- first fault.
-use Rattle.std.specs.Prelude.{ℕ, ◌≤◌, zero, suc, Bool, not, ◌||◌, List, [], ◌∷◌, length, Option, Some, None, Result, Ok, Err, codes, nat_eq, ◌==◌, slice_get, if◌then◌else◌}
+use Rattle.std.specs.Prelude.{ℕ, ◌≤◌, zero, suc, Bool, not, ◌||◌, List, [], ◌∷◌, length, Option, Some, None, Result, Ok, Err, codes, nat_eq, ◌==◌, if◌then◌else◌}
 use Rattle.std.specs.List.{starts_with}
-use Rattle.std.specs.Str.{bytes_eq}
-use Rattle.ror_text.specs.Numbers.{small_number_of}
-use Rattle.ror_text.specs.Reading.{◌>>=◌, refuse, need}
+use Rattle.ror_text.specs.Reading.{◌>>=◌, refuse}
 use Rattle.ror_table.specs.Table.{DecisionTable}
-use Rattle.ror_text.specs.Cursor.{Cursor}
-use Rattle.ror_text.specs.Cursor.{line_words, line_after}
-use Rattle.ror_proof.specs.Reading.{answer_at}
+use Rattle.ror_text.specs.Cursor.{Cursor, line_words}
+use Rattle.ror_proof.specs.Names.{name_of}
+use Rattle.ror_proof.specs.Words.{after_word, name_at, no_more, small_number_at}
+use Rattle.ror_proof.specs.Reading.{answer_at, ended}
 use Rattle.ror_proof.specs.declared.answer.Answer.{Answer}
 use Rattle.ror_proof.specs.declared.read.ProofFault.{ProofFault}
 use Rattle.ror_proof.specs.declared.read.ProofFault.TheVariants as answers
 use Rattle.ror_report.specs.declared.block.Block.{Block}
 use Rattle.ror_report.specs.declared.block.Body.{Body}
-use Rattle.ror_report.specs.declared.block.Body.TheVariants.{Added, Answers}
+use Rattle.ror_report.specs.declared.block.Body.TheVariants.{Added, Withdrawn, Replaced, Undone, Answers, Refused}
+use Rattle.ror_report.specs.declared.names.LineForm.{LineForm}
+use Rattle.ror_report.specs.declared.names.LineForm.TheVariants as forms
 use Rattle.ror_report.specs.declared.read.ReportFault.{ReportFault}
 use Rattle.ror_report.specs.declared.read.ReportFault.TheVariants as faults
+use Rattle.ror_report.specs.Names.{form_word, line_forms, fault_word, line_faults}
 use Rattle.ror_report.specs.Text.{header_text}
 
 -- the fault that an error names: none for want of memory
@@ -44,17 +46,17 @@ read_in_report (Err fault) = Err (fault_of_answer fault)
 abbrev pub header_at : List ℕ → Option ℕ
 header_at bytes = if starts_with nat_eq bytes header_text then Some (length header_text) else None
 
--- the line of a name and a small number, word by word: the number, and where the next line begins
-unfoldable pub numbered_line : List ℕ → Cursor → Result (ℕ × Cursor) ReportFault
-numbered_line name c = do
-  first ← need (faults.BadLine c.place) (slice_get (line_words c) 0)
-  _ ← refuse (faults.BadLine c.place) (not (bytes_eq first name))
-  word ← need (faults.BadLine c.place) (slice_get (line_words c) 1)
-  _ ← refuse (faults.BadLine c.place) (length word == 0)
-  number ← need (faults.BadNumber c.place) (small_number_of word)
-  _ ← refuse (faults.BadLine c.place) (not (length (line_words c) == 2))
-  next ← need (faults.BadLine c.place) (line_after c)
-  Ok (number, next)
+-- the words of a line of a name and a small number
+unfoldable pub number_words : List ℕ → ℕ → List (List ℕ) → Result ℕ ProofFault
+number_words name place words = do
+  more ← after_word place name words
+  number ← small_number_at place more
+  _ ← no_more place number.1
+  Ok number.0
+
+-- the line of a name and a small number: the number, and where the next line begins
+abbrev pub numbered_line : List ℕ → Cursor → Result (ℕ × Cursor) ReportFault
+numbered_line name c = read_in_report (ended c (number_words name c.place (line_words c)))
 
 abbrev pub begins_block : List ℕ → Bool
 begins_block bytes = starts_with nat_eq bytes (codes "line ")
@@ -74,15 +76,40 @@ body_answers t (suc most) c = if ends_body c.rest then Ok ([], c) else (do
   others ← body_answers t most first.1
   Ok (first.0 ∷ others.0, others.1))
 
-abbrev pub begins_added : List ℕ → Bool
-begins_added bytes = starts_with nat_eq bytes (codes "added ")
-
--- the line of an added statement, at whose end the body ends
-unfoldable pub added_at : Cursor → Result (Body × Cursor) ReportFault
-added_at c = do
-  number ← numbered_line (codes "added") c
-  _ ← refuse (faults.BadLine number.1.place) (not (ends_body number.1.rest))
+-- what follows the first word of a body of this form
+abbrev pub operand_at : LineForm → ℕ → List (List ℕ) → Result (Body × List (List ℕ)) ProofFault
+operand_at forms.Added place words = do
+  number ← small_number_at place words
   Ok (Added number.0, number.1)
+operand_at forms.Withdrawn place words = do
+  number ← small_number_at place words
+  Ok (Withdrawn number.0, number.1)
+operand_at forms.Replaced place words = do
+  number ← small_number_at place words
+  Ok (Replaced number.0, number.1)
+operand_at forms.Undone place words = Ok (Undone, words)
+operand_at forms.Refused place words = do
+  fault ← name_at fault_word line_faults place words
+  Ok (Refused fault.0, fault.1)
+
+-- the words of a body of this form
+unfoldable pub form_words : LineForm → ℕ → List (List ℕ) → Result Body ProofFault
+form_words form place words = do
+  more ← after_word place (form_word form) words
+  body ← operand_at form place more
+  _ ← no_more place body.1
+  Ok body.0
+
+-- the line of a body of this form, and where the next line begins
+abbrev pub form_line : LineForm → Cursor → Result (Body × Cursor) ReportFault
+form_line form c = read_in_report (ended c (form_words form c.place (line_words c)))
+
+-- a body of this form, at the end of whose line it ends
+unfoldable pub one_line_at : LineForm → Cursor → Result (Body × Cursor) ReportFault
+one_line_at form c = do
+  body ← form_line form c
+  _ ← refuse (faults.BadLine body.1.place) (not (ends_body body.1.rest))
+  Ok body
 
 -- all answers up to the body's end: an answer has a byte at least
 unfoldable pub answers_at : DecisionTable → Cursor → Result (Body × Cursor) ReportFault
@@ -90,9 +117,19 @@ answers_at t c = do
   answers ← body_answers t (length c.rest) c
   Ok (Answers answers.0, answers.1)
 
--- a body, by how its first line begins
+-- the form for which the first of these words stands
+abbrev pub form_of : List (List ℕ) → Option LineForm
+form_of [] = None
+form_of (word ∷ words) = name_of form_word line_forms word
+
+-- a body of one line, or answers
+abbrev pub body_of : DecisionTable → Option LineForm → Cursor → Result (Body × Cursor) ReportFault
+body_of t (Some form) c = one_line_at form c
+body_of t None c = answers_at t c
+
+-- a body: the first word of its first line decides the form
 unfoldable pub body_at : DecisionTable → Cursor → Result (Body × Cursor) ReportFault
-body_at t c = if begins_added c.rest then added_at c else answers_at t c
+body_at t c = body_of t (form_of (line_words c)) c
 
 -- the line that names the session's line, and the body
 unfoldable pub block_at : DecisionTable → Cursor → Result (Block × Cursor) ReportFault

@@ -3,9 +3,13 @@
 
 mod block;
 pub mod laws;
+mod names;
+mod print;
 mod read;
+mod words;
 
-pub use block::{Block, Body};
+pub use block::{Block, Body, LineFault};
+pub use print::{header, print_block, print_end};
 pub use read::{ReportFault, begins_end, read_block, read_end, read_header};
 
 #[cfg(test)]

@@ -1,22 +1,21 @@
 //! The reader of a report's text, piece by piece.
 
-ghost use Rattle.std.specs.Prelude.{◌≡◌, ◌≤◌, ◌<◌, ◌-◌, codes, drop, length, IfErr, IfOk, IfSome, slice_get, map};
-ghost use Rattle.std.specs.Option.{option_map};
+ghost use Rattle.std.specs.Prelude.{◌≡◌, ◌≤◌, ◌<◌, ◌-◌, codes, drop, length, IfErr, IfOk, IfSome};
 ghost use Rattle.ror_text.specs.Reading.{Gives};
-ghost use Rattle.ror_text.specs.Cursor.{cursor_at};
-ghost use Rattle.ror_text.specs.Cursor.{line_after};
-ghost use Rattle.ror_text.specs.SpacedLines.{spaced_words};
-ghost use Rattle.ror_text.specs.Cursor.{line_words};
+ghost use Rattle.ror_text.specs.Cursor.{cursor_at, line_words};
+ghost use Rattle.ror_proof.specs.Reading.{ended, proof_fault, IsProofFaultWithin};
 ghost use Rattle.ror_report.specs.Reading as reading;
 ghost use Rattle.ror_report.specs.Reading.{block_at, end_at, report_fault, header_at, IsReportFaultWithin};
 
 use crate::block::{Block, Body};
+use crate::names::{LINE_FAULTS, LINE_FORMS, LineForm, Name, named};
+use crate::print::header;
+use crate::words::{after_word, name_at, no_more, small_number_at};
 use ror_proof::{Answer, ProofFault, read_answer};
 use ror_table::Table;
 use ror_text::Items;
-use ror_text::numbers::read_small_number;
 use ror_text::reading::{need, refuse_if};
-use ror_text::spaced::{line_at, split_spaced};
+use ror_text::spaced::{Words, line_at};
 use std::alloc::{AllocError, AllocFailed, Global};
 use thiserror::Error;
 
@@ -76,9 +75,8 @@ pub fn read_header(bytes: &[u8]) -> Option<usize>
     ensures exact { result ≡ header_at bytes.now }
     ensures within { IfSome result (λ place. place ≤ length bytes.now) }
 {
-    let header = b"ror-report 1\n".as_slice();
-    if bytes.starts_with(header) {
-        Some(header.len())
+    if bytes.starts_with(header()) {
+        Some(header().len())
     } else {
         None
     }
@@ -99,7 +97,7 @@ pub fn read_block(
     ensures within { IfOk result (λ x. x.1 ≤ length bytes.now) }
     ensures placed { IfErr result (IsReportFaultWithin (length bytes.now)) }
 {
-    let (line, next) = numbered_line(alloc, b"line".as_slice(), bytes, from)?;
+    let (line, next) = numbered_line(b"line", bytes, from)?;
     let (body, next) = body_at(alloc, table, bytes, next)?;
     Ok((Block { line, body }, next))
 }
@@ -119,26 +117,35 @@ fn body_at(
     ensures within { IfOk result (λ x. x.1 ≤ length bytes.now) }
     ensures placed { IfErr result (IsReportFaultWithin (length bytes.now)) }
 {
-    if bytes[from..].starts_with(b"added ") {
-        added_at(alloc, bytes, from)
-    } else {
-        answers_at(alloc, table, bytes, from)
+    match form_at(bytes, from) {
+        Some(form) => one_line_at(form, bytes, from),
+        None => answers_at(alloc, table, bytes, from),
     }
 }
 
-/// The line of an added statement, at whose end the body ends.
-#[tactic(auto, unfolding(crate::specs::Reading::added_at))]
-fn added_at(alloc: Global, bytes: &[u8], from: usize) -> Result<(Body, usize), ReportFault>
+/// The form for which the first word of the line at a place stands.
+fn form_at(bytes: &[u8], from: usize) -> Option<LineForm>
+    requires { from ≤ length bytes.now }
+    ensures { result ≡ reading.form_of (line_words (cursor_at bytes.now from)) }
+{
+    let (line, _) = line_at(bytes, from);
+    let (word, _) = Words::of(line).next()?;
+    named(&LINE_FORMS, word)
+}
+
+/// A body of this form, at the end of whose line it ends.
+#[tactic(auto, unfolding(crate::specs::Reading::one_line_at))]
+fn one_line_at(form: LineForm, bytes: &[u8], from: usize) -> Result<(Body, usize), ReportFault>
     requires { from ≤ length bytes.now }
     ensures exact { Gives (λ x. (x.0, cursor_at bytes.now x.1)) report_fault result
-        (reading.added_at (cursor_at bytes.now from)) }
+        (reading.one_line_at form (cursor_at bytes.now from)) }
     ensures onward { IfOk result (λ x. from ≤ x.1) }
     ensures within { IfOk result (λ x. x.1 ≤ length bytes.now) }
     ensures placed { IfErr result (IsReportFaultWithin (length bytes.now)) }
 {
-    let (number, next) = numbered_line(alloc, b"added".as_slice(), bytes, from)?;
+    let (body, next) = form_line(form, bytes, from)?;
     refuse_if(!ends_body(bytes, next), ReportFault::BadLine(next))?;
-    Ok((Body::Added(number), next))
+    Ok((body, next))
 }
 
 /// All answers up to the body's end.
@@ -163,12 +170,12 @@ fn answers_at(
 /// Reads the last line, from its first byte to the end of the bytes: the number of blocks that it
 /// gives.
 #[tactic(auto, unfolding(crate::specs::Reading::end_at))]
-pub fn read_end(alloc: Global, bytes: &[u8], from: usize) -> Result<u32, ReportFault>
+pub fn read_end(bytes: &[u8], from: usize) -> Result<u32, ReportFault>
     requires { from ≤ length bytes.now }
     ensures exact { Gives (λ n. n) report_fault result (end_at (cursor_at bytes.now from)) }
     ensures placed { IfErr result (IsReportFaultWithin (length bytes.now)) }
 {
-    let (blocks, next) = numbered_line(alloc, b"end".as_slice(), bytes, from)?;
+    let (blocks, next) = numbered_line(b"end", bytes, from)?;
     refuse_if(next < bytes.len(), ReportFault::BadLine(next))?;
     Ok(blocks)
 }
@@ -215,13 +222,7 @@ fn body_answers(
 }
 
 /// The number of a line of a name and a number, and where the next line begins.
-#[tactic(auto, unfolding(crate::specs::Reading::numbered_line))]
-fn numbered_line(
-    alloc: Global,
-    name: &[u8],
-    bytes: &[u8],
-    from: usize,
-) -> Result<(u32, usize), ReportFault>
+fn numbered_line(name: &[u8], bytes: &[u8], from: usize) -> Result<(u32, usize), ReportFault>
     requires { from ≤ length bytes.now }
     ensures exact { Gives (λ x. (x.0, cursor_at bytes.now x.1)) report_fault result
         (reading.numbered_line name.now (cursor_at bytes.now from)) }
@@ -229,22 +230,88 @@ fn numbered_line(
     ensures within { IfOk result (λ x. x.1 ≤ length bytes.now) }
     ensures placed { IfErr result (IsReportFaultWithin (length bytes.now)) }
 {
-    let (line, next) = line_at(bytes, from);
-    let words = split_spaced(alloc, line)?;
-    let first = need(word_at(words.as_slice(), 0), ReportFault::BadLine(from))?;
-    refuse_if(first != name, ReportFault::BadLine(from))?;
-    let digits = need(word_at(words.as_slice(), 1), ReportFault::BadLine(from))?;
-    refuse_if(digits.is_empty(), ReportFault::BadLine(from))?;
-    let number = need(read_small_number(digits), ReportFault::BadNumber(from))?;
-    refuse_if(words.len() != 2, ReportFault::BadLine(from))?;
-    let next = need(next, ReportFault::BadLine(from))?;
+    let (number, next) = number_after(name, bytes, from)?;
     Ok((number, next))
 }
 
-/// The word at a place among words, if there are so many.
-fn word_at<'a>(words: &[&'a [u8]], index: usize) -> Option<&'a [u8]>
-    ensures { option_map (λ word. word.now) result
-        ≡ slice_get (map (λ word. word.now) words.now) index }
+/// The body of the line of this form, and where the next line begins.
+fn form_line(form: LineForm, bytes: &[u8], from: usize) -> Result<(Body, usize), ReportFault>
+    requires { from ≤ length bytes.now }
+    ensures exact { Gives (λ x. (x.0, cursor_at bytes.now x.1)) report_fault result
+        (reading.form_line form (cursor_at bytes.now from)) }
+    ensures onward { IfOk result (λ x. from < x.1) }
+    ensures within { IfOk result (λ x. x.1 ≤ length bytes.now) }
+    ensures placed { IfErr result (IsReportFaultWithin (length bytes.now)) }
 {
-    words.get(index).copied()
+    let (body, next) = body_after(form, bytes, from)?;
+    Ok((body, next))
+}
+
+/// The number that follows a name in a line of its own, and where the next line begins.
+#[tactic(auto, using(ror_proof::proofs::Places::placed_on), unfolding(crate::specs::Reading::number_words, ror_proof::specs::Reading::ended))]
+fn number_after(name: &[u8], bytes: &[u8], from: usize) -> Result<(u32, usize), ProofFault>
+    requires { from ≤ length bytes.now }
+    ensures exact { Gives (λ x. (x.0, cursor_at bytes.now x.1)) proof_fault result
+        (ended (cursor_at bytes.now from)
+        (reading.number_words name.now from (line_words (cursor_at bytes.now from)))) }
+    ensures onward { IfOk result (λ x. from < x.1) }
+    ensures within { IfOk result (λ x. x.1 ≤ length bytes.now) }
+    ensures placed { IfErr result (IsProofFaultWithin (length bytes.now)) }
+{
+    let (line, next) = line_at(bytes, from);
+    let words = after_word(from, name, Words::of(line))?;
+    let (number, words) = small_number_at(from, words)?;
+    no_more(from, words)?;
+    let next = need(next, ProofFault::BadLine(from))?;
+    Ok((number, next))
+}
+
+/// The body by the words of a line of its form, and where the next line begins.
+#[tactic(auto, using(ror_proof::proofs::Places::placed_on), unfolding(crate::specs::Reading::form_words, ror_proof::specs::Reading::ended))]
+fn body_after(form: LineForm, bytes: &[u8], from: usize) -> Result<(Body, usize), ProofFault>
+    requires { from ≤ length bytes.now }
+    ensures exact { Gives (λ x. (x.0, cursor_at bytes.now x.1)) proof_fault result
+        (ended (cursor_at bytes.now from)
+        (reading.form_words form from (line_words (cursor_at bytes.now from)))) }
+    ensures onward { IfOk result (λ x. from < x.1) }
+    ensures within { IfOk result (λ x. x.1 ≤ length bytes.now) }
+    ensures placed { IfErr result (IsProofFaultWithin (length bytes.now)) }
+{
+    let (line, next) = line_at(bytes, from);
+    let words = after_word(from, form.word(), Words::of(line))?;
+    let (body, words) = operand_at(form, from, words)?;
+    no_more(from, words)?;
+    let next = need(next, ProofFault::BadLine(from))?;
+    Ok((body, next))
+}
+
+/// The body of this form by the words that follow its first one.
+fn operand_at<'a>(
+    form: LineForm,
+    place: usize,
+    words: Words<'a>,
+) -> Result<(Body, Words<'a>), ProofFault>
+    ensures exact { Gives (λ x. (x.0, x.1)) proof_fault result
+        (reading.operand_at form place words.entry) }
+    ensures placed { IfErr result (IsProofFaultWithin place) }
+{
+    match form {
+        LineForm::Added => {
+            let (number, words) = small_number_at(place, words)?;
+            Ok((Body::Added(number), words))
+        }
+        LineForm::Withdrawn => {
+            let (number, words) = small_number_at(place, words)?;
+            Ok((Body::Withdrawn(number), words))
+        }
+        LineForm::Replaced => {
+            let (number, words) = small_number_at(place, words)?;
+            Ok((Body::Replaced(number), words))
+        }
+        LineForm::Undone => Ok((Body::Undone, words)),
+        LineForm::Refused => {
+            let (fault, words) = name_at(&LINE_FAULTS, place, words)?;
+            Ok((Body::Refused(fault), words))
+        }
+    }
 }

@@ -1,0 +1,93 @@
+//! The words that stand for the forms of a body of one line, and for the reasons of a refusal.
+
+ghost use Rattle.std.specs.Prelude.{◌≡◌, ℕ, List};
+ghost use Rattle.ror_proof.specs.Names.{name_of};
+
+use crate::block::LineFault;
+
+/// What a word stands for.
+pub trait Name: Copy {
+    ghost word_of: { Self → List ℕ };
+
+    /// The word.
+    fn word(self) -> &'static [u8]
+        ensures { result.now ≡ word_of self };
+}
+
+/// The first of these whose word this is.
+pub fn named<N: Name>(names: &[N], word: &[u8]) -> Option<N>
+    ensures { result ≡ name_of N.word_of names.now word.now }
+{
+    'names: for name in names {
+        if word == name.word() {
+            return Some(*name);
+        }
+    }
+    None
+}
+
+/// What the first word of a body of one line stands for.
+#[derive(Clone, Copy)]
+pub enum LineForm {
+    Added,
+    Withdrawn,
+    Replaced,
+    Undone,
+    Refused,
+}
+
+pub const LINE_FORMS: [LineForm; 5] = [
+    LineForm::Added,
+    LineForm::Withdrawn,
+    LineForm::Replaced,
+    LineForm::Undone,
+    LineForm::Refused,
+];
+
+impl Name for LineForm {
+    ghost use Rattle.ror_report.specs.Names.{form_word};
+
+    ghost word_of = { form_word };
+
+    fn word(self) -> &'static [u8] {
+        match self {
+            LineForm::Added => b"added",
+            LineForm::Withdrawn => b"withdrawn",
+            LineForm::Replaced => b"replaced",
+            LineForm::Undone => b"undone",
+            LineForm::Refused => b"refused",
+        }
+    }
+}
+
+pub const LINE_FAULTS: [LineFault; 9] = [
+    LineFault::UnknownAlternative,
+    LineFault::UnknownCriterion,
+    LineFault::UnknownClass,
+    LineFault::BadInterval,
+    LineFault::NoSuchStatement,
+    LineFault::NothingToUndo,
+    LineFault::TooManyStatements,
+    LineFault::TooManyRows,
+    LineFault::TooManyPairs,
+];
+
+impl Name for LineFault {
+    ghost use Rattle.ror_report.specs.Names.{fault_word};
+
+    ghost word_of = { fault_word };
+
+    fn word(self) -> &'static [u8] {
+        match self {
+            LineFault::UnknownAlternative => b"UnknownAlternative",
+            LineFault::UnknownCriterion => b"UnknownCriterion",
+            LineFault::UnknownClass => b"UnknownClass",
+            LineFault::BadInterval => b"BadInterval",
+            LineFault::NoSuchStatement => b"NoSuchStatement",
+            LineFault::NothingToUndo => b"NothingToUndo",
+            LineFault::TooManyStatements => b"TooManyStatements",
+            LineFault::TooManyRows => b"TooManyRows",
+            LineFault::TooManyPairs => b"TooManyPairs",
+        }
+    }
+}

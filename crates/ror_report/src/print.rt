@@ -1,0 +1,116 @@
+//! The printer of a report's text, piece by piece.
+
+ghost use Rattle.std.specs.Prelude.{◌≡◌, [], ◌∷◌, ◌++◌, length, decimal, IfOk, OnOk};
+ghost use Rattle.std.specs.List.{flat_map, AllByRecursion};
+ghost use Rattle.ror_text.specs.SpacedLines.{line_text};
+ghost use Rattle.ror_proof.specs.Text.{answer_text};
+ghost use Rattle.ror_report.specs.Printing.{HasValidQuestion, HasNarrowVerdict};
+ghost use Rattle.ror_report.specs.Text.{answers_of, block_text, body_text, end_text, header_text};
+
+use crate::block::{Block, Body};
+use crate::names::{LineForm, Name};
+use itoa::Buffer;
+use ror_proof::{Answer, print_answer};
+use ror_table::Table;
+use std::alloc::{AllocError, Global};
+
+/// The first line of a report.
+#[tactic(auto, unfolding(crate::specs::Text::header_text, ror_text::specs::SpacedLines::line_text))]
+pub fn header() -> &'static [u8]
+    ensures { result.now ≡ header_text }
+{
+    b"ror-report 1\n"
+}
+
+/// The text of a block. It asks that each answer is to a question that is valid for the table, and
+/// that every number of a certificate is of absolute value at most 2^127 - 1, so that the text is
+/// read again.
+#[tactic(auto, unfolding(crate::specs::Text::block_text))]
+pub fn print_block(alloc: Global, table: &Table, block: &Block) -> Result<Vec<u8>, AllocError>
+    requires valid { AllByRecursion (HasValidQuestion table.now) (answers_of block.now.body) }
+    requires narrow { AllByRecursion HasNarrowVerdict (answers_of block.now.body) }
+    ensures text { IfOk result (λ text. text.items ≡ block_text table.now block.now) }
+{
+    let mut text = Vec::new(alloc);
+    write_number_line(&mut text, b"line", block.line)?;
+    write_body(alloc, &mut text, table, &block.body)?;
+    Ok(text)
+}
+
+/// The text of the last line of a report of so many blocks.
+#[tactic(auto, unfolding(crate::specs::Text::end_text))]
+pub fn print_end(alloc: Global, blocks: u32) -> Result<Vec<u8>, AllocError>
+    ensures text { IfOk result (λ text. text.items ≡ end_text blocks) }
+{
+    let mut text = Vec::new(alloc);
+    write_number_line(&mut text, b"end", blocks)?;
+    Ok(text)
+}
+
+/// The line of a body, or the lines of its answers.
+fn write_body(
+    alloc: Global,
+    text: &mut Vec<u8>,
+    table: &Table,
+    body: &Body,
+) -> Result<(), AllocError>
+    requires valid { AllByRecursion (HasValidQuestion table.now) (answers_of body.now) }
+    requires narrow { AllByRecursion HasNarrowVerdict (answers_of body.now) }
+    ensures { OnOk result (text.new.items ≡ text.old.items ++ body_text table.now body.now) }
+{
+    match body {
+        Body::Added(number) => write_number_line(text, LineForm::Added.word(), *number),
+        Body::Withdrawn(number) => write_number_line(text, LineForm::Withdrawn.word(), *number),
+        Body::Replaced(number) => write_number_line(text, LineForm::Replaced.word(), *number),
+        Body::Undone => write_line(text, LineForm::Undone.word()),
+        Body::Answers(answers) => write_answers(alloc, text, table, answers.as_slice()),
+        Body::Refused(fault) => write_word_line(text, LineForm::Refused.word(), fault.word()),
+    }
+}
+
+fn write_answers(
+    alloc: Global,
+    text: &mut Vec<u8>,
+    table: &Table,
+    answers: &[Answer],
+) -> Result<(), AllocError>
+    requires valid { AllByRecursion (HasValidQuestion table.now) answers.now }
+    requires narrow { AllByRecursion HasNarrowVerdict answers.now }
+    ensures { OnOk result (text.new.items
+        ≡ text.old.items ++ flat_map (answer_text table.now) answers.now) }
+{
+    'answers: for answer in answers {
+        let lines = print_answer(alloc, table, answer)?;
+        text.extend_from_slice(lines.as_slice())?;
+    }
+    Ok(())
+}
+
+/// The line of a name and a number.
+fn write_number_line(text: &mut Vec<u8>, name: &[u8], number: u32) -> Result<(), AllocError>
+    ensures { OnOk result (text.new.items
+        ≡ text.old.items ++ line_text (name.now ∷ decimal number ∷ [])) }
+{
+    write_word_line(text, name, Buffer::new().format(number).as_bytes())
+}
+
+/// The line of a name and a word.
+#[tactic(auto, unfolding(ror_text::specs::SpacedLines::line_text))]
+fn write_word_line(text: &mut Vec<u8>, name: &[u8], word: &[u8]) -> Result<(), AllocError>
+    ensures { OnOk result (text.new.items
+        ≡ text.old.items ++ line_text (name.now ∷ word.now ∷ [])) }
+{
+    text.extend_from_slice(name)?;
+    text.push(b' ')?;
+    write_line(text, word)
+}
+
+/// A line of one word, or the rest of a line.
+#[tactic(auto, unfolding(ror_text::specs::SpacedLines::line_text))]
+fn write_line(text: &mut Vec<u8>, word: &[u8]) -> Result<(), AllocError>
+    ensures { OnOk result (text.new.items ≡ text.old.items ++ line_text (word.now ∷ [])) }
+{
+    text.extend_from_slice(word)?;
+    text.push(b'\n')?;
+    Ok(())
+}
