@@ -1,7 +1,9 @@
 -- A chain and its inverses: what each revision adds to them, what they stand for, and what an undo takes away.
-use Rattle.std.proofs.Common.{◌≡◌, ℕ, ◌+◌, ◌-◌, ◌<◌, suc, Option, Some, None, List, [], ◌∷◌, ◌++◌, map, reverse, take, length, get_or, set, refl, ap, sym, subst, ◌∙◌, arith, length-set, set-set}
+use Rattle.std.proofs.Common.{◌≡◌, ℕ, ◌+◌, ◌-◌, ◌<◌, suc, true, Option, Some, None, List, [], ◌∷◌, ◌++◌, map, reverse, take, length, get_or, set, refl, ap, sym, subst, ◌∙◌, arith, length-set, set-set}
 use Rattle.std.specs.List.{Contains}
-use Rattle.std.proofs.lemmas.List.{length-map, length-append, length_push, get_or_push, take_at, take_more, take_all, length-take-le, set-get_or}
+use Rattle.std.proofs.lemmas.Bool.{lt-ltb}
+use Rattle.std.specs.Prelude.{IsTrue, nat_lt, ◌↔◌, ◌≢◌}
+use Rattle.std.proofs.lemmas.List.{length-map, length-append, length-reverse, length_push, get_or_push, take_at, take_more, take_all, length-take-le, set-get_or}
 use Rattle.std.proofs.lemmas.List.Elements.{All-contains}
 use Rattle.ror_statement.specs.declared.statement.Statement.{Statement}
 use Rattle.ror_statement.specs.declared.statement.Numbered.{Numbered}
@@ -10,7 +12,7 @@ use Rattle.ror_chain.proofs.OrderLemmas.{EndView, is_empty, ends_with, end_view,
 use Rattle.ror_chain.proofs.ChainLemmas.{same_state}
 use Rattle.ror_history.specs.declared.inverse.Inverse.{Inverse}
 use Rattle.ror_history.specs.declared.inverse.Inverse.TheVariants.{Pop, Relink, RelinkAll, Set}
-use Rattle.ror_history.specs.History.{Revision, addition, revised, added_numbers, standing, next_number}
+use Rattle.ror_history.specs.History.{Revision, HistoryView, addition, revised, added_numbers, standing, next_number}
 use Rattle.ror_history.specs.Inverses.{without_newest, taken_back, CanTakeBack, statement_at, revision_of, surviving_of, opening_of, revisions_of, IsSound, IsHeld}
 use Rattle.ror_history.specs.Laws.{AreNumberedInTurn}
 use Rattle.ror_history.proofs.ItemLemmas.{nowhere, AreNumbered, numbered_each, linked-pushed, linked-all_relinked, linked-relinked, linked-with_item, items-relinked}
@@ -159,3 +161,28 @@ in_turn s [] h = first_turn (map (λ (x : Numbered). x.statement) s.items)
 in_turn s (x ∷ xs) h =
     let before = taken_back s x in
     turn_more (revisions_of before xs) (revision_of s x) (own_turn s x (next_number (revisions_of before xs)) h.0 h.1 (next_number-is before xs h.2)) (in_turn before xs h.2)
+
+-- ---- whether something can be taken back
+
+surviving_some : (s : ChainState Numbered) (x : Inverse) (xs : List Inverse) → surviving_of s (x ∷ xs) ≡ [] → ⊥
+surviving_some s x xs e = none (surviving_of (taken_back s x) xs) (revision_of s x) e
+  where
+    none : (ys : List Revision) (y : Revision) → ys ++ y ∷ [] ≡ [] → ⊥
+    none [] y e = absurd cc
+    none (z ∷ zs) y e = absurd cc
+
+positive : (n m : ℕ) → n ≡ suc m → nat_lt 0 n ≡ true
+positive n m e = lt-ltb 0 n (omega arith)
+
+pub can_undo_is : (s : ChainState Numbered) (xs : List Inverse) (v : HistoryView) (n : ℕ) → record { state = revisions_of s (reverse xs) } ≡ v → n ≡ length xs → IsTrue (nat_lt 0 n) ↔ (v.state.surviving ≢ [])
+can_undo_is s xs v n is count = by (reverse xs) (length-reverse xs) is
+  where
+    by : (ys : List Inverse) → length ys ≡ length xs → record { state = revisions_of s ys } ≡ v → IsTrue (nat_lt 0 n) ↔ (v.state.surviving ≢ [])
+    by [] long e =
+        let none : v.state.surviving ≡ [] = ap (λ (w : HistoryView). w.state.surviving) (sym e) in
+        let zero_ : n ≡ 0 = count ∙ sym long in
+        (λ yes. absurd (let f : nat_lt 0 0 ≡ true = subst (λ (m : ℕ). nat_lt 0 m ≡ true) zero_ yes in cc), λ some. absurd (some none))
+    by (y ∷ ys) long e =
+        let more : v.state.surviving ≡ surviving_of s (y ∷ ys) = ap (λ (w : HistoryView). w.state.surviving) (sym e) in
+        let suc_ : n ≡ suc (length ys) = count ∙ sym long in
+        (λ yes none. surviving_some s y ys (sym more ∙ none), λ some. positive n (length ys) suc_)

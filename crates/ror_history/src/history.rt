@@ -1,6 +1,6 @@
 //! The statements of a desk, and what is done to them.
 
-ghost use Rattle.std.specs.Prelude.{◌≡◌, ◌-◌, ◌^◌, ◌<◌, ◌≤◌, ◌+◌, ◌∷◌, [], length, IfOk, IfErr, OnOk};
+ghost use Rattle.std.specs.Prelude.{◌≡◌, ◌≢◌, ◌↔◌, IsTrue, ◌-◌, ◌^◌, ◌<◌, ◌≤◌, ◌+◌, ◌∷◌, [], length, IfOk, IfErr, OnOk};
 ghost use Rattle.std.specs.List.Sorted.{IsStrictlyIncreasing};
 ghost use Rattle.ror_text.specs.FirstFault.{IsRefusedBy};
 ghost use Rattle.ror_statement.specs.RowNumbers.{row_count};
@@ -223,6 +223,13 @@ impl History {
         };
         take_back(&mut self.chain, inverse);
         Ok(())
+    }
+
+    /// Whether a revision survives, which an undo would take back.
+    pub fn can_undo(&self) -> bool
+        ensures { IsTrue result ↔ (self.now.state.surviving ≢ []) }
+    {
+        self.inverses.len() > 0
     }
 
     /// The number that the next added statement gets, which is asked to be below `u32::MAX`.
