@@ -26,7 +26,7 @@ use Rattle.ror_check.specs.declared.fault.CheckFault.{CheckFault}
 use Rattle.ror_check.specs.declared.fault.CheckFault.TheVariants as faults
 use Rattle.ror_check.specs.declared.fault.AnswersFault.{AnswersFault}
 use Rattle.ror_check.specs.declared.fault.AnswersFault.TheVariants as answers
-use Rattle.ror_check.specs.Proof.{AreNumberedFor, may_conclude, base_side, part_side, base_system, question_systems_of}
+use Rattle.ror_check.specs.Proof.{is_wide, AreNumberedFor, may_conclude, base_side, part_side, base_system, question_systems_of}
 
 -- a certificate of this kind can show the side
 abbrev pub is_side : Side → Certificate → Bool
@@ -103,13 +103,14 @@ IsEarlierFault = IsEarlier fault_stage fault_place
 
 -- ---- many answers over the same statements, each to the question that it names
 
--- the answer at a place, counted from 1, has this fault first
+-- The answer at a place, counted from 1, has this fault first. One that is too wide concludes nothing, and has none.
 pub record FailsAnswerAt (t : DecisionTable) (list : List Statement) (xs : List Answer) (k : ℕ)
     (fault : CheckFault) : Type 0 where
   pub answer : Answer
   pub before : ℕ
   pub counted : k ≡ before + 1
   pub there : slice_get xs before ≡ Some answer
+  pub concludes : is_wide answer.verdict ≡ false
   pub first : IsFirst (FailsAnswer t list answer.question answer) IsEarlierFault fault
 
 abbrev pub FailsAnswers : DecisionTable → List Statement → List Answer → AnswersFault → Type 0

@@ -42,6 +42,10 @@ abbrev pub IsWide : Verdict → Type 0
 IsWide (verdicts.Wide system note) = Unit {0}
 IsWide _ = ⊥
 
+abbrev pub is_wide : Verdict → Bool
+is_wide (verdicts.Wide system note) = true
+is_wide _ = false
+
 -- the system of the statements alone
 abbrev pub base_system : DecisionTable → List Statement → LinearSystem
 base_system t list = system_for t list []
@@ -118,6 +122,16 @@ HasItsProof t list x = IsProvedAnswer t list x.question x
 -- the conclusion of the verdict answers the question
 abbrev pub IsTrueVerdict : DecisionTable → List Statement → Question → Verdict → Type 0
 IsTrueVerdict t list q v = OfProof (λ c proof. Answers t list q c) v
+
+-- the verdict concludes nothing, or its conclusion answers the question
+abbrev pub IsWideOrTrue : DecisionTable → List Statement → Question → Verdict → Type 0
+IsWideOrTrue t list q (verdicts.Wide system note) = Unit {0}
+IsWideOrTrue t list q v = IsTrueVerdict t list q v
+
+-- the verdict concludes nothing, or its proof proves it
+abbrev pub IsWideOrProved : DecisionTable → List Statement → Question → Verdict → Type 0
+IsWideOrProved t list q (verdicts.Wide system note) = Unit {0}
+IsWideOrProved t list q v = OfProof (Proves t list q) v
 
 -- ---- answers that are too wide
 

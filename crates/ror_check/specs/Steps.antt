@@ -22,7 +22,7 @@ use Rattle.ror_check.specs.declared.fault.AnswersFault.TheVariants as answers
 use Rattle.ror_check.specs.declared.base.Base.{Base}
 use Rattle.ror_check.specs.declared.side.Side.{Side}
 use Rattle.ror_proof.specs.declared.answer.Answer.{Answer}
-use Rattle.ror_check.specs.Proof.{HasItsProof, Shows, ShowsOfItsSystem, base_side, AreNumberedFor, base_system, question_systems_of}
+use Rattle.ror_check.specs.Proof.{IsWideOrProved, Shows, ShowsOfItsSystem, base_side, AreNumberedFor, base_system, question_systems_of}
 use Rattle.ror_check.specs.Faults.{IsRejectedFor, FailsPart, is_side, has_kinds}
 
 -- the system accepts the certificate, whichever of the two kinds it is
@@ -87,7 +87,7 @@ abbrev pub refused_at : ℕ → CheckFault → AnswersFault
 refused_at k faults.Memory = answers.Memory
 refused_at k fault = answers.Answer k fault
 
--- each answer before the place has its proof
+-- each answer before the place is too wide or has its proof
 abbrev pub AreProvedBefore : DecisionTable → List Statement → List Answer → ℕ → Type 0
 AreProvedBefore t list xs n = (j : ℕ) (x : Answer) → j < n → slice_get xs j ≡ Some x
-    → HasItsProof t list x
+    → IsWideOrProved t list x.question x.verdict

@@ -1,10 +1,10 @@
 //! The check of an answer, test by test.
 
-ghost use Rattle.std.specs.Prelude.{◌≡◌, ◌≢◌, ℕ, [], ◌∷◌, ◌≤◌, ◌<◌, ◌+◌, ◌-◌, ◌^◌, ◌↔◌, length, map, true, IsTrue, OnOk, IfErr, IfOk, MatchOption};
+ghost use Rattle.std.specs.Prelude.{◌≡◌, ◌≢◌, ℕ, [], ◌∷◌, ◌≤◌, ◌<◌, ◌+◌, ◌-◌, ◌^◌, ◌↔◌, length, map, true, false, IsTrue, OnOk, OnErr, IfErr, IfOk, MatchOption};
 ghost use Rattle.std.specs.List.{AllByRecursion, range_with_len};
 ghost use Rattle.ror_text.specs.FirstFault.{IsRefusedBy};
 ghost use Rattle.ror_value.specs.Over.{IsLawfulIn, IsAskedIn};
-ghost use Rattle.ror_check.specs.Proof.{IsWide, OfProof, verdict_with, IsProvedAnswer, HasItsProof, IsTrueVerdict, Proves, AreNumbersFor, base_system};
+ghost use Rattle.ror_check.specs.Proof.{IsWide, is_wide, IsWideOrProved, IsWideOrTrue, OfProof, verdict_with, IsProvedAnswer, IsTrueVerdict, Proves, AreNumbersFor, base_system};
 ghost use Rattle.ror_check.specs.Faults.{FailsProof, FailsVerdict, FailsAnswer, IsEarlierFault, FailsAnswers, IsEarlierAnswersFault};
 ghost use Rattle.ror_check.specs.Steps as steps;
 ghost use Rattle.ror_check.specs.Steps.{IsAcceptedFor, IsBaseOf, AreUsable, AreShownBefore, NameSystems, RefusesBase, RefusesParts, systems_with};
@@ -57,8 +57,8 @@ pub fn check_answer(
 }
 
 /// Whether each answer's proof proves its verdict on the question that it names, over the same statements, as
-/// `check_answer` has it. The system of the statements is made once, and a base that is the one before it again is not
-/// tested again.
+/// `check_answer` has it. An answer that is too wide concludes nothing, and is passed over. The system of the statements is
+/// made once, and a base that is the one before it again is not tested again.
 ///
 /// The statements are lawful, the questions are valid for the table, and there are fewer than 2^32 - 1 answers.
 ///
@@ -75,24 +75,50 @@ pub fn check_answers(
     requires named { AllByRecursion (λ x. IsAskedIn table.now x.question) answers.now }
     requires few { length answers.now < 2 ^ 32 - 1 }
 
-    ensures accepted { OnOk result (AllByRecursion (HasItsProof table.now list.now) answers.now) }
+    ensures accepted { OnOk result (AllByRecursion
+        (λ x. IsWideOrProved table.now list.now x.question x.verdict) answers.now) }
     ensures true_answers { OnOk result (AllByRecursion
-        (λ x. IsTrueVerdict table.now list.now x.question x.verdict) answers.now) }
+        (λ x. IsWideOrTrue table.now list.now x.question x.verdict) answers.now) }
 
-    ensures not_proved { IfErr result (λ e. e ≢ AnswersFault.Memory
-        → AllByRecursion (HasItsProof table.now list.now) answers.now → ⊥) }
+    ensures not_proved { IfErr result (λ e. e ≢ AnswersFault.Memory → AllByRecursion
+        (λ x. IsWideOrProved table.now list.now x.question x.verdict) answers.now → ⊥) }
     ensures refused { IfErr result (IsRefusedBy (FailsAnswers table.now list.now answers.now)
         IsEarlierAnswersFault AnswersFault.Memory) }
 {
     let system = system_of(alloc, table, list, &[])?;
     let mut base = Base::new(&system);
     for (place, answer) in answers.iter().enumerate() {
-        match check_verdict(alloc, table, list, base, &answer.question, &answer.verdict) {
+        match check_unless_wide(alloc, table, list, base, answer) {
             Ok(accepted) => base = accepted,
             Err(fault) => return Err(refused_at(place as u32 + 1, fault)),
         }
     }
     Ok(())
+}
+
+/// Whether the answer is too wide or its proof proves its verdict, where the statements have this base; the base then
+/// knows the certificate of a proof.
+fn check_unless_wide<'a>(
+    alloc: Global,
+    table: &Table,
+    list: &[Statement],
+    base: Base<'a>,
+    x: &'a Answer,
+) -> Result<Base<'a>, CheckFault>
+    requires lawful { IsLawfulIn table.now list.now }
+    requires named { IsAskedIn table.now x.now.question }
+    requires base { IsBaseOf (base_system table.now list.now) base }
+    ensures ok { OnOk result (IsWideOrProved table.now list.now x.now.question x.now.verdict) }
+    ensures base { IfOk result (IsBaseOf (base_system table.now list.now)) }
+    ensures concludes { OnErr result (is_wide x.now.verdict ≡ false) }
+    ensures err { IfErr result (IsRefusedBy
+        (FailsVerdict table.now list.now x.now.question x.now.verdict)
+        IsEarlierFault CheckFault.Memory) }
+{
+    match &x.verdict {
+        Verdict::Wide { .. } => Ok(base),
+        verdict => check_verdict(alloc, table, list, base, &x.question, verdict),
+    }
 }
 
 /// The fault of answers of which the one at a place is refused; want of memory is no fault of an answer.

@@ -317,6 +317,8 @@ const BY_ANOTHER_BASE: &[u8] =
 const BY_A_WRONG_BASE: &[u8] =
     b"answer possible b a no\nbase solution 0 0 0 1\npart 1 multipliers 1 | 0 1\n";
 
+const TOO_WIDE: &[u8] = b"answer necessary a c wide\nwide 1 step 1 0 path 2:1 0:0\n";
+
 #[test]
 fn each_answer_is_checked_over_one_base(rt: HostRuntime) -> Result<(), Fail> {
     let table = read_plain(rt.alloc(), TABLE)?;
@@ -324,8 +326,8 @@ fn each_answer_is_checked_over_one_base(rt: HostRuntime) -> Result<(), Fail> {
         (&[], ""),
         (&[SETTLED, AGAIN, BY_ANOTHER_BASE], ""),
         (
-            &[SETTLED, BY_A_WRONG_BASE],
-            "answer 2 is not accepted: the base is not accepted: Row(1)",
+            &[SETTLED, TOO_WIDE, BY_A_WRONG_BASE],
+            "answer 3 is not accepted: the base is not accepted: Row(1)",
         ),
         (
             &[BY_A_WRONG_BASE, SETTLED],

@@ -4,7 +4,7 @@ use Rattle.ror_check.proofs.check.check_answers.Goals as goal
 
 pub returns-in-Err-clause-refused : goal.returns-in-Err-clause-refused
 returns-in-Err-clause-refused c =
-    rw c.refused_at.ensures (answers_refused c.args.table.now c.args.list.now c.args.answers.now c.loop-place.place c.index-answers-place.result c.in-Err.fault c.loop-place.invariant.0 c.loop-place-test.true c.index-answers-place.is c.in-Err.ensures.err)
+    rw c.refused_at.ensures (answers_refused c.args.table.now c.args.list.now c.args.answers.now c.loop-place.place c.index-answers-place.result c.in-Err.fault c.loop-place.invariant.0 c.loop-place-test.true c.index-answers-place.is c.in-Err.ensures.concludes c.in-Err.ensures.err)
 
 pub returns-in-Err-clause-not_proved : goal.returns-in-Err-clause-not_proved
 returns-in-Err-clause-not_proved c = none_proved {A = Unit {0}} c.args.table.now c.args.list.now c.args.answers.now (Err c.refused_at.result) (returns-in-Err-clause-refused c)
