@@ -3,3 +3,4 @@ pub mod Searching
 pub mod Usable
 pub mod Concluding
 pub mod Printing
+pub mod PairLemmas

@@ -11,7 +11,7 @@ use Rattle.ror_proof.specs.declared.answer.Proof.{Proof}
 use Rattle.ror_proof.specs.declared.answer.Verdict.{Verdict}
 use Rattle.ror_proof.specs.declared.answer.Verdict.TheVariants as verdicts
 use Rattle.ror_proof.specs.declared.answer.Answer.{Answer}
-use Rattle.ror_check.specs.Proof.{IsAllowedAnswer, IsTrueVerdict}
+use Rattle.ror_check.specs.Proof.{IsAllowedAnswer, IsWideOrTrue}
 use Rattle.ror_relation.specs.Wide.{HasNoteAt}
 
 -- no number of the certificate passes most
@@ -30,11 +30,6 @@ IsVerdictWithin most (verdicts.Yes proof) = IsProofWithin most proof
 IsVerdictWithin most (verdicts.No proof) = IsProofWithin most proof
 IsVerdictWithin most (verdicts.Contradiction proof) = IsProofWithin most proof
 IsVerdictWithin most (verdicts.Wide system note) = Unit {0}
-
--- the verdict concludes nothing, or its conclusion answers the question
-abbrev pub IsWideOrTrue : DecisionTable → List Statement → Question → Verdict → Type 0
-IsWideOrTrue t list q (verdicts.Wide system note) = Unit {0}
-IsWideOrTrue t list q v = IsTrueVerdict t list q v
 
 -- The answer is one that may be given at the width: its proof proves its verdict, or it names the first number that passes
 -- most on the path of a system before which nothing is decided. Its certificates keep to the width, and its verdict is true.

@@ -17,13 +17,13 @@ use Rattle.ror_proof.specs.declared.answer.Part.{Part}
 use Rattle.ror_proof.specs.declared.answer.WideText.{WideText}
 use Rattle.ror_proof.specs.declared.answer.Verdict.{Verdict}
 use Rattle.ror_proof.specs.declared.answer.Verdict.TheVariants as verdicts
-use Rattle.ror_check.specs.Proof.{Shows, ShowsOfItsSystem, base_side, IsAllowedVerdict}
+use Rattle.ror_check.specs.Proof.{Shows, ShowsOfItsSystem, base_side, IsAllowedVerdict, IsWideOrTrue}
 use Rattle.ror_relation.specs.declared.decision.Decision.{Decision}
 use Rattle.ror_relation.specs.declared.decision.Decision.TheVariants as decisions
 use Rattle.ror_relation.specs.declared.search.Search.{Search}
 use Rattle.ror_relation.specs.declared.search.Search.TheVariants as searches
 use Rattle.ror_relation.specs.Wide.{HasNoteAt}
-use Rattle.ror_relation.specs.Answers.{IsCertificateWithin, IsVerdictWithin, IsWideOrTrue}
+use Rattle.ror_relation.specs.Answers.{IsCertificateWithin, IsVerdictWithin}
 
 -- The certificate shows what the base shows where this is concluded, that the system is solvable or that it is not, and no
 -- number of it passes most.

@@ -1,3 +1,4 @@
 pub mod Wide
+pub mod Pairs
 pub mod Answers
 pub mod Decisions

@@ -4,9 +4,9 @@ ghost use Rattle.std.specs.Prelude.{◌≡◌, IfOk};
 ghost use Rattle.std.specs.List.{AllByRecursion, AllZip};
 ghost use Rattle.ror_pivot.specs.Answers.{most_of};
 ghost use Rattle.ror_value.specs.Over.{IsLawfulIn, IsAskedIn};
-ghost use Rattle.ror_check.specs.Proof.{base_system, IsAllowedAnswer};
+ghost use Rattle.ror_check.specs.Proof.{base_system, IsAllowedAnswer, IsWideOrTrue};
 ghost use Rattle.ror_relation.specs.Wide.{HasNoteAt};
-ghost use Rattle.ror_relation.specs.Answers.{IsVerdictWithin, IsWideOrTrue, IsGiven};
+ghost use Rattle.ror_relation.specs.Answers.{IsVerdictWithin, IsGiven};
 ghost use Rattle.ror_relation.specs.Decisions.{IsDecision, IsGivenVerdict, verdict_of};
 
 use crate::decision::{Decision, decide_system};

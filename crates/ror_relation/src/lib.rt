@@ -19,10 +19,12 @@
 
 mod deciding;
 mod decision;
+mod pairs;
 mod search;
 mod wide;
 
 pub use deciding::{decide, decide_each};
+pub use pairs::relation_questions;
 
 #[cfg(test)]
 mod tests;
