@@ -2,3 +2,4 @@ pub mod Numbers
 pub mod Made
 pub mod Found
 pub mod Cleared
+pub mod Relations

@@ -1,19 +1,25 @@
-//! A program for measuring: it clears a column of a made row again and again, or solves a made system once, and prints
-//! what was done. The time is taken from outside, so that it prints the same each time.
+//! A program for measuring: it clears a column of a made row again and again, solves a made system once, or decides the
+//! relations on a made table, and prints what was done. The time is taken from outside, so that it prints the same each
+//! time.
 #![tactic(auto)]
 
 mod numbers;
+mod relations;
 mod rows;
 mod systems;
+mod tables;
 #[cfg(test)]
 mod tests;
 
 ghost use Rattle.std.specs.Prelude.{◌≡◌, ◌-◌, ◌^◌, IfSome};
 ghost use Rattle.ror_pivot.specs.Answers.{most_of};
 ghost use Rattle.ror_measure.specs.Found.{IsFoundOfPlan};
+ghost use Rattle.ror_measure.specs.Relations.{AreRelationsOfPlan};
 
+use crate::relations::{Counts, Related, decide_relations};
 use crate::rows::clear_often;
 use crate::systems::{Found, Kind, Plan, decide, made_system};
+use crate::tables::{Judged, TablePlan, judged_table};
 use ror_pivot::Bits;
 use std::alloc::Global;
 use std::rt::Env;
@@ -33,6 +39,12 @@ enum Task {
         bits: u32,
         plan: Plan,
     },
+    /// The table whose relations are decided, and whether the answers are checked.
+    Relate {
+        bits: u32,
+        plan: TablePlan,
+        checks: bool,
+    },
 }
 
 fn main(rt: HostRuntime) -> io::Result<()> {
@@ -45,8 +57,9 @@ fn main(rt: HostRuntime) -> io::Result<()> {
             },
         ) => clear(&rt, bits, entries, times),
         Some(Task::Solve { bits, plan }) => solve(&rt, bits, plan),
+        Some(Task::Relate { bits, plan, checks }) => relate(&rt, bits, plan, checks),
         None => println!(rt;
-            "usage: ror_measure clear BITS ENTRIES TIMES | statements BITS ROWS CRITERIA NUMBER | dense BITS ROWS COLUMNS NUMBER"
+            "usage: ror_measure clear BITS ENTRIES TIMES | statements BITS ROWS CRITERIA NUMBER | dense BITS ROWS COLUMNS NUMBER | relation BITS ALTERNATIVES CRITERIA STATEMENTS NUMBER decide|check"
         ),
     }
 }
@@ -68,6 +81,18 @@ fn given_task<R: Env + AllocGlobal>(rt: &R) -> Option<Task> {
         }
         "statements" => (Kind::Statements, second.saturating_mul(3)),
         "dense" => (Kind::Dense, second),
+        "relation" => {
+            let statements = words.next()?.as_str().parse().ok()?;
+            let number = words.next()?.as_str().parse().ok()?;
+            let checks = is_check(words.next()?.as_str())?;
+            let plan = TablePlan {
+                alternatives: first,
+                criteria: second,
+                statements,
+                number,
+            };
+            return Some(Task::Relate { bits, plan, checks });
+        }
         _ => return None,
     };
     let number = words.next()?.as_str().parse().ok()?;
@@ -78,6 +103,15 @@ fn given_task<R: Env + AllocGlobal>(rt: &R) -> Option<Task> {
         number,
     };
     Some(Task::Solve { bits, plan })
+}
+
+/// Whether answers are checked, by the word that says so.
+fn is_check(word: &str) -> Option<bool> {
+    match word {
+        "decide" => Some(false),
+        "check" => Some(true),
+        _ => None,
+    }
 }
 
 /// Clears the column, and prints how many entries of the last row are not 0.
@@ -113,6 +147,48 @@ fn solve<R: Print + AllocGlobal>(rt: &R, bits: u32, plan: Plan) -> io::Result<()
         Some(Found::TooWide(pivots)) => println!(rt; "too wide after {pivots} pivots"),
         None => println!(rt; "no such system"),
     }
+}
+
+/// Makes the table and decides its relations, and prints how many answers have each verdict.
+fn relate<R: Print + AllocGlobal>(
+    rt: &R,
+    bits: u32,
+    plan: TablePlan,
+    checks: bool,
+) -> io::Result<()> {
+    let Some(Related { counts, accepted }) = decided_relations(rt.alloc(), bits, plan, checks)
+    else {
+        return println!(rt; "no such table");
+    };
+    let TablePlan {
+        alternatives,
+        criteria,
+        statements,
+        ..
+    } = plan;
+    print!(rt;
+        "{bits} bits, {alternatives} alternatives, {criteria} criteria, {statements} statements: "
+    )?;
+    let Counts {
+        yes,
+        no,
+        contradiction,
+        wide,
+    } = counts;
+    print!(rt; "yes {yes} no {no} contradiction {contradiction} wide {wide}")?;
+    match accepted {
+        Some(accepted) => println!(rt; " accepted {accepted}"),
+        None => println!(rt;),
+    }
+}
+
+/// What the relations on the table of a plan come to at a width of 15, 31, 63 or 127 bits.
+fn decided_relations(alloc: Global, bits: u32, plan: TablePlan, checks: bool) -> Option<Related>
+    ensures { IfSome result (AreRelationsOfPlan bits plan checks) }
+{
+    let width = width_of(bits)?;
+    let Judged { table, statements } = judged_table(alloc, plan)?;
+    decide_relations(alloc, &table, statements.as_slice(), width, checks)
 }
 
 /// What the system comes to at a width of 15, 31, 63 or 127 bits.
