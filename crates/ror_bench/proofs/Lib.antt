@@ -1,7 +1,9 @@
-pub mod Refusals
-pub mod Asking
-pub mod Standing
-pub mod ReportProofs
+pub mod NameLemmas
+pub mod CommandLemmas
+pub mod LawfulLemmas
+pub mod BodyLemmas
+pub mod DeskLemmas
+pub mod AnswerLemmas
 pub mod Utf8Proofs
-pub mod Asked
+pub mod ReportProofs
 pub mod Truth

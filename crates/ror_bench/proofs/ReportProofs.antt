@@ -1,29 +1,44 @@
--- What is left of a report, block by block, and that reading it is a function.
-use Rattle.std.proofs.Common.{length-set, append-nil, inl, inr, rules, ◌≡◌, ◌≢◌, ℕ, zero, suc, ◌+◌, ◌<◌, ◌≤◌, ◌^◌, true, false, List, [], ◌∷◌, ◌++◌, length, drop, get_or, Some, None, Result, Ok, Err, refl, sym, ap, ◌∙◌, subst, append_assoc, zero-add, add-one, drop-cons, arith}
-use Rattle.std.specs.Prelude.{codes, IfSome, ◌==◌, ◌⊎◌}
+-- What is left of a report, block by block, that reading it is a function, and what a rejected one is.
+use Rattle.std.proofs.Common.{length-set, append-nil, inl, inr, rules, ◌≡◌, ◌≢◌, ℕ, zero, suc, ◌+◌, ◌<◌, ◌≤◌, ◌^◌, ◌-◌, true, false, List, [], ◌∷◌, ◌++◌, length, drop, get_or, Some, Result, Ok, Err, refl, sym, ap, ◌∙◌, subst, append_assoc, length-append, zero-add, add-one, drop-cons, arith}
+use Rattle.std.specs.Prelude.{codes, IfErr, IfSome, ◌==◌, ◌⊎◌, slice_set}
 use Rattle.std.proofs.lemmas.Bool.{cases_lt}
 use Rattle.std.specs.List.{AllByRecursion, flat_map, sum_by, filter}
-use Rattle.std.proofs.lemmas.List.{append_cancel_left, drop_all}
+use Rattle.std.specs.Str.{IsUtf8}
+use Rattle.std.proofs.lemmas.List.{append_cancel_left, drop_all, length-drop}
 use Rattle.std.proofs.lemmas.List.{get_or-set_same, get_or-set_other}
 use Rattle.std.proofs.lemmas.List.Elements.{filter-append}
 use Rattle.std.proofs.lemmas.List.Sums.{sum_by-append, fold-append}
 use Rattle.ror_session.specs.declared.session.Line.{Line}
 use Rattle.ror_table.specs.Table.{DecisionTable, IsTable}
+use Rattle.ror_text.specs.FirstFault.{IsRefusedBy}
 use Rattle.ror_text.specs.Cursor.{Cursor, cursor_at}
 use Rattle.ror_report.specs.declared.block.Block.{Block}
 use Rattle.ror_report.specs.declared.read.ReportFault.{ReportFault}
-use Rattle.ror_report.specs.Text.{block_text, header_text, end_text, IsPrintableBlock}
+use Rattle.ror_report.specs.Text.{block_text, header_text, end_text, answers_of, IsPrintableBlock}
 use Rattle.ror_report.specs.declared.read.ReportFault.TheVariants as forms
 use Rattle.ror_report.specs.Reading.{report_fault, ends_body, begins_end, block_at, end_at, header_at}
 use Rattle.ror_report.proofs.BlockLemmas.{block_reads_back, is_read_iff_text}
 use Rattle.ror_report.proofs.ReportLemmas.{ends_at_rest, header_is_text, header_reads_back, end_is_text, end_reads_back}
 use Rattle.ror_report.proofs.LineForms.{block_begins, end_begins}
-use Rattle.ror_bench.specs.declared.bench.Passed.{Passed}
 use Rattle.ror_history.specs.History.{Revisions}
-use Rattle.ror_bench.specs.Bench.{Workbench, revisions_at}
-use Rattle.ror_bench.specs.Blocks.{IsProvedBlock, answer_count, revisions_with, with_block}
-use Rattle.ror_bench.specs.Reports.{IsProvedReport, NamesADesk, EachHolds, at_desk, revisions_after, revisions_then}
-use Rattle.ror_bench.specs.Steps.{IsNextBlock, BeginsProved, IsRest}
+use Rattle.ror_bench.specs.declared.bench.Passed.{Passed}
+use Rattle.ror_bench.specs.declared.bench.BlockFault.{BlockFault}
+use Rattle.ror_bench.specs.declared.bench.BlockFault.TheVariants as blocks
+use Rattle.ror_bench.specs.declared.report.Accepted.{Accepted}
+use Rattle.ror_bench.specs.declared.report.Rejection.{Rejection}
+use Rattle.ror_bench.specs.declared.report.Reason.{Reason}
+use Rattle.ror_bench.specs.declared.report.TheConstants.{MOST_REPORT_BYTES}
+use Rattle.ror_bench.specs.Bench.{Workbench, revisions_at, LeavesNumbers}
+use Rattle.ror_bench.specs.Blocks.{IsProvedUnlessWide, IsProvedBlock, passed_of, revisions_with, with_block}
+use Rattle.ror_bench.specs.Faults.{FailsBlock, IsEarlierBlockFault}
+use Rattle.ror_bench.specs.Reports.{IsProvedReport, NamesADesk, EachHolds, accepted_of, at_desk, revisions_after, revisions_then, IfRejected, RejectsNext, RejectsEnd, IsRejectedFrom, IsRejectedFor, end_misread, ends_early, block_misread, refused, miscounted, one_too_many, at_line, at_end, later, not_utf8, no_header, in_blocks}
+use Rattle.ror_bench.specs.declared.report.ReportError.{ReportError}
+use Rattle.ror_bench.specs.declared.report.ReportError.TheVariants as errors
+use Rattle.ror_bench.specs.Steps.{IsEarlyEnd, IsLateBlock, IsNextBlock, IsRest, with_passed, misread_error, refused_block_error}
+use Rattle.ror_bench.specs.Laws.{RejectedIsNotProved}
+use Rattle.ror_bench.proofs.AnswerLemmas.{block_passes}
+use Rattle.ror_bench.proofs.LawfulLemmas.{moved_number}
+use Rattle.ror_bench.proofs.Utf8Proofs.{proved_is_utf8, few_blocks}
 
 -- ---- reading is a function
 
@@ -59,30 +74,47 @@ end_begins_end bytes n e =
 
 -- ---- what is left
 
-sums : (b : Block) (bs : List Block) → sum_by answer_count (b ∷ bs) ≡ answer_count b + sum_by answer_count bs
-sums b bs = sum_by-append answer_count (b ∷ []) bs ∙ ap (λ n. n + sum_by answer_count bs) (zero-add (answer_count b))
+answers_in : Block → ℕ
+answers_in b = (passed_of (answers_of b.body)).answers
+
+wide_in : Block → ℕ
+wide_in b = (passed_of (answers_of b.body)).wide
+
+sums : (f : Block → ℕ) (b : Block) (bs : List Block) → sum_by f (b ∷ bs) ≡ f b + sum_by f bs
+sums f b bs = sum_by-append f (b ∷ []) bs ∙ ap (λ n. n + sum_by f bs) (zero-add (f b))
+
+same_accepted : (x y : Accepted) → x.answers ≡ y.answers → x.wide ≡ y.wide → x ≡ y
+same_accepted x y a w = ap (λ n. record { answers = n; wide = x.wide }) a ∙ ap (λ n. record { answers = y.answers; wide = n }) w
+
+-- the numbers of a block and of those after it
+accepted_more : (b : Block) (bs : List Block) (x : Accepted) → x ≡ accepted_of bs → with_passed x (passed_of (answers_of b.body)) ≡ accepted_of (b ∷ bs)
+accepted_more b bs x e =
+    let here : with_passed x (passed_of (answers_of b.body)) ≡ with_passed (accepted_of bs) (passed_of (answers_of b.body)) = ap (λ (y : Accepted). with_passed y (passed_of (answers_of b.body))) e in
+    here ∙ same_accepted (with_passed (accepted_of bs) (passed_of (answers_of b.body))) (accepted_of (b ∷ bs))
+    (let s = sums (λ b. (passed_of (answers_of b.body)).answers) b bs in omega (arith, s))
+    (let s = sums (λ b. (passed_of (answers_of b.body)).wide) b bs in omega (arith, s))
 
 -- a block that holds of a line, and what is left behind it
-pub rest_with : (start : Workbench) (before : List (Line × Block)) (line : Line) (lines : List Line) (total : ℕ) (bytes after : List ℕ) (b : Block) (n : ℕ)
-    → bytes ≡ block_text start.table b ++ after → IsPrintableBlock start.table b → IsProvedBlock start.table (revisions_then start before line.desk) line b → IsRest start (before ++ (line, b) ∷ []) lines total after n → IsRest start before (line ∷ lines) total bytes (answer_count b + n)
-rest_with start before line lines total bytes after b n text printable proved rest = record {
+pub rest_with : (start : Workbench) (before : List (Line × Block)) (line : Line) (lines : List Line) (total : ℕ) (bytes after : List ℕ) (b : Block) (x : Accepted)
+    → bytes ≡ block_text start.table b ++ after → IsPrintableBlock start.table b → IsProvedBlock start.table (revisions_then start before line.desk) line b → IsRest start (before ++ (line, b) ∷ []) lines total after x → IsRest start before (line ∷ lines) total bytes (with_passed x (passed_of (answers_of b.body)))
+rest_with start before line lines total bytes after b x text printable proved rest = record {
   blocks = b ∷ rest.blocks;
   text = text ∙ ap (λ (l : List ℕ). block_text start.table b ++ l) rest.text ∙ sym (append_assoc (block_text start.table b) (flat_map (block_text start.table) rest.blocks) (end_text total));
   printable = (printable, rest.printable);
   proved = (proved, rest.proved);
-  counted = ap (λ m. answer_count b + m) rest.counted ∙ sym (sums b rest.blocks);
+  counted = accepted_more b rest.blocks x rest.counted;
 }
 
 -- the first block of what is left for a line and more
 pub record HasFirst (start : Workbench) (before : List (Line × Block)) (line : Line) (lines : List Line) (total : ℕ) (bytes : List ℕ) : Type 0 where
   pub block : Block
   pub after : List ℕ
-  pub answers : ℕ
+  pub accepted : Accepted
   pub text : bytes ≡ block_text start.table block ++ after
   pub ended : ends_body after ≡ true
   pub printable : IsPrintableBlock start.table block
   pub proved : IsProvedBlock start.table (revisions_then start before line.desk) line block
-  pub rest : IsRest start (before ++ (line, block) ∷ []) lines total after answers
+  pub rest : IsRest start (before ++ (line, block) ∷ []) lines total after accepted
 
 first_of_blocks : (start : Workbench) (before : List (Line × Block)) (line : Line) (lines : List Line) (total : ℕ) (bytes : List ℕ) (blocks : List Block)
     → bytes ≡ flat_map (block_text start.table) blocks ++ end_text total → AllByRecursion (IsPrintableBlock start.table) blocks → EachHolds (IsProvedBlock start.table) start before (line ∷ lines) blocks → HasFirst start before line lines total bytes
@@ -90,7 +122,7 @@ first_of_blocks start before line lines total bytes [] text printable held = abs
 first_of_blocks start before line lines total bytes (b ∷ bs) text printable held = record {
   block = b;
   after = flat_map (block_text start.table) bs ++ end_text total;
-  answers = sum_by answer_count bs;
+  accepted = accepted_of bs;
   text = text ∙ append_assoc (block_text start.table b) (flat_map (block_text start.table) bs) (end_text total);
   ended = ends_at_rest start.table bs total;
   printable = printable.0;
@@ -98,18 +130,18 @@ first_of_blocks start before line lines total bytes (b ∷ bs) text printable he
   rest = record { blocks = bs; text = refl; printable = printable.1; proved = held.1; counted = refl };
 }
 
-pub first_of_rest : (start : Workbench) (before : List (Line × Block)) (line : Line) (lines : List Line) (total : ℕ) (bytes : List ℕ) (n : ℕ) → IsRest start before (line ∷ lines) total bytes n → HasFirst start before line lines total bytes
-first_of_rest start before line lines total bytes n rest = first_of_blocks start before line lines total bytes rest.blocks rest.text rest.printable rest.proved
+pub first_of_rest : (start : Workbench) (before : List (Line × Block)) (line : Line) (lines : List Line) (total : ℕ) (bytes : List ℕ) (x : Accepted) → IsRest start before (line ∷ lines) total bytes x → HasFirst start before line lines total bytes
+first_of_rest start before line lines total bytes x rest = first_of_blocks start before line lines total bytes rest.blocks rest.text rest.printable rest.proved
 
 -- where no line is left, the last line is
 last_of_blocks : (start : Workbench) (before : List (Line × Block)) (total : ℕ) (bytes : List ℕ) (blocks : List Block) → bytes ≡ flat_map (block_text start.table) blocks ++ end_text total → EachHolds (IsProvedBlock start.table) start before [] blocks → bytes ≡ end_text total
 last_of_blocks start before total bytes [] text held = text
 last_of_blocks start before total bytes (b ∷ bs) text held = absurd held
 
-pub last_of_rest : (start : Workbench) (before : List (Line × Block)) (total : ℕ) (bytes : List ℕ) (n : ℕ) → IsRest start before [] total bytes n → bytes ≡ end_text total
-last_of_rest start before total bytes n rest = last_of_blocks start before total bytes rest.blocks rest.text rest.proved
+pub last_of_rest : (start : Workbench) (before : List (Line × Block)) (total : ℕ) (bytes : List ℕ) (x : Accepted) → IsRest start before [] total bytes x → bytes ≡ end_text total
+last_of_rest start before total bytes x rest = last_of_blocks start before total bytes rest.blocks rest.text rest.proved
 
-pub no_rest : (start : Workbench) (before : List (Line × Block)) (total : ℕ) (bytes : List ℕ) → bytes ≡ end_text total → IsRest start before [] total bytes 0
+pub no_rest : (start : Workbench) (before : List (Line × Block)) (total : ℕ) (bytes : List ℕ) → bytes ≡ end_text total → IsRest start before [] total bytes (record { answers = 0; wide = 0 })
 no_rest start before total bytes text = record { blocks = []; text = text; printable = tt; proved = tt; counted = refl }
 
 -- ---- what the desks hold
@@ -168,14 +200,50 @@ after_block start before bench moved line block is within moved-is =
       ];
     })
 
+-- ---- the numbers that desks have left
+
+weaker : (more : ℕ) (rs : List Revisions) → AllByRecursion (LeavesNumbers (1 + more)) rs → AllByRecursion (LeavesNumbers more) rs
+weaker more [] h = tt
+weaker more (r ∷ rs) h = ((let now = h.0 in omega arith), weaker more rs h.1)
+
+numbers_set : (more : ℕ) (rs : List Revisions) (desk : ℕ) (r : Revisions) → AllByRecursion (LeavesNumbers more) rs → LeavesNumbers more r → AllByRecursion (LeavesNumbers more) (slice_set rs desk r)
+numbers_set more [] desk r all here = tt
+numbers_set more (x ∷ xs) zero r all here = (here, all.1)
+numbers_set more (x ∷ xs) (suc desk) r all here = (all.0, numbers_set more xs desk r all.1 here)
+
+numbers_at : (more : ℕ) (rs : List Revisions) (desk : ℕ) (d : Revisions) → desk < length rs → AllByRecursion (LeavesNumbers more) rs → LeavesNumbers more (get_or rs desk d)
+numbers_at more [] desk d within all = absurd (omega arith)
+numbers_at more (x ∷ xs) zero d within all = all.0
+numbers_at more (x ∷ xs) (suc desk) d within all = numbers_at more xs desk d (omega arith) all.1
+
+pub number_left : (bench : Workbench) (line : Line) (more : ℕ) → line.desk < length bench.state → AllByRecursion (LeavesNumbers (1 + more)) bench.state → LeavesNumbers 1 (revisions_at bench line.desk)
+number_left bench line more within all = let here = numbers_at (1 + more) bench.state line.desk (record { opening = []; surviving = [] }) within all in omega arith
+
+pub numbers_after : (bench moved : Workbench) (line : Line) (block : Block) (more : ℕ) → line.desk < length bench.state → AllByRecursion (LeavesNumbers (1 + more)) bench.state → IsProvedBlock bench.table (revisions_at bench line.desk) line block → moved ≡ with_block bench line block → AllByRecursion (LeavesNumbers more) moved.state
+numbers_after bench moved line block more within all proved is =
+    let here = numbers_at (1 + more) bench.state line.desk (record { opening = []; surviving = [] }) within all in
+    let rises = moved_number IsProvedUnlessWide bench.table (revisions_at bench line.desk) line.command block.body proved.body in
+    subst (λ (b : Workbench). AllByRecursion (LeavesNumbers more) b.state) (sym is)
+    (numbers_set more bench.state line.desk (revisions_with bench.table (revisions_at bench line.desk) line.command block.body) (weaker more bench.state all) (omega (arith, here, rises)))
+
+pub after_desks : (start : Workbench) (before : List (Line × Block)) (bench : Workbench) → IsAfter start before bench → (line : Line) → line.desk < length start.state → line.desk < length bench.state
+after_desks start before bench is line within = let same = is.desks in omega arith
+
 -- ---- the loop over the lines
 
--- what is read from a place on completes the report, and any report that is proved goes on so
-pub record IsWay (start : Workbench) (lines : List Line) (bytes : List ℕ) (bench : Workbench) (left : List Line) (from answers : ℕ) : Type 0 where
+pub header_within : (bytes : List ℕ) (place : ℕ) → header_at bytes ≡ Some place → place ≤ length bytes
+header_within bytes place header =
+    let is = header_is_text bytes place header in
+    let long = ap length is.1 in
+    omega (arith, long, is.0, length-append header_text (drop place bytes))
+
+-- what is read from a place on completes the report, and what is at fault from there on is its first fault
+pub record IsWay (start : Workbench) (lines : List Line) (bytes : List ℕ) (place : ℕ) (bench : Workbench) (left : List Line) (from : ℕ) (accepted : Accepted) (count : ℕ) : Type 0 where
   pub before : List (Line × Block)
+  pub counted : length before ≡ count
   pub after : IsAfter start before bench
-  pub completes : (n : ℕ) → IsRest start before left (length lines) (drop from bytes) n → IsProvedReport start lines bytes (answers + n)
-  pub goes_on : (m : ℕ) → IsProvedReport start lines bytes m → (n : ℕ) × IsRest start before left (length lines) (drop from bytes) n
+  pub completes : (x : Accepted) → IsRest start before left (length lines) (drop from bytes) x → IsProvedReport start lines bytes (record { answers = accepted.answers + x.answers; wide = accepted.wide + x.wide })
+  pub rejects : (rejection : Rejection) → IsRejectedFrom start bytes rejection before left from → IsRejectedFrom start bytes rejection [] lines place
 
 lengths : (start : Workbench) (before : List (Line × Block)) (xs : List Line) (ys : List Block) → EachHolds (IsProvedBlock start.table) start before xs ys → length xs ≡ length ys
 lengths start before [] [] h = refl
@@ -183,147 +251,147 @@ lengths start before [] (y ∷ ys) h = absurd h
 lengths start before (x ∷ xs) [] h = absurd h
 lengths start before (x ∷ xs) (y ∷ ys) h = let others = lengths start (before ++ (x, y) ∷ []) xs ys h.1 in omega arith
 
-pub way_begins : (start : Workbench) (lines : List Line) (bytes : List ℕ) (place : ℕ) → header_at bytes ≡ Some place → IsWay start lines bytes start lines place 0
+from_nothing : (x : Accepted) → record { answers = 0 + x.answers; wide = 0 + x.wide } ≡ x
+from_nothing x = ap (λ n. record { answers = n; wide = 0 + x.wide }) (zero-add x.answers) ∙ ap (λ n. record { answers = x.answers; wide = n }) (zero-add x.wide)
+
+pub way_begins : (start : Workbench) (lines : List Line) (bytes : List ℕ) (place : ℕ) → header_at bytes ≡ Some place → IsWay start lines bytes place start lines place (record { answers = 0; wide = 0 }) 0
 way_begins start lines bytes place header =
     let t = start.table in
     let is = header_is_text bytes place header in
     record {
       before = [];
+      counted = refl;
       after = after_nothing start;
-      completes = λ n rest.
+      completes = λ x rest.
           let as_many = lengths start [] lines rest.blocks rest.proved in
           record {
             blocks = rest.blocks;
             text = is.1 ∙ ap (λ (l : List ℕ). header_text ++ l) (rest.text ∙ ap (λ m. flat_map (block_text t) rest.blocks ++ end_text m) as_many);
             printable = rest.printable;
             proved = rest.proved;
-            counted = zero-add n ∙ rest.counted;
+            counted = from_nothing x ∙ rest.counted;
           };
-      goes_on = λ m report.
-          let as_many = lengths start [] lines report.blocks report.proved in (
-            m,
-            record {
-              blocks = report.blocks;
-              text = append_cancel_left header_text (drop place bytes) (flat_map (block_text t) report.blocks ++ end_text (length report.blocks)) (sym is.1 ∙ report.text) ∙ ap (λ k. flat_map (block_text t) report.blocks ++ end_text k) (sym as_many);
-              printable = report.printable;
-              proved = report.proved;
-              counted = report.counted;
-            },
-          );
+      rejects = λ rejection from. from;
     }
-
-pub no_header : (bench : Workbench) (lines : List Line) (bytes : List ℕ) (n : ℕ) → header_at bytes ≡ None → IsProvedReport bench lines bytes n → ⊥
-no_header bench lines bytes n none report =
-    let back = header_reads_back (flat_map (block_text bench.table) report.blocks ++ end_text (length report.blocks)) in
-    absurd (let both = sym none ∙ ap header_at report.text ∙ back in cc)
 
 -- the next block over the start's table and what its desk holds then
 record IsNextHere (start : Workbench) (before : List (Line × Block)) (line : Line) (bytes : List ℕ) (from : ℕ) (block : Block) (after : ℕ) : Type 0 where
-  pub text : drop from bytes ≡ block_text start.table block ++ drop after bytes
-  pub printable : IsPrintableBlock start.table block
-  pub proved : IsProvedBlock start.table (revisions_then start before line.desk) line block
+  read : block_at start.table (cursor_at bytes from) ≡ Ok (block, cursor_at bytes after)
+  proved : IsProvedBlock start.table (revisions_then start before line.desk) line block
 
-next_here : (start : Workbench) (before : List (Line × Block)) (bench moved : Workbench) (line : Line) (bytes : List ℕ) (from passed after : ℕ) → IsAfter start before bench → line.desk < length start.state → (next : IsNextBlock bench moved line bytes from passed after) → IsNextHere start before line bytes from next.block after
+next_here : (start : Workbench) (before : List (Line × Block)) (bench moved : Workbench) (line : Line) (bytes : List ℕ) (from : ℕ) (passed : Passed) (after : ℕ) → IsAfter start before bench → line.desk < length start.state → (next : IsNextBlock bench moved line bytes from passed after) → IsNextHere start before line bytes from next.block after
 next_here start before bench moved line bytes from passed after is within next = record {
-  text = subst (λ (t : DecisionTable). drop from bytes ≡ block_text t next.block ++ drop after bytes) is.table next.text;
-  printable = subst (λ (t : DecisionTable). IsPrintableBlock t next.block) is.table next.printable;
+  read = subst (λ (t : DecisionTable). block_at t (cursor_at bytes from) ≡ Ok (next.block, cursor_at bytes after)) is.table next.read;
   proved = subst (λ (t : DecisionTable). IsProvedBlock t (revisions_then start before line.desk) line next.block) is.table (subst (λ (r : Revisions). IsProvedBlock bench.table r line next.block) (is.holds line.desk within) next.proved);
 }
 
-pub way_goes_on : (start : Workbench) (lines : List Line) (bytes : List ℕ) (bench moved : Workbench) (line : Line) (left : List Line) (from answers passed after : ℕ) → IsTable start.table → line.desk < length start.state
-    → IsWay start lines bytes bench (line ∷ left) from answers → IsNextBlock bench moved line bytes from passed after → IsWay start lines bytes moved left after (answers + passed)
-way_goes_on start lines bytes bench moved line left from answers passed after table within way next =
+abbrev numbers_of : ℕ → ℕ → Accepted
+numbers_of answers wide = record { answers = answers; wide = wide }
+
+both_ways : (a x : Accepted) (p q : Passed) → q ≡ p → numbers_of (a.answers + (x.answers + p.answers)) (a.wide + (x.wide + p.wide)) ≡ numbers_of ((a.answers + q.answers) + x.answers) ((a.wide + q.wide) + x.wide)
+both_ways a x p q e =
+    let answers : p.answers ≡ q.answers = ap (λ (y : Passed). y.answers) (sym e) in
+    let wide : p.wide ≡ q.wide = ap (λ (y : Passed). y.wide) (sym e) in
+    same_accepted (numbers_of (a.answers + (x.answers + p.answers)) (a.wide + (x.wide + p.wide))) (numbers_of ((a.answers + q.answers) + x.answers) ((a.wide + q.wide) + x.wide)) (omega arith) (omega arith)
+
+pub way_goes_on : (start : Workbench) (lines : List Line) (bytes : List ℕ) (place : ℕ) (bench moved : Workbench) (line : Line) (left : List Line) (from : ℕ) (accepted : Accepted) (count : ℕ) (passed : Passed) (after : ℕ) → IsTable start.table → line.desk < length start.state
+    → IsWay start lines bytes place bench (line ∷ left) from accepted count → IsNextBlock bench moved line bytes from passed after → IsWay start lines bytes place moved left after (record { answers = accepted.answers + passed.answers; wide = accepted.wide + passed.wide }) (count + 1)
+way_goes_on start lines bytes place bench moved line left from accepted count passed after table within way next =
     let t = start.table in
     let here = next_here start way.before bench moved line bytes from passed after way.after within next in
+    let is = (is_read_iff_text t (cursor_at bytes from) next.block (cursor_at bytes after) table).0 here.read in
     record {
       before = way.before ++ (line, next.block) ∷ [];
+      counted = let c = way.counted in omega (arith, c, length-append way.before ((line, next.block) ∷ []));
       after = after_block start way.before bench moved line next.block way.after within next.moved_on;
-      completes = λ n rest.
-          let whole = way.completes (answer_count next.block + n) (rest_with start way.before line left (length lines) (drop from bytes) (drop after bytes) next.block n here.text here.printable here.proved rest) in
-          let counted = next.counted in
-          subst (IsProvedReport start lines bytes) {x = answers + (answer_count next.block + n)} (omega arith) whole;
-      goes_on = λ m report.
-          let on = way.goes_on m report in
-          let first = first_of_rest start way.before line left (length lines) (drop from bytes) on.0 on.1 in
-          let same = same_block t first.block next.block (drop from bytes) first.after (drop after bytes) table first.printable here.printable first.ended next.ended first.text here.text in
-          let rest : IsRest start (way.before ++ (line, next.block) ∷ []) left (length lines) first.after first.answers = subst (λ (b : Block). IsRest start (way.before ++ (line, b) ∷ []) left (length lines) first.after first.answers) same.0 first.rest in
-          (first.answers, subst (λ (l : List ℕ). IsRest start (way.before ++ (line, next.block) ∷ []) left (length lines) l first.answers) same.1 rest);
+      completes = λ x rest.
+          let whole = way.completes (with_passed x (passed_of (answers_of next.block.body))) (rest_with start way.before line left (length lines) (drop from bytes) (drop after bytes) next.block x is.text is.printable here.proved rest) in
+          subst (IsProvedReport start lines bytes) (both_ways accepted x (passed_of (answers_of next.block.body)) passed next.counted) whole;
+      rejects = λ rejection rest. way.rejects rejection (later way.before line left from next.block after next.no_end here.read here.proved rest);
     }
 
-pub way_breaks : (start : Workbench) (lines : List Line) (bytes : List ℕ) (bench : Workbench) (line : Line) (left : List Line) (from answers : ℕ) → line.desk < length start.state → IsWay start lines bytes bench (line ∷ left) from answers
-    → (BeginsProved bench line (drop from bytes) → ⊥) → (m : ℕ) → IsProvedReport start lines bytes m → ⊥
-way_breaks start lines bytes bench line left from answers within way none m report =
-    let on = way.goes_on m report in
-    let first = first_of_rest start way.before line left (length lines) (drop from bytes) on.0 on.1 in
-    let same_table = sym way.after.table in
-    none (record {
-      block = first.block;
-      rest = first.after;
-      text = subst (λ (t : DecisionTable). drop from bytes ≡ block_text t first.block ++ first.after) same_table first.text;
-      ended = first.ended;
-      printable = subst (λ (t : DecisionTable). IsPrintableBlock t first.block) same_table first.printable;
-      proved = subst (λ (r : Revisions). IsProvedBlock bench.table r line first.block) (sym (way.after.holds line.desk within)) (subst (λ (t : DecisionTable). IsProvedBlock t (revisions_then start way.before line.desk) line first.block) same_table first.proved);
-    })
+-- the next block is rejected, and so the report
+pub way_breaks : (start : Workbench) (lines : List Line) (bytes : List ℕ) (place : ℕ) (bench : Workbench) (line : Line) (left : List Line) (from : ℕ) (accepted : Accepted) (count : ℕ) (rejection : Rejection) → line.desk < length start.state → IsWay start lines bytes place bench (line ∷ left) from accepted count
+    → rejection.block ≡ count + 1 → RejectsNext bench.table (revisions_at bench line.desk) line bytes from rejection.reason → IsRejectedFrom start bytes rejection [] lines place
+way_breaks start lines bytes place bench line left from accepted count rejection within way number rejects =
+    let held = subst (λ (t : DecisionTable). RejectsNext t (revisions_then start way.before line.desk) line bytes from rejection.reason) way.after.table
+    (subst (λ (r : Revisions). RejectsNext bench.table r line bytes from rejection.reason) (way.after.holds line.desk within) rejects) in
+    way.rejects rejection (at_line way.before line left from (let c = way.counted in omega arith) held)
 
-pub way_ends : (start : Workbench) (lines : List Line) (bytes : List ℕ) (bench : Workbench) (from answers : ℕ) → IsWay start lines bytes bench [] from answers → drop from bytes ≡ end_text (length lines) → IsProvedReport start lines bytes answers
-way_ends start lines bytes bench from answers way text =
-    subst (IsProvedReport start lines bytes) {x = answers + 0} (omega arith) (way.completes 0 (no_rest start way.before (length lines) (drop from bytes) text))
+pub way_ends : (start : Workbench) (lines : List Line) (bytes : List ℕ) (place : ℕ) (bench : Workbench) (from : ℕ) (accepted : Accepted) (count : ℕ) → IsWay start lines bytes place bench [] from accepted count → drop from bytes ≡ end_text (length lines) → IsProvedReport start lines bytes accepted
+way_ends start lines bytes place bench from accepted count way text =
+    subst (IsProvedReport start lines bytes) (same_accepted (record { answers = accepted.answers + 0; wide = accepted.wide + 0 }) accepted (omega arith) (omega arith)) (way.completes (record { answers = 0; wide = 0 }) (no_rest start way.before (length lines) (drop from bytes) text))
 
-pub way_ends_badly : (start : Workbench) (lines : List Line) (bytes : List ℕ) (bench : Workbench) (from answers : ℕ) → IsWay start lines bytes bench [] from answers → (drop from bytes ≡ end_text (length lines) → ⊥) → (m : ℕ) → IsProvedReport start lines bytes m → ⊥
-way_ends_badly start lines bytes bench from answers way none m report =
-    let on = way.goes_on m report in
-    none (last_of_rest start way.before (length lines) (drop from bytes) on.0 on.1)
+pub way_ends_badly : (start : Workbench) (lines : List Line) (bytes : List ℕ) (place : ℕ) (bench : Workbench) (from : ℕ) (accepted : Accepted) (count : ℕ) (rejection : Rejection) → IsWay start lines bytes place bench [] from accepted count → rejection.block ≡ count + 1 → RejectsEnd bench.table bytes from count rejection.reason → IsRejectedFrom start bytes rejection [] lines place
+way_ends_badly start lines bytes place bench from accepted count rejection way number rejects =
+    let c = way.counted in
+    let held : RejectsEnd start.table bytes from (length way.before) rejection.reason = subst (λ (t : DecisionTable). RejectsEnd t bytes from (length way.before) rejection.reason) way.after.table (subst (λ (n : ℕ). RejectsEnd bench.table bytes from n rejection.reason) (sym c) rejects) in
+    way.rejects rejection (at_end way.before from (omega arith) held)
 
--- ---- one block and the last line
+-- ---- what is rejected is not proved
 
--- a block that was read and is proved is the next
-pub read_next : (bench moved : Workbench) (line : Line) (bytes : List ℕ) (from after : ℕ) (found : Block) (t : DecisionTable) (passed : Passed) → t ≡ bench.table → IsTable bench.table
-    → block_at t (cursor_at bytes from) ≡ Ok (found, cursor_at bytes after) → IsProvedBlock bench.table (revisions_at bench line.desk) line found
-    → passed ≡ record { answers = answer_count found; wide = 0 } → moved ≡ with_block bench line found → IsNextBlock bench moved line bytes from passed.answers after
-read_next bench moved line bytes from after found t passed same table read proved counted moved-is =
-    let here : block_at bench.table (cursor_at bytes from) ≡ Ok (found, cursor_at bytes after) = ap (λ (u : DecisionTable). block_at u (cursor_at bytes from)) (sym same) ∙ read in
-    let is = (is_read_iff_text bench.table (cursor_at bytes from) found (cursor_at bytes after) table).0 here in
-    record { block = found; text = is.text; ended = is.ended; printable = is.printable; proved = proved; counted = ap (λ (p : Passed). p.answers) counted; moved_on = moved-is }
+end_read : (bytes : List ℕ) (from n : ℕ) → n < 2 ^ 32 → drop from bytes ≡ end_text n → end_at (cursor_at bytes from) ≡ Ok n
+end_read bytes from n small text = ap (λ (r : List ℕ). end_at (record { place = from; rest = r })) text ∙ end_reads_back from n small
 
--- a block that was read and is not proved is in the way of each that is
-pub read_not_proved : (bench : Workbench) (line : Line) (bytes : List ℕ) (from after : ℕ) (found : Block) (t : DecisionTable) → t ≡ bench.table → IsTable bench.table
-    → block_at t (cursor_at bytes from) ≡ Ok (found, cursor_at bytes after) → (IsProvedBlock bench.table (revisions_at bench line.desk) line found → ⊥) → BeginsProved bench line (drop from bytes) → ⊥
-read_not_proved bench line bytes from after found t same table read none begins =
-    let here : block_at bench.table (cursor_at bytes from) ≡ Ok (found, cursor_at bytes after) = ap (λ (u : DecisionTable). block_at u (cursor_at bytes from)) (sym same) ∙ read in
-    let is = (is_read_iff_text bench.table (cursor_at bytes from) found (cursor_at bytes after) table).0 here in
-    let one = same_block bench.table begins.block found (drop from bytes) begins.rest (drop after bytes) table begins.printable is.printable begins.ended is.ended begins.text is.text in
-    none (subst (IsProvedBlock bench.table (revisions_at bench line.desk) line) one.0 begins.proved)
+-- the block that a rest begins with is the one that is read
+first_read : (start : Workbench) (before : List (Line × Block)) (line : Line) (lines : List Line) (total : ℕ) (bytes : List ℕ) (from : ℕ) → IsTable start.table → (first : HasFirst start before line lines total (drop from bytes)) → block_at start.table (cursor_at bytes from) ≡ Ok (first.block, record { place = from + length (block_text start.table first.block); rest = first.after })
+first_read start before line lines total bytes from table first =
+    let after : Cursor = record { place = from + length (block_text start.table first.block); rest = first.after } in
+    (is_read_iff_text start.table (cursor_at bytes from) first.block after table).1 (record { text = first.text; place = refl; printable = first.printable; ended = first.ended })
 
--- what has a fault of its form is not read
-unread : {A : Type 0} (r : Result A ReportFault) (fault : ReportFault) (x : A) → IfSome (report_fault fault) (λ f. r ≡ Err f) → fault ≢ forms.Memory → r ≡ Ok x → ⊥
-unread r (forms.BadLine at) x bad ne read = absurd cc
-unread r (forms.BadNumber at) x bad ne read = absurd cc
-unread r forms.Memory x bad ne read = ne refl
+ok_read : Block × Cursor → Result (Block × Cursor) ReportFault
+ok_read p = Ok p
 
-pub not_read : (bench : Workbench) (line : Line) (bytes : List ℕ) (from : ℕ) (fault : ReportFault) (t : DecisionTable) → t ≡ bench.table → IsTable bench.table
-    → IfSome (report_fault fault) (λ f. block_at t (cursor_at bytes from) ≡ Err f) → fault ≢ forms.Memory → BeginsProved bench line (drop from bytes) → ⊥
-not_read bench line bytes from fault t same table bad ne begins =
-    let after : Cursor = record { place = from + length (block_text bench.table begins.block); rest = begins.rest } in
-    let read = (is_read_iff_text bench.table (cursor_at bytes from) begins.block after table).1 (record { text = begins.text; place = refl; printable = begins.printable; ended = begins.ended }) in
-    unread (block_at t (cursor_at bytes from)) fault (begins.block, after) bad ne (ap (λ (u : DecisionTable). block_at u (cursor_at bytes from)) same ∙ read)
+one_read : (r : Result (Block × Cursor) ReportFault) (p q : Block × Cursor) → r ≡ Ok p → r ≡ Ok q → q ≡ p
+one_read r p q e f = (let both = sym e ∙ f in cc)
 
-pub no_begin_at_end : (bench : Workbench) (line : Line) (bytes : List ℕ) → begins_end bytes ≡ true → BeginsProved bench line bytes → ⊥
-no_begin_at_end bench line bytes end begins = no_block_at_end bench.table begins.block bytes begins.rest end begins.text
+next_not_first : (start : Workbench) (before : List (Line × Block)) (line : Line) (lines : List Line) (total : ℕ) (bytes : List ℕ) (from : ℕ) (reason : Reason) → IsTable start.table → HasFirst start before line lines total (drop from bytes) → RejectsNext start.table (revisions_then start before line.desk) line bytes from reason → ⊥
+next_not_first start before line lines total bytes from reason table first (end_misread fault begins read is) = no_block_at_end start.table first.block (drop from bytes) first.after begins first.text
+next_not_first start before line lines total bytes from reason table first (ends_early n begins read is) = no_block_at_end start.table first.block (drop from bytes) first.after begins first.text
+next_not_first start before line lines total bytes from reason table first (block_misread fault no_end read is) =
+    absurd (let both = sym read ∙ first_read start before line lines total bytes from table first in cc)
+next_not_first start before line lines total bytes from reason table first (refused b after fault no_end read fails is) =
+    let same = one_read (block_at start.table (cursor_at bytes from)) (b, cursor_at bytes after) (first.block, record { place = from + length (block_text start.table first.block); rest = first.after }) read (first_read start before line lines total bytes from table first) in
+    let block : first.block ≡ b = ap (λ (p : Block × Cursor). p.0) same in
+    block_passes start.table (revisions_then start before line.desk) line b fault (subst (IsProvedBlock start.table (revisions_then start before line.desk) line) block first.proved) fails.fails
 
-pub last_read : (bytes : List ℕ) (from n : ℕ) → end_at (cursor_at bytes from) ≡ Ok n → drop from bytes ≡ end_text n
-last_read bytes from n read = (end_is_text (cursor_at bytes from) n read).0
+end_not_last : (t : DecisionTable) (bytes : List ℕ) (from count : ℕ) (reason : Reason) → count < 2 ^ 32 → drop from bytes ≡ end_text count → RejectsEnd t bytes from count reason → ⊥
+end_not_last t bytes from count reason small text (end_misread fault begins read is) = absurd (let both = sym read ∙ end_read bytes from count small text in cc)
+end_not_last t bytes from count reason small text (miscounted n begins read other is) = other (let both = sym read ∙ end_read bytes from count small text in cc)
+end_not_last t bytes from count reason small text (block_misread fault no_end read is) = absurd (let both = sym no_end ∙ end_begins_end (drop from bytes) count text in cc)
+end_not_last t bytes from count reason small text (one_too_many b after no_end read is) = absurd (let both = sym no_end ∙ end_begins_end (drop from bytes) count text in cc)
 
-last_again : (bytes : List ℕ) (from n : ℕ) → n < 2 ^ 32 → drop from bytes ≡ end_text n → end_at (cursor_at bytes from) ≡ Ok n
-last_again bytes from n small text = ap (λ (r : List ℕ). end_at (record { place = from; rest = r })) text ∙ end_reads_back from n small
+from_not_rest : (start : Workbench) (bytes : List ℕ) (rejection : Rejection) (total : ℕ) → IsTable start.table → total < 2 ^ 32 → (before : List (Line × Block)) (lines : List Line) (from : ℕ) → IsRejectedFrom start bytes rejection before lines from → total ≡ length before + length lines → (x : Accepted) → IsRest start before lines total (drop from bytes) x → ⊥
+from_not_rest start bytes rejection total table small _ _ _ (at_line before line lines from number rejects) counted x rest =
+    next_not_first start before line lines total bytes from rejection.reason table (first_of_rest start before line lines total (drop from bytes) x rest) rejects
+from_not_rest start bytes rejection total table small _ _ _ (at_end before from number rejects) counted x rest =
+    let same : total ≡ length before = omega (arith, counted) in
+    end_not_last start.table bytes from (length before) rejection.reason (omega arith) (last_of_rest start before total (drop from bytes) x rest ∙ ap end_text same) rejects
+from_not_rest start bytes rejection total table small _ _ _ (later before line lines from b after no_end read proved more) counted x rest =
+    let first = first_of_rest start before line lines total (drop from bytes) x rest in
+    let same = one_read (block_at start.table (cursor_at bytes from)) (b, cursor_at bytes after) (first.block, record { place = from + length (block_text start.table first.block); rest = first.after }) read (first_read start before line lines total bytes from table first) in
+    let block : first.block ≡ b = ap (λ (p : Block × Cursor). p.0) same in
+    let left : first.after ≡ drop after bytes = ap (λ (p : Block × Cursor). p.1.rest) same in
+    let rest_here : IsRest start (before ++ (line, b) ∷ []) lines total (drop after bytes) first.accepted = subst (λ (l : List ℕ). IsRest start (before ++ (line, b) ∷ []) lines total l first.accepted) left (subst (λ (y : Block). IsRest start (before ++ (line, y) ∷ []) lines total first.after first.accepted) block first.rest) in
+    from_not_rest start bytes rejection total table small (before ++ (line, b) ∷ []) lines after more (omega (arith, counted, length-append before ((line, b) ∷ []))) first.accepted rest_here
 
-pub other_last : (bytes : List ℕ) (from m n : ℕ) → n < 2 ^ 32 → m ≢ n → end_at (cursor_at bytes from) ≡ Ok m → drop from bytes ≡ end_text n → ⊥
-other_last bytes from m n small ne read text = ne (let again = last_again bytes from n small text in cc)
-
-pub last_unread : (bytes : List ℕ) (from n : ℕ) (fault : ReportFault) → n < 2 ^ 32 → IfSome (report_fault fault) (λ f. end_at (cursor_at bytes from) ≡ Err f) → fault ≢ forms.Memory → drop from bytes ≡ end_text n → ⊥
-last_unread bytes from n fault small bad ne text = unread (end_at (cursor_at bytes from)) fault n bad ne (last_again bytes from n small text)
-
-pub no_last : (bytes : List ℕ) (n : ℕ) → begins_end bytes ≡ false → bytes ≡ end_text n → ⊥
-no_last bytes n other text = absurd (let begins = end_begins_end bytes n text in cc)
+pub rejected_not_proved : RejectedIsNotProved
+rejected_not_proved bench lines bytes rejection accepted table short (not_utf8 none is) report = none (proved_is_utf8 bench lines bytes accepted table short report)
+rejected_not_proved bench lines bytes rejection accepted table short (no_header text none is) report =
+    let back = header_reads_back (flat_map (block_text bench.table) report.blocks ++ end_text (length report.blocks)) in
+    absurd (let both = sym none ∙ ap header_at report.text ∙ back in cc)
+rejected_not_proved bench lines bytes rejection accepted table short (in_blocks text place header from) report =
+    let is = header_is_text bytes place header in
+    let as_many = lengths bench [] lines report.blocks report.proved in
+    let few = few_blocks bench lines bytes accepted short report in
+    let rest : IsRest bench [] lines (length lines) (drop place bytes) accepted = record {
+      blocks = report.blocks;
+      text = append_cancel_left header_text (drop place bytes) (flat_map (block_text bench.table) report.blocks ++ end_text (length report.blocks)) (sym is.1 ∙ report.text) ∙ ap (λ k. flat_map (block_text bench.table) report.blocks ++ end_text k) (sym as_many);
+      printable = report.printable;
+      proved = report.proved;
+      counted = report.counted;
+    } in
+    from_not_rest bench bytes rejection (length lines) table (omega arith) [] lines place from (omega arith) accepted rest
 
 -- the desk of a line at a place
 pub desk_at : (desks : ℕ) (lines : List Line) (i : ℕ) (line : Line) → AllByRecursion (NamesADesk desks) lines → i < length lines → line ≡ get_or lines i line → NamesADesk desks line
@@ -331,14 +399,69 @@ desk_at desks [] i line named within is = absurd (omega arith)
 desk_at desks (x ∷ xs) zero line named within is = subst (NamesADesk desks) (sym is) named.0
 desk_at desks (x ∷ xs) (suc i) line named within is = desk_at desks xs i line named.1 (omega arith) is
 
+-- one line fewer is left
+pub one_fewer : (lines : List Line) (i : ℕ) → i < length lines → length (drop i lines) ≡ 1 + length (drop (i + 1) lines)
+one_fewer lines i within = rw (length-drop i lines, length-drop (i + 1) lines) (omega arith)
+
 -- the next of the lines that are left
-pub way_at : (start : Workbench) (lines : List Line) (bytes : List ℕ) (bench : Workbench) (i : ℕ) (line : Line) (from answers : ℕ) → i < length lines → line ≡ get_or lines i line
-    → IsWay start lines bytes bench (drop i lines) from answers → IsWay start lines bytes bench (line ∷ drop (i + 1) lines) from answers
-way_at start lines bytes bench i line from answers within is way =
+pub way_at : (start : Workbench) (lines : List Line) (bytes : List ℕ) (bench : Workbench) (i : ℕ) (line : Line) (place from : ℕ) (accepted : Accepted) (count : ℕ) → i < length lines → line ≡ get_or lines i line
+    → IsWay start lines bytes place bench (drop i lines) from accepted count → IsWay start lines bytes place bench (line ∷ drop (i + 1) lines) from accepted count
+way_at start lines bytes bench i line place from accepted count within is way =
     let e : drop i lines ≡ line ∷ drop (i + 1) lines = rw add-one (drop-cons lines i line within ∙ ap (λ (x : Line). x ∷ drop (suc i) lines) (sym is)) in
-    subst (λ (left : List Line). IsWay start lines bytes bench left from answers) e way
+    subst (λ (left : List Line). IsWay start lines bytes place bench left from accepted count) e way
 
 -- none of the lines is left
-pub way_over : (start : Workbench) (lines : List Line) (bytes : List ℕ) (bench : Workbench) (i from answers : ℕ) → length lines ≤ i → IsWay start lines bytes bench (drop i lines) from answers → IsWay start lines bytes bench [] from answers
-way_over start lines bytes bench i from answers past way =
-    subst (λ (left : List Line). IsWay start lines bytes bench left from answers) (drop_all i lines past) way
+pub way_over : (start : Workbench) (lines : List Line) (bytes : List ℕ) (bench : Workbench) (i place from : ℕ) (accepted : Accepted) (count : ℕ) → length lines ≤ i → IsWay start lines bytes place bench (drop i lines) from accepted count → IsWay start lines bytes place bench [] from accepted count
+way_over start lines bytes bench i place from accepted count past way =
+    subst (λ (left : List Line). IsWay start lines bytes place bench left from accepted count) (drop_all i lines past) way
+
+-- ---- the errors of a check
+
+pub rejects_by : (P Q : Rejection → Type 0) (e : ReportError) → ((rejection : Rejection) → P rejection → Q rejection) → IfRejected P e → IfRejected Q e
+rejects_by P Q (errors.Rejected rejection) by h = by rejection h
+rejects_by P Q errors.Memory by h = tt
+
+abbrev AtBlock : ℕ → (Reason → Type 0) → Rejection → Type 0
+AtBlock block P rejection = (rejection.block ≡ block) × P rejection.reason
+
+pub early_rejects : (t : DecisionTable) (r : Revisions) (line : Line) (bytes : List ℕ) (from block : ℕ) (e : ReportError) → begins_end (drop from bytes) ≡ true → IfRejected (AtBlock block (IsEarlyEnd bytes from)) e → IfRejected (AtBlock block (RejectsNext t r line bytes from)) e
+early_rejects t r line bytes from block e begins h = rejects_by (AtBlock block (IsEarlyEnd bytes from)) (AtBlock block (RejectsNext t r line bytes from)) e (λ rejection k. (k.0, by rejection.reason k.1)) h
+  where
+    by : (reason : Reason) → IsEarlyEnd bytes from reason → RejectsNext t r line bytes from reason
+    by reason (inl ends) = ends_early ends.0 begins ends.1 ends.2
+    by reason (inr misread) = end_misread misread.0 begins misread.1 misread.2
+
+pub late_rejects : (t : DecisionTable) (bytes : List ℕ) (from block count : ℕ) (e : ReportError) → begins_end (drop from bytes) ≡ false → IfRejected (AtBlock block (IsLateBlock t bytes from)) e → IfRejected (AtBlock block (RejectsEnd t bytes from count)) e
+late_rejects t bytes from block count e no_end h = rejects_by (AtBlock block (IsLateBlock t bytes from)) (AtBlock block (RejectsEnd t bytes from count)) e (λ rejection k. (k.0, by rejection.reason k.1)) h
+  where
+    by : (reason : Reason) → IsLateBlock t bytes from reason → RejectsEnd t bytes from count reason
+    by reason (inl many) = one_too_many many.0 many.1 no_end many.2 many.3
+    by reason (inr misread) = block_misread misread.0 no_end misread.1 misread.2
+
+pub refused_rejects : (t u : DecisionTable) (r : Revisions) (line : Line) (bytes : List ℕ) (from block after : ℕ) (found : Block) (fault : BlockFault) → u ≡ t → begins_end (drop from bytes) ≡ false → block_at u (cursor_at bytes from) ≡ Ok (found, cursor_at bytes after) → IsRefusedBy (FailsBlock t r line found) IsEarlierBlockFault blocks.Memory fault
+    → IfRejected (AtBlock block (RejectsNext t r line bytes from)) (refused_block_error block fault)
+refused_rejects t u r line bytes from block after found blocks.WrongBlock same no_end read first = (refl, refused found after blocks.WrongBlock no_end (ap (λ (v : DecisionTable). block_at v (cursor_at bytes from)) (sym same) ∙ read) (first (λ e. cc)) refl)
+refused_rejects t u r line bytes from block after found (blocks.Answer k fault) same no_end read first = (refl, refused found after (blocks.Answer k fault) no_end (ap (λ (v : DecisionTable). block_at v (cursor_at bytes from)) (sym same) ∙ read) (first (λ e. cc)) refl)
+refused_rejects t u r line bytes from block after found blocks.Memory same no_end read first = tt
+
+pub misread_rejects : (t u : DecisionTable) (r : Revisions) (line : Line) (bytes : List ℕ) (from block : ℕ) (fault : ReportFault) → u ≡ t → begins_end (drop from bytes) ≡ false → IfSome (report_fault fault) (λ f. block_at u (cursor_at bytes from) ≡ Err f) → IfRejected (AtBlock block (RejectsNext t r line bytes from)) (misread_error bytes block fault)
+misread_rejects t u r line bytes from block (forms.BadLine at) same no_end bad = (refl, block_misread (forms.BadLine at) no_end (ap (λ (v : DecisionTable). block_at v (cursor_at bytes from)) (sym same) ∙ bad) refl)
+misread_rejects t u r line bytes from block (forms.BadNumber at) same no_end bad = (refl, block_misread (forms.BadNumber at) no_end (ap (λ (v : DecisionTable). block_at v (cursor_at bytes from)) (sym same) ∙ bad) refl)
+misread_rejects t u r line bytes from block forms.Memory same no_end bad = tt
+
+pub end_rejects : (t : DecisionTable) (bytes : List ℕ) (from block count : ℕ) (fault : ReportFault) → begins_end (drop from bytes) ≡ true → IfSome (report_fault fault) (λ f. end_at (cursor_at bytes from) ≡ Err f) → IfRejected (AtBlock block (RejectsEnd t bytes from count)) (misread_error bytes block fault)
+end_rejects t bytes from block count (forms.BadLine at) begins bad = (refl, end_misread (forms.BadLine at) begins bad refl)
+end_rejects t bytes from block count (forms.BadNumber at) begins bad = (refl, end_misread (forms.BadNumber at) begins bad refl)
+end_rejects t bytes from block count forms.Memory begins bad = tt
+
+pub last_read : (bytes : List ℕ) (from n : ℕ) → end_at (cursor_at bytes from) ≡ Ok n → drop from bytes ≡ end_text n
+last_read bytes from n read = (end_is_text (cursor_at bytes from) n read).0
+
+pub rejected_blocks : (bench : Workbench) (lines : List Line) (bytes : List ℕ) (place : ℕ) (result : Result Accepted ReportError) → IsUtf8 bytes → header_at bytes ≡ Some place → IfErr result (IfRejected (λ rejection. IsRejectedFrom bench bytes rejection [] lines place)) → IfErr result (IfRejected (IsRejectedFor bench lines bytes))
+rejected_blocks bench lines bytes place (Ok x) text header h = tt
+rejected_blocks bench lines bytes place (Err e) text header h = rejects_by (λ rejection. IsRejectedFrom bench bytes rejection [] lines place) (IsRejectedFor bench lines bytes) e (λ rejection from. in_blocks text place header from) h
+
+pub none_proved_where : (bench : Workbench) (lines : List Line) (bytes : List ℕ) (result : Result Accepted ReportError) → IsTable bench.table → length bytes ≤ MOST_REPORT_BYTES → IfErr result (IfRejected (IsRejectedFor bench lines bytes)) → IfErr result (λ e. e ≢ errors.Memory → (x : Accepted) → IsProvedReport bench lines bytes x → ⊥)
+none_proved_where bench lines bytes (Ok x) table short h = tt
+none_proved_where bench lines bytes (Err (errors.Rejected rejection)) table short h = λ ne x report. rejected_not_proved bench lines bytes rejection x table short h report
+none_proved_where bench lines bytes (Err errors.Memory) table short h = λ ne. absurd (ne refl)

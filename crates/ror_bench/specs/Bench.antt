@@ -1,10 +1,10 @@
 -- A workbench: a table, and what each desk holds.
-use Rattle.std.specs.Prelude.{ℕ, ◌+◌, ◌≤◌, List, [], length, replicate, slice_index_or}
+use Rattle.std.specs.Prelude.{◌≡◌, ℕ, ◌+◌, ◌<◌, ◌^◌, ◌-◌, List, [], ◌++◌, replicate, slice_index_or}
 use Rattle.std.specs.List.{AllByRecursion}
 use Rattle.ror_table.specs.Table.{DecisionTable}
 use Rattle.ror_value.specs.declared.input.Input.{Input}
 use Rattle.ror_value.specs.Over.{IsLawfulIn}
-use Rattle.ror_history.specs.History.{Revisions, next_number, statements_of}
+use Rattle.ror_history.specs.History.{Revision, Revisions, next_number, statements_of}
 
 -- a table that no line changes, and the state of the desks: the statements that each began with and its surviving
 -- revisions
@@ -23,13 +23,16 @@ bench_of input desks = record {
 abbrev pub revisions_at : Workbench → ℕ → Revisions
 revisions_at bench desk = slice_index_or bench.state desk (record { opening = []; surviving = [] })
 
--- what a desk holds as long as nothing is withdrawn from it: a lawful list, with a next number at most one past how many
--- statements stand
-pub record IsHeld (t : DecisionTable) (r : Revisions) : Type 0 where
-  pub lawful : IsLawfulIn t (statements_of r)
-  pub numbered : next_number r ≤ 1 + length (statements_of r)
+-- what stands is lawful, and so is what stood after each number of the surviving revisions, the first of them first: an
+-- undo brings it back
+abbrev pub IsLawfulThroughout : DecisionTable → Revisions → Type 0
+IsLawfulThroughout t r = (before after : List Revision) → r.surviving ≡ before ++ after
+    → IsLawfulIn t (statements_of (record { opening = r.opening; surviving = before }))
 
--- what stands at each desk is lawful
+-- what stands at each desk is lawful, after any undos too
 abbrev pub IsLawfulBench : Workbench → Type 0
-IsLawfulBench bench =
-    AllByRecursion (λ r. IsLawfulIn bench.table (statements_of r)) bench.state
+IsLawfulBench bench = AllByRecursion (IsLawfulThroughout bench.table) bench.state
+
+-- the desk's next number leaves so many more to be given
+abbrev pub LeavesNumbers : ℕ → Revisions → Type 0
+LeavesNumbers more r = next_number r + more < 2 ^ 32

@@ -1,13 +1,16 @@
 -- Laws of blocks and reports: what is proved is true.
-use Rattle.std.specs.Prelude.{ℕ, List}
-use Rattle.ror_table.specs.Table.{DecisionTable}
+use Rattle.std.specs.Prelude.{ℕ, ◌≤◌, List, length}
+use Rattle.ror_table.specs.Table.{DecisionTable, IsTable}
 use Rattle.ror_value.specs.Over.{IsLawfulIn}
 use Rattle.ror_session.specs.declared.session.Line.{Line}
 use Rattle.ror_report.specs.declared.block.Block.{Block}
 use Rattle.ror_history.specs.History.{Revisions, statements_of}
 use Rattle.ror_bench.specs.Bench.{Workbench, IsLawfulBench}
+use Rattle.ror_bench.specs.declared.report.Accepted.{Accepted}
+use Rattle.ror_bench.specs.declared.report.Rejection.{Rejection}
+use Rattle.ror_bench.specs.declared.report.TheConstants.{MOST_REPORT_BYTES}
 use Rattle.ror_bench.specs.Blocks.{IsProvedBlock, AreTrue}
-use Rattle.ror_bench.specs.Reports.{IsProvedReport, AreTrueBlocks}
+use Rattle.ror_bench.specs.Reports.{IsProvedReport, IsRejectedFor, AreTrueBlocks}
 
 -- each answer of a block that is proved over lawful statements is true of all value functions that are compatible with them
 abbrev pub ProvedBlocksAreTrue : Type 0
@@ -17,6 +20,13 @@ ProvedBlocksAreTrue = (t : DecisionTable) (r : Revisions) (line : Line) (block :
 
 -- where each desk begins with lawful statements, the answers of the blocks of a proved report are true
 abbrev pub ProvedReportsAreTrue : Type 0
-ProvedReportsAreTrue = (bench : Workbench) (lines : List Line) (bytes : List ℕ) (answers : ℕ)
-    → IsLawfulBench bench → (report : IsProvedReport bench lines bytes answers)
+ProvedReportsAreTrue = (bench : Workbench) (lines : List Line) (bytes : List ℕ) (accepted : Accepted)
+    → IsLawfulBench bench → (report : IsProvedReport bench lines bytes accepted)
     → AreTrueBlocks bench lines report.blocks
+
+-- what is rejected is not proved: a report that is proved has no fault, in no block
+abbrev pub RejectedIsNotProved : Type 0
+RejectedIsNotProved = (bench : Workbench) (lines : List Line) (bytes : List ℕ)
+    (rejection : Rejection) (accepted : Accepted) → IsTable bench.table
+    → length bytes ≤ MOST_REPORT_BYTES → IsRejectedFor bench lines bytes rejection
+    → IsProvedReport bench lines bytes accepted → ⊥

@@ -1,18 +1,30 @@
--- Which bytes are the text of a report that is proved for a session.
-use Rattle.std.specs.Prelude.{◌≡◌, ◌≢◌, ℕ, ◌<◌, ◌==◌, List, [], ◌∷◌, ◌++◌}
+-- Which bytes are the text of a report that is proved for a session, and for what others are rejected.
+use Rattle.std.specs.Prelude.{◌≡◌, ◌≢◌, ℕ, ◌+◌, ◌<◌, ◌==◌, true, false, min, List, [], ◌∷◌, ◌++◌, length, drop, Some, None, Ok, Err}
 use Rattle.std.specs.List.{AllByRecursion, sum_by, filter, fold}
+use Rattle.std.specs.Str.{IsUtf8}
+use Rattle.ror_text.specs.Cursor.{cursor_at}
+use Rattle.ror_text.specs.FirstFault.{IsFirst}
+use Rattle.ror_text.specs.Lines.{line_of}
 use Rattle.ror_table.specs.Table.{DecisionTable}
 use Rattle.ror_session.specs.declared.session.Line.{Line}
 use Rattle.ror_report.specs.declared.block.Block.{Block}
-use Rattle.ror_report.specs.Text.{report_text, IsPrintableBlock}
+use Rattle.ror_report.specs.declared.read.ReportFault.{ReportFault}
+use Rattle.ror_report.specs.declared.read.ReportFault.TheVariants as forms
+use Rattle.ror_report.specs.Reading.{begins_end, block_at, end_at, header_at}
+use Rattle.ror_report.specs.Text.{report_text, answers_of, IsPrintableBlock}
 use Rattle.ror_check.specs.declared.fault.CheckFault.TheVariants as checks
-use Rattle.ror_bench.specs.declared.report.Reason.{Reason}
-use Rattle.ror_bench.specs.declared.report.Reason.TheVariants as reasons
-use Rattle.ror_bench.specs.declared.report.ReportError.{ReportError}
-use Rattle.ror_bench.specs.declared.report.ReportError.TheVariants as errors
 use Rattle.ror_history.specs.History.{Revisions, statements_of}
 use Rattle.ror_bench.specs.Bench.{Workbench, revisions_at}
-use Rattle.ror_bench.specs.Blocks.{IsProvedBlock, answer_count, AreTrue, revisions_with}
+use Rattle.ror_bench.specs.Blocks.{IsProvedBlock, passed_of, AreTrue, revisions_with}
+use Rattle.ror_bench.specs.Faults.{FailsBlock, IsEarlierBlockFault}
+use Rattle.ror_bench.specs.declared.bench.BlockFault.{BlockFault}
+use Rattle.ror_bench.specs.declared.bench.BlockFault.TheVariants as blocks
+use Rattle.ror_bench.specs.declared.report.Accepted.{Accepted}
+use Rattle.ror_bench.specs.declared.report.Reason.{Reason}
+use Rattle.ror_bench.specs.declared.report.Reason.TheVariants as reasons
+use Rattle.ror_bench.specs.declared.report.Rejection.{Rejection}
+use Rattle.ror_bench.specs.declared.report.ReportError.{ReportError}
+use Rattle.ror_bench.specs.declared.report.ReportError.TheVariants as errors
 
 abbrev pub NamesADesk : ℕ → Line → Type 0
 NamesADesk desks line = line.desk < desks
@@ -39,26 +51,117 @@ EachHolds P bench before (line ∷ lines) (block ∷ blocks) =
     × EachHolds P bench (before ++ (line, block) ∷ []) lines blocks
 EachHolds P bench before _ _ = ⊥
 
--- the bytes are the text of a report that is proved for the session's lines, with so many answers
+-- how many answers of a report have a proof, and how many are too wide
+abbrev pub accepted_of : List Block → Accepted
+accepted_of blocks = record {
+  answers = sum_by (λ b. (passed_of (answers_of b.body)).answers) blocks;
+  wide = sum_by (λ b. (passed_of (answers_of b.body)).wide) blocks;
+}
+
+-- the bytes are the text of a report that is proved for the session's lines, but for so many answers that are too wide
 pub record IsProvedReport (bench : Workbench) (lines : List Line) (bytes : List ℕ)
-    (answers : ℕ) : Type 0 where
+    (accepted : Accepted) : Type 0 where
   pub blocks : List Block
   pub text : bytes ≡ report_text bench.table blocks
   pub printable : AllByRecursion (IsPrintableBlock bench.table) blocks
   pub proved : EachHolds (IsProvedBlock bench.table) bench [] lines blocks
-  pub counted : answers ≡ sum_by answer_count blocks
+  pub counted : accepted ≡ accepted_of blocks
 
--- each answer of each block is true of what stands at its line's desk then
+-- each answer of each block that isn't too wide is true of what stands at its line's desk then
 abbrev pub AreTrueBlocks : Workbench → List Line → List Block → Type 0
 AreTrueBlocks bench lines blocks =
     EachHolds (λ r line block. AreTrue bench.table (statements_of r) block) bench [] lines blocks
 
--- the bytes are the text of a report that is proved for the session's lines, with so many answers, and the answers of its
--- blocks are true of all compatible value functions
+-- the bytes are the text of a report that is proved for the session's lines, and the answers of its blocks are true of
+-- all compatible value functions
 pub record IsAcceptedReport (bench : Workbench) (lines : List Line) (bytes : List ℕ)
-    (answers : ℕ) : Type 0 where
-  pub proved : IsProvedReport bench lines bytes answers
+    (accepted : Accepted) : Type 0 where
+  pub proved : IsProvedReport bench lines bytes accepted
   pub answers_true : AreTrueBlocks bench lines proved.blocks
+
+-- ---- for what a report is rejected
+
+-- the line of a fault within the bytes, or the one that their end is in
+abbrev pub misread_reason : List ℕ → ReportFault → Reason
+misread_reason bytes (forms.BadLine place) =
+    reasons.BadLine (line_of bytes (min place (length bytes)))
+misread_reason bytes (forms.BadNumber place) =
+    reasons.BadNumber (line_of bytes (min place (length bytes)))
+misread_reason bytes forms.Memory = reasons.WrongBlock
+
+abbrev pub block_reason : BlockFault → Reason
+block_reason blocks.WrongBlock = reasons.WrongBlock
+block_reason (blocks.Answer k fault) = reasons.Answer k fault
+block_reason blocks.Memory = reasons.WrongBlock
+
+-- The text from a place on is rejected as the block of a line, over what its desk holds: by its form, as a last line where
+-- a block is due, or for the first fault of the block.
+pub data RejectsNext (t : DecisionTable) (r : Revisions) (line : Line) (bytes : List ℕ) (from : ℕ)
+    (reason : Reason) : Type 0 where
+  end_misread : (fault : ReportFault) → begins_end (drop from bytes) ≡ true
+      → end_at (cursor_at bytes from) ≡ Err fault → reason ≡ misread_reason bytes fault
+      → RejectsNext t r line bytes from reason
+  ends_early : (n : ℕ) → begins_end (drop from bytes) ≡ true
+      → end_at (cursor_at bytes from) ≡ Ok n → reason ≡ reasons.WrongBlock
+      → RejectsNext t r line bytes from reason
+  block_misread : (fault : ReportFault) → begins_end (drop from bytes) ≡ false
+      → block_at t (cursor_at bytes from) ≡ Err fault → reason ≡ misread_reason bytes fault
+      → RejectsNext t r line bytes from reason
+  refused : (b : Block) (after : ℕ) (fault : BlockFault) → begins_end (drop from bytes) ≡ false
+      → block_at t (cursor_at bytes from) ≡ Ok (b, cursor_at bytes after)
+      → IsFirst (FailsBlock t r line b) IsEarlierBlockFault fault → reason ≡ block_reason fault
+      → RejectsNext t r line bytes from reason
+
+-- The text from a place on is rejected as the last line after so many blocks: by its form, as a block too many, or for its
+-- number.
+pub data RejectsEnd (t : DecisionTable) (bytes : List ℕ) (from count : ℕ)
+    (reason : Reason) : Type 0 where
+  end_misread : (fault : ReportFault) → begins_end (drop from bytes) ≡ true
+      → end_at (cursor_at bytes from) ≡ Err fault → reason ≡ misread_reason bytes fault
+      → RejectsEnd t bytes from count reason
+  miscounted : (n : ℕ) → begins_end (drop from bytes) ≡ true
+      → end_at (cursor_at bytes from) ≡ Ok n → n ≢ count → reason ≡ reasons.WrongBlock
+      → RejectsEnd t bytes from count reason
+  block_misread : (fault : ReportFault) → begins_end (drop from bytes) ≡ false
+      → block_at t (cursor_at bytes from) ≡ Err fault → reason ≡ misread_reason bytes fault
+      → RejectsEnd t bytes from count reason
+  one_too_many : (b : Block) (after : ℕ) → begins_end (drop from bytes) ≡ false
+      → block_at t (cursor_at bytes from) ≡ Ok (b, cursor_at bytes after)
+      → reason ≡ reasons.WrongBlock → RejectsEnd t bytes from count reason
+
+-- the reason of the first block at fault, counted from 1, or of the last line, after the blocks before the place
+pub data IsRejectedFrom (bench : Workbench) (bytes : List ℕ)
+    (rejection : Rejection) : List (Line × Block) → List Line → ℕ → Type 0 where
+  at_line : (before : List (Line × Block)) (line : Line) (lines : List Line) (from : ℕ)
+      → rejection.block ≡ 1 + length before
+      → RejectsNext bench.table (revisions_then bench before line.desk) line bytes from rejection.reason
+      → IsRejectedFrom bench bytes rejection before (line ∷ lines) from
+  at_end : (before : List (Line × Block)) (from : ℕ) → rejection.block ≡ 1 + length before
+      → RejectsEnd bench.table bytes from (length before) rejection.reason
+      → IsRejectedFrom bench bytes rejection before [] from
+  later : (before : List (Line × Block)) (line : Line) (lines : List Line) (from : ℕ) (b : Block)
+      (after : ℕ) → begins_end (drop from bytes) ≡ false
+      → block_at bench.table (cursor_at bytes from) ≡ Ok (b, cursor_at bytes after)
+      → IsProvedBlock bench.table (revisions_then bench before line.desk) line b
+      → IsRejectedFrom bench bytes rejection (before ++ (line, b) ∷ []) lines after
+      → IsRejectedFrom bench bytes rejection before (line ∷ lines) from
+
+-- why the bytes are no report that is proved: what is at fault first, in no block or in the first faulty one
+pub data IsRejectedFor (bench : Workbench) (lines : List Line) (bytes : List ℕ)
+    (rejection : Rejection) : Type 0 where
+  not_utf8 : ¬ (IsUtf8 bytes) → rejection ≡ record { block = 0; reason = reasons.NotUtf8 }
+      → IsRejectedFor bench lines bytes rejection
+  no_header : IsUtf8 bytes → header_at bytes ≡ None
+      → rejection ≡ record { block = 0; reason = reasons.BadLine 1 }
+      → IsRejectedFor bench lines bytes rejection
+  in_blocks : IsUtf8 bytes → (start : ℕ) → header_at bytes ≡ Some start
+      → IsRejectedFrom bench bytes rejection [] lines start
+      → IsRejectedFor bench lines bytes rejection
+
+-- what is said of the rejection of an error, if it is one
+abbrev pub IfRejected : (Rejection → Type 0) → ReportError → Type 0
+IfRejected P (errors.Rejected rejection) = P rejection
+IfRejected P errors.Memory = Unit {0}
 
 -- want of memory is an answer of its own, and stands inside no reason
 abbrev pub IsFreeOfMemory : Reason → Type 0
@@ -66,5 +169,4 @@ IsFreeOfMemory (reasons.Answer k fault) = fault ≢ checks.Memory
 IsFreeOfMemory _ = Unit {0}
 
 abbrev pub HoldsNoMemory : ReportError → Type 0
-HoldsNoMemory (errors.Rejected rejection) = IsFreeOfMemory rejection.reason
-HoldsNoMemory _ = Unit {0}
+HoldsNoMemory e = IfRejected (λ rejection. IsFreeOfMemory rejection.reason) e

@@ -2,13 +2,15 @@
 #![tactic(auto)]
 
 mod bench;
+mod desk;
 pub mod laws;
 mod names;
 mod report;
+mod stop;
 
 pub use bench::{Bench, BlockFault, Passed};
-pub use names::{question_of, statement_of};
-pub use report::{MOST_REPORT_BYTES, Reason, Rejection, ReportError, check_report};
+pub use names::{MOST_RELATED, statement_of};
+pub use report::{Accepted, MOST_REPORT_BYTES, Reason, Rejection, ReportError, check_report};
 
 #[cfg(test)]
 mod tests;

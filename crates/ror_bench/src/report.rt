@@ -1,16 +1,16 @@
 //! The check of a report, block by block.
 
-ghost use Rattle.std.specs.Prelude.{◌≡◌, ◌≢◌, ◌<◌, ◌≤◌, ◌+◌, ◌-◌, min, ℕ, drop, length, IfOk, IfErr, OnOk, OnErr};
+ghost use Rattle.std.specs.Prelude.{◌≡◌, ◌≢◌, ℕ, ◌<◌, ◌≤◌, ◌-◌, [], min, true, false, drop, Some, length, IfOk, IfErr, OnOk};
 ghost use Rattle.std.specs.List.{AllByRecursion};
 ghost use Rattle.ror_text.specs.Lines.{line_of};
 ghost use Rattle.ror_table.specs.Table.{IsTable};
 ghost use Rattle.ror_report.specs.Text.{end_text};
-ghost use Rattle.ror_bench.specs.Bench.{Workbench};
-ghost use Rattle.ror_bench.specs.Reports.{IsProvedReport, IsAcceptedReport, NamesADesk, HoldsNoMemory};
-ghost use Rattle.ror_bench.specs.Steps.{IsNextBlock, BeginsProved};
-ghost use Rattle.ror_bench.specs.Steps.{misread_error, refused_block_error, wrong_block_error};
+ghost use Rattle.ror_report.specs.Reading.{header_at};
+ghost use Rattle.ror_bench.specs.Bench.{revisions_at, LeavesNumbers};
+ghost use Rattle.ror_bench.specs.Reports.{IsProvedReport, IsAcceptedReport, IsRejectedFor, IsRejectedFrom, RejectsNext, RejectsEnd, IfRejected, NamesADesk, HoldsNoMemory};
+ghost use Rattle.ror_bench.specs.Steps.{IsEarlyEnd, IsLateBlock, IsNextBlock, misread_error, refused_block_error, rejected};
 
-use crate::bench::{Bench, BlockFault};
+use crate::bench::{Bench, BlockFault, Passed};
 use ror_check::CheckFault;
 use ror_report::{ReportFault, begins_end, read_block, read_end, read_header};
 use ror_session::Line;
@@ -54,9 +54,19 @@ pub enum ReportError {
     Memory,
 }
 
-/// Checks a report against the session's lines, block by block, each over what the blocks before it left at its desk, and
-/// gives the number of its answers. The report has at most `MOST_REPORT_BYTES`. What is accepted is the text of a proved
-/// report, and its answers are true of all compatible value functions.
+/// What an accepted report holds.
+#[derive(Clone, Copy, Debug, PartialEq, Eq)]
+pub struct Accepted {
+    /// How many answers were accepted.
+    pub answers: u64,
+    /// How many are too wide, and were not looked at.
+    pub wide: u64,
+}
+
+/// Checks a report against the session's lines, block by block, each over what the blocks before it left at its desk. The
+/// report has at most `MOST_REPORT_BYTES`, and each desk of the bench a number for each line. What is accepted is the text
+/// of a report that is proved but for its answers that are too wide, and all others are true of all compatible value
+/// functions.
 ///
 /// # Errors
 ///
@@ -67,12 +77,14 @@ pub fn check_report(
     bench: Bench,
     lines: &[Line],
     bytes: &[u8],
-) -> Result<u64, ReportError>
+) -> Result<Accepted, ReportError>
     requires desks { AllByRecursion (NamesADesk (length bench.state)) lines.now }
+    requires numbers { AllByRecursion (LeavesNumbers (length lines.now)) bench.state }
     requires length { length bytes.now ≤ MOST_REPORT_BYTES }
     ensures accepted { IfOk result (IsAcceptedReport bench lines.now bytes.now) }
+    ensures rejected { IfErr result (IfRejected (IsRejectedFor bench lines.now bytes.now)) }
     ensures not_proved { IfErr result (λ e. e ≢ ReportError.Memory
-        → (n : ℕ) → IsProvedReport bench lines.now bytes.now n → ⊥) }
+        → (x : Accepted) → IsProvedReport bench lines.now bytes.now x → ⊥) }
     ensures pure { IfErr result HoldsNoMemory }
 {
     // What is read back is what was written only over a table, and each table has alternatives.
@@ -83,43 +95,50 @@ pub fn check_report(
             reason: Reason::NotUtf8,
         }));
     }
-    check_blocks(alloc, bench, lines, bytes)
-}
-
-/// Checks the blocks of a report, whatever its bytes are.
-fn check_blocks(
-    alloc: Global,
-    bench: Bench,
-    lines: &[Line],
-    bytes: &[u8],
-) -> Result<u64, ReportError>
-    requires desks { AllByRecursion (NamesADesk (length bench.state)) lines.now }
-    requires length { length bytes.now ≤ MOST_REPORT_BYTES }
-    ensures accepted { IfOk result (IsProvedReport bench lines.now bytes.now) }
-    ensures not_proved { IfErr result (λ e. e ≢ ReportError.Memory
-        → (n : ℕ) → IsProvedReport bench lines.now bytes.now n → ⊥) }
-    ensures pure { IfErr result HoldsNoMemory }
-{
     let Some(start) = read_header(bytes) else {
         return Err(ReportError::Rejected(Rejection {
             block: 0,
             reason: Reason::BadLine(1),
         }));
     };
+    check_blocks(alloc, bench, lines, bytes, start)
+}
+
+/// Checks the blocks of a report, which begin at a place, and its last line.
+fn check_blocks(
+    alloc: Global,
+    bench: Bench,
+    lines: &[Line],
+    bytes: &[u8],
+    start: usize,
+) -> Result<Accepted, ReportError>
+    requires desks { AllByRecursion (NamesADesk (length bench.state)) lines.now }
+    requires numbers { AllByRecursion (LeavesNumbers (length lines.now)) bench.state }
+    requires length { length bytes.now ≤ MOST_REPORT_BYTES }
+    requires header { header_at bytes.now ≡ Some start }
+    ensures accepted { IfOk result (IsProvedReport bench lines.now bytes.now) }
+    ensures rejected { IfErr result (IfRejected
+        (λ rejection. IsRejectedFrom bench bytes.now rejection [] lines.now start)) }
+    ensures pure { IfErr result HoldsNoMemory }
+{
     // What is read back is what was written only over a table, and each table has alternatives.
     prove!(bench.table().alternatives() > 0);
     let mut bench = bench;
     let mut next = start;
-    let mut answers: u64 = 0;
+    let mut accepted = Accepted {
+        answers: 0,
+        wide: 0,
+    };
     let mut block: u32 = 1;
     for line in lines {
         let (passed, after) = check_next(alloc, &mut bench, line, bytes, next, block)?;
-        answers += passed as u64;
+        accepted.answers += passed.answers as u64;
+        accepted.wide += passed.wide as u64;
         next = after;
         block += 1;
     }
     check_end(alloc, bench.table(), bytes, next, block)?;
-    Ok(answers)
+    Ok(accepted)
 }
 
 /// Reads the block that stands at a place and checks it for a line: how many answers it has, and where it ends.
@@ -130,26 +149,28 @@ fn check_next(
     bytes: &[u8],
     from: usize,
     block: u32,
-) -> Result<(u32, usize), ReportError>
+) -> Result<(Passed, usize), ReportError>
     requires table { IsTable bench.old.table }
     requires desk { NamesADesk (length bench.old.state) line.now }
+    requires number { LeavesNumbers 1 (revisions_at bench.old line.now.desk) }
     requires within { from ≤ length bytes.now }
     requires length { length bytes.now ≤ MOST_REPORT_BYTES }
     ensures next { IfOk result
         (λ x. IsNextBlock bench.old bench.new line.now bytes.now from x.0 x.1) }
     ensures onward { IfOk result (λ x. from < x.1) }
     ensures within { IfOk result (λ x. x.1 ≤ length bytes.now) }
-    ensures none { IfErr result (λ e. e ≢ ReportError.Memory
-        → BeginsProved bench.old line.now (drop from bytes.now) → ⊥) }
+    ensures rejected { IfErr result (IfRejected (λ rejection. (rejection.block ≡ block)
+        × RejectsNext bench.old.table (revisions_at bench.old line.now.desk) line.now bytes.now from
+        rejection.reason)) }
     ensures pure { IfErr result HoldsNoMemory }
     ensures kept { IfErr result (λ _. bench.new ≡ bench.old) }
 {
     if begins_end(bytes, from) {
-        return Err(early_end(alloc, bytes, from, block));
+        return Err(early_end(bytes, from, block));
     }
     match read_block(alloc, bench.table(), bytes, from) {
         Ok((found, after)) => match bench.check_line(line, &found) {
-            Ok(passed) => Ok((passed.answers, after)),
+            Ok(passed) => Ok((passed, after)),
             Err(fault) => Err(refused_block(block, fault)),
         },
         Err(fault) => Err(misread(bytes, block, fault)),
@@ -168,14 +189,14 @@ fn check_end(
     requires length { length bytes.now ≤ MOST_REPORT_BYTES }
     requires block { 0 < block }
     ensures last { OnOk result (drop from bytes.now ≡ end_text (block - 1)) }
-    ensures not_last { IfErr result (λ e. e ≢ ReportError.Memory
-        → drop from bytes.now ≡ end_text (block - 1) → ⊥) }
+    ensures rejected { IfErr result (IfRejected (λ rejection. (rejection.block ≡ block)
+        × RejectsEnd table.now bytes.now from (block - 1) rejection.reason)) }
     ensures pure { IfErr result HoldsNoMemory }
 {
     if !begins_end(bytes, from) {
         return Err(late_block(alloc, table, bytes, from, block));
     }
-    match read_end(alloc, bytes, from) {
+    match read_end(bytes, from) {
         Ok(blocks) if blocks == block - 1 => Ok(()),
         Ok(_) => Err(wrong_block(block)),
         Err(fault) => Err(misread(bytes, block, fault)),
@@ -183,12 +204,14 @@ fn check_end(
 }
 
 /// Why a last line that stands where a block is due is refused: its own faults come first.
-fn early_end(alloc: Global, bytes: &[u8], from: usize, block: u32) -> ReportError
+fn early_end(bytes: &[u8], from: usize, block: u32) -> ReportError
     requires within { from ≤ length bytes.now }
     requires length { length bytes.now ≤ MOST_REPORT_BYTES }
-    ensures { HoldsNoMemory result }
+    ensures rejected { IfRejected (λ rejection. (rejection.block ≡ block)
+        × IsEarlyEnd bytes.now from rejection.reason) result }
+    ensures pure { HoldsNoMemory result }
 {
-    match read_end(alloc, bytes, from) {
+    match read_end(bytes, from) {
         Ok(_) => wrong_block(block),
         Err(fault) => misread(bytes, block, fault),
     }
@@ -198,7 +221,9 @@ fn early_end(alloc: Global, bytes: &[u8], from: usize, block: u32) -> ReportErro
 fn late_block(alloc: Global, table: &Table, bytes: &[u8], from: usize, block: u32) -> ReportError
     requires within { from ≤ length bytes.now }
     requires length { length bytes.now ≤ MOST_REPORT_BYTES }
-    ensures { HoldsNoMemory result }
+    ensures rejected { IfRejected (λ rejection. (rejection.block ≡ block)
+        × IsLateBlock table.now bytes.now from rejection.reason) result }
+    ensures pure { HoldsNoMemory result }
 {
     match read_block(alloc, table, bytes, from) {
         Ok(_) => wrong_block(block),
@@ -207,7 +232,7 @@ fn late_block(alloc: Global, table: &Table, bytes: &[u8], from: usize, block: u3
 }
 
 fn wrong_block(block: u32) -> ReportError
-    ensures { result ≡ wrong_block_error block }
+    ensures { result ≡ rejected block Reason.WrongBlock }
 {
     ReportError::Rejected(Rejection {
         block,

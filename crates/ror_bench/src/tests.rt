@@ -1,10 +1,15 @@
 //! Tests of the crate's public calls.
 
+ghost use Rattle.std.specs.Prelude.{◌≡◌, ◌<◌, [], length, replicate, IfSome};
+ghost use Rattle.ror_session.specs.Sound.{IsSound};
+
 use crate::{
-    Bench, MOST_REPORT_BYTES, Reason, ReportError, check_report, question_of, statement_of,
+    Accepted, Bench, MOST_REPORT_BYTES, Passed, Reason, ReportError, check_report, statement_of,
 };
-use ror_session::{Command, read_session};
-use ror_statement::{Question, Statement};
+use ror_pivot::Bits;
+use ror_report::{Block, Body, LineFault};
+use ror_session::{Command, Line, Session, read_session};
+use ror_statement::Statement;
 use ror_table::read_plain;
 use ror_text::Items;
 use ror_value::Input;
@@ -14,26 +19,28 @@ use std::test::Fail;
 const TABLE: &[u8] =
     b"ror-table 1\ncriterion q max\ncriterion p min\nalternative a 3 10\nalternative b 2 8\nalternative c 1 12\n";
 
-const SESSION: &[u8] = b"prefer a b\nask necessary a b\n";
+/// The bench of the session over the table, at whose desks no statement stands.
+fn bench_for(alloc: Global, session: &Session) -> Option<Bench>
+    ensures { IfSome result (λ bench. bench.state
+        ≡ replicate (length session.now.desks) (record { opening = []; surviving = [] })) }
+{
+    let table = read_plain(alloc, TABLE).ok()?;
+    let opening = Items::from(Vec::new(alloc));
+    if session.desks.len() > 64 {
+        return None;
+    }
+    Bench::new(alloc, Input { table, opening }, session.desks.len() as u32).ok()
+}
 
-/// How many answers of a report on the session are accepted, or the block that is none of the session's next line.
-fn outcome_of(alloc: Global, report: &[u8]) -> Option<Result<u64, u32>> {
+/// What is accepted of a report on the session, or the block at fault.
+fn outcome_of(alloc: Global, session: &[u8], report: &[u8]) -> Option<Result<Accepted, u32>> {
     if report.len() > MOST_REPORT_BYTES {
         return None;
     }
-    let Ok(table) = read_plain(alloc, TABLE) else {
-        return None;
-    };
-    let Ok(session) = read_session(alloc, SESSION) else {
-        return None;
-    };
-    let opening = Items::from(Vec::new(alloc));
-    let input = Input { table, opening };
-    let Ok(bench) = Bench::new(alloc, input, session.desks.len() as u32) else {
-        return None;
-    };
+    let session = read_session(alloc, session).ok()?;
+    let bench = bench_for(alloc, &session)?;
     match check_report(alloc, bench, session.lines.as_slice(), report) {
-        Ok(answers) => Some(Ok(answers)),
+        Ok(accepted) => Some(Ok(accepted)),
         Err(ReportError::Rejected(rejection)) => match rejection.reason {
             Reason::WrongBlock => Some(Err(rejection.block)),
             _ => None,
@@ -45,14 +52,68 @@ fn outcome_of(alloc: Global, report: &[u8]) -> Option<Result<u64, u32>> {
 // With a preferred to b the strict rows are (1, 1, 1, 1), (0, 1, 0, -1), and for the question (0, -1, 0, 1).
 #[test]
 fn a_statement_stands_after_its_block(rt: HostRuntime) -> Result<(), Fail> {
+    let session = b"prefer a b\nask necessary a b\n".as_slice();
     let proved =
         b"ror-report 1\nline 1\nadded 1\nline 2\nanswer necessary a b yes\nbase solution 0 1 0 0\npart 1 multipliers | 0 1 1\nend 2\n";
-    assert_eq!(rt; outcome_of(rt.alloc(), proved.as_slice()), Some(Ok(1)));
+    let one = Accepted {
+        answers: 1,
+        wide: 0,
+    };
+    assert_eq!(rt;
+        outcome_of(rt.alloc(), session, proved.as_slice()),
+        Some(Ok(one))
+    );
     let misnumbered = b"ror-report 1\nline 1\nadded 2\nend 1\n";
     assert_eq!(rt;
-        outcome_of(rt.alloc(), misnumbered.as_slice()),
+        outcome_of(rt.alloc(), session, misnumbered.as_slice()),
         Some(Err(1))
     );
+    Ok(())
+}
+
+/// The session of a text.
+fn session_of(alloc: Global, text: &[u8]) -> Option<Session>
+    ensures { IfSome result IsSound }
+{
+    read_session(alloc, text).ok()
+}
+
+/// Its first line, which is for one of its desks.
+fn first_line(session: &Session) -> Option<&Line>
+    requires { IsSound session.now }
+    ensures { IfSome result (λ line. line.now.desk < length session.now.desks) }
+{
+    session.lines.as_slice().first()
+}
+
+/// The block of the first line of a session, and what is counted where another bench checks it.
+fn first_block(alloc: Global, text: &[u8]) -> Option<(Block, Passed)> {
+    let session = session_of(alloc, text)?;
+    let line = first_line(&session)?;
+    let mut checks = bench_for(alloc, &session)?;
+    let mut bench = bench_for(alloc, &session)?;
+    let block = bench.step(line, Bits::B127).ok()?;
+    let passed = checks.check_line(line, &block).ok()?;
+    Some((block, passed))
+}
+
+#[test]
+fn a_line_is_done_and_its_block_accepted(rt: HostRuntime) -> Result<(), Fail> {
+    let none = Passed {
+        answers: 0,
+        wide: 0,
+    };
+    let (block, passed) = first_block(rt.alloc(), b"# a judge\n@x prefer a b\n").ok_or("added")?;
+    assert!(rt; block.line == 2 && matches!(&block.body, Body::Added(1)));
+    assert_eq!(rt; passed, none);
+    let (block, passed) = first_block(rt.alloc(), b"prefer a z\n").ok_or("refused")?;
+    assert!(rt; matches!(&block.body, Body::Refused(LineFault::UnknownAlternative)));
+    assert_eq!(rt; passed, none);
+    let (block, _) = first_block(rt.alloc(), b"undo\n").ok_or("refused")?;
+    assert!(rt; matches!(&block.body, Body::Refused(LineFault::NothingToUndo)));
+    let (block, passed) = first_block(rt.alloc(), b"ask possible b c\n").ok_or("answered")?;
+    assert!(rt; matches!(&block.body, Body::Answers(answers) if answers.len() == 1));
+    assert_eq!(rt; passed.answers, 1);
     Ok(())
 }
 
@@ -61,18 +122,23 @@ fn names_are_those_of_the_table(rt: HostRuntime) -> Result<(), Fail> {
     let table = read_plain(rt.alloc(), TABLE)
         .ok()
         .ok_or("the text is a table")?;
-    let session = read_session(rt.alloc(), b"prefer c b\nprefer a d\nask necessary b a\n")
+    let session = read_session(rt.alloc(), b"prefer c b\nprefer a d\nequal a b b c on r\n")
         .ok()
         .ok_or("the text is a session")?;
     let mut stated = Vec::new(rt.alloc());
-    let mut asked = Vec::new(rt.alloc());
     for line in session.lines.as_slice() {
-        match &line.command {
-            Command::State(named) => stated.push(statement_of(&table, named))?,
-            Command::Ask(names) => asked.push(question_of(&table, names))?,
+        if let Command::State(named) = &line.command {
+            stated.push(statement_of(&table, named))?;
         }
     }
-    assert!(rt; stated.as_slice() == [Some(Statement::Prefer(2, 1)), None].as_slice());
-    assert!(rt; asked.as_slice() == [Some(Question::Necessary(1, 0))].as_slice());
+    assert!(rt;
+        stated.as_slice()
+            == [
+                Ok(Statement::Prefer(2, 1)),
+                Err(LineFault::UnknownAlternative),
+                Err(LineFault::UnknownCriterion),
+            ]
+            .as_slice()
+    );
     Ok(())
 }

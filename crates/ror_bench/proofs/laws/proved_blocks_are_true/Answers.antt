@@ -1,5 +1,5 @@
-use Rattle.ror_bench.proofs.Truth.{block_true}
+use Rattle.ror_bench.proofs.Truth.{blocks_true}
 use Rattle.ror_bench.proofs.laws.proved_blocks_are_true.Goals as goal
 
 pub returns : goal.returns
-returns c = block_true
+returns c = blocks_true

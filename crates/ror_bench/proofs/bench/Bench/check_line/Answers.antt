@@ -1,21 +1,58 @@
-use Rattle.std.proofs.Common.{rules, ◌≡◌}
+use Rattle.std.proofs.Common.{rules, ◌<◌, length, map}
+use Rattle.std.specs.Prelude.{OnOk, IfErr}
+use Rattle.ror_text.specs.FirstFault.{IsRefusedBy}
+use Rattle.ror_history.specs.History.{statements_of}
+use Rattle.ror_bench.specs.declared.bench.BlockFault.TheVariants as faults
+use Rattle.ror_bench.specs.Blocks.{IsProvedUnlessWide, IsProvedBlock, AreTrue}
+use Rattle.ror_bench.specs.Faults.{FailsBlock, IsEarlierBlockFault}
 use Rattle.ror_bench.specs.Bench.{revisions_at}
-use Rattle.ror_bench.proofs.Asked.{asked_proved, asked_true, asked_refused, none_asked}
+use Rattle.ror_bench.proofs.AnswerLemmas.{checked_proved, checked_true, checked_refused, none_proved}
+use Rattle.ror_bench.proofs.DeskLemmas.{at_bench, kept_at, checked_moves, checked_keeps, checked_lawful}
+use Rattle.ror_bench.proofs.LawfulLemmas.{lawful_now}
 use Rattle.ror_bench.proofs.bench.Bench.check_line.Goals as goal
 
-pub returns-in-Ask-Answers-clause-accepted : goal.returns-in-Ask-Answers-clause-accepted
-returns-in-Ask-Answers-clause-accepted c =
-    let number : c.args.block.now.line ≡ c.args.line.now.number = search rules in
-    asked_proved c.args.self.now.table (revisions_at c.args.self.now c.args.line.now.desk) c.args.line.now c.args.block.now c.in-Ask-Answers.asked c.in-Ask-Answers.answers c.as_slice.result.now c.check_asked.result number (search rules) (search rules) c.as_slice.ensures c.check_asked.ensures.asked c.check_asked.ensures.proved
+pub invariant_of-self : goal.invariant_of-self
+invariant_of-self c =
+    let views = c.self.inside.desks.items in
+    let within : c.args.line.now.desk < length (map (λ h. h.state) views) = search rules in
+    checked_lawful c.self.inside.table views c.args.line.now c.args.block.now c.index_mut-history.result.now c.check.new.history c.args.self.now IsProvedUnlessWide c.check.result c.self.invariant within c.index_mut-history.ensures.value c.check.ensures.body c.check.ensures.moved c.check.ensures.kept
 
-pub returns-in-Ask-Answers-clause-true_answers : goal.returns-in-Ask-Answers-clause-true_answers
-returns-in-Ask-Answers-clause-true_answers c =
-    asked_true c.args.self.now.table (revisions_at c.args.self.now c.args.line.now.desk) c.args.line.now c.args.block.now c.check_asked.result c.check_asked.ensures.lawful (returns-in-Ask-Answers-clause-accepted c)
+pub returns-clause-accepted : goal.returns-clause-accepted
+returns-clause-accepted c =
+    let t = c.self.inside.table in
+    let views = c.self.inside.desks.items in
+    let old = c.index_mut-history.result.now in
+    let within : c.args.line.now.desk < length (map (λ h. h.state) views) = search rules in
+    at_bench (λ t r. OnOk c.check.result (IsProvedBlock t r c.args.line.now c.args.block.now)) t views c.args.line.now.desk old c.args.self.now within c.index_mut-history.ensures.value c.self.view_is
+    (checked_proved t old.state c.args.line.now c.args.block.now c.check.result c.if-block-line.false c.check.ensures.body)
 
-pub returns-in-Ask-Answers-clause-refused : goal.returns-in-Ask-Answers-clause-refused
-returns-in-Ask-Answers-clause-refused c =
-    let number : c.args.block.now.line ≡ c.args.line.now.number = search rules in
-    asked_refused c.args.self.now.table (revisions_at c.args.self.now c.args.line.now.desk) c.args.line.now c.args.block.now c.in-Ask-Answers.asked c.in-Ask-Answers.answers c.as_slice.result.now c.check_asked.result number (search rules) (search rules) c.as_slice.ensures c.check_asked.ensures.refused
+pub returns-clause-true_answers : goal.returns-clause-true_answers
+returns-clause-true_answers c =
+    let t = c.self.inside.table in
+    let views = c.self.inside.desks.items in
+    let old = c.index_mut-history.result.now in
+    let within : c.args.line.now.desk < length (map (λ h. h.state) views) = search rules in
+    at_bench (λ t r. OnOk c.check.result (AreTrue t (statements_of r) c.args.block.now)) t views c.args.line.now.desk old c.args.self.now within c.index_mut-history.ensures.value c.self.view_is
+    (checked_true t old.state c.args.line.now c.args.block.now c.check.result (lawful_now t old.state (kept_at t views c.args.line.now.desk old c.self.invariant within c.index_mut-history.ensures.value))
+    (checked_proved t old.state c.args.line.now c.args.block.now c.check.result c.if-block-line.false c.check.ensures.body))
 
-pub returns-in-Ask-Answers-clause-not_proved : goal.returns-in-Ask-Answers-clause-not_proved
-returns-in-Ask-Answers-clause-not_proved c = none_asked c.args.self.now.table (revisions_at c.args.self.now c.args.line.now.desk) c.args.line.now c.args.block.now c.check_asked.result (returns-in-Ask-Answers-clause-refused c)
+pub returns-clause-refused : goal.returns-clause-refused
+returns-clause-refused c =
+    let t = c.self.inside.table in
+    let views = c.self.inside.desks.items in
+    let old = c.index_mut-history.result.now in
+    let within : c.args.line.now.desk < length (map (λ h. h.state) views) = search rules in
+    at_bench (λ t r. IfErr c.check.result (IsRefusedBy (FailsBlock t r c.args.line.now c.args.block.now) IsEarlierBlockFault faults.Memory)) t views c.args.line.now.desk old c.args.self.now within c.index_mut-history.ensures.value c.self.view_is
+    (checked_refused t old.state c.args.line.now c.args.block.now c.check.result c.if-block-line.false c.check.ensures.refused)
+
+pub returns-clause-not_proved : goal.returns-clause-not_proved
+returns-clause-not_proved c = none_proved c.args.self.now.table (revisions_at c.args.self.now c.args.line.now.desk) c.args.line.now c.args.block.now c.check.result (returns-clause-refused c)
+
+pub returns-clause-moved : goal.returns-clause-moved
+returns-clause-moved c =
+    let views = c.self.inside.desks.items in
+    let within : c.args.line.now.desk < length (map (λ h. h.state) views) = search rules in
+    checked_moves c.self.inside.table views c.args.line.now c.args.block.now c.index_mut-history.result.now c.check.new.history c.args.self.now c.check.result within c.index_mut-history.ensures.value c.self.view_is c.check.ensures.moved
+
+pub returns-clause-kept : goal.returns-clause-kept
+returns-clause-kept c = checked_keeps c.self.inside.table c.self.inside.desks.items c.args.line.now c.args.block.now c.index_mut-history.result.now c.check.new.history c.args.self.now c.check.result c.index_mut-history.ensures.value c.self.view_is c.check.ensures.kept

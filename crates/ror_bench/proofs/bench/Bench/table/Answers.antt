@@ -1,6 +1,6 @@
 use Rattle.std.proofs.Common.{subst}
 use Rattle.ror_bench.specs.Bench.{IsLawfulBench}
-use Rattle.ror_bench.proofs.Standing.{lawful_states}
+use Rattle.ror_bench.proofs.DeskLemmas.{lawful_states}
 use Rattle.ror_bench.proofs.bench.Bench.table.Goals as goal
 
 pub returns-clause-lawful : goal.returns-clause-lawful

@@ -1,0 +1,399 @@
+//! What comes of a command at a desk: what it changes there, and whether a block says so.
+
+ghost use Rattle.std.specs.Prelude.{◌≡◌, ◌↔◌, ◌-◌, ◌^◌, ◌<◌, ◌≤◌, length, map, count_by, IsTrue, OnOk, IfOk, IfErr, Err};
+ghost use Rattle.std.specs.Bool.{beq};
+ghost use Rattle.std.specs.List.{AllByRecursion, AllZip};
+ghost use Rattle.ror_pivot.specs.Answers.{most_of};
+ghost use Rattle.ror_value.specs.Over.{IsAskedIn};
+ghost use Rattle.ror_check.specs.Proof.{is_wide};
+ghost use Rattle.ror_relation.specs.Answers.{IsGiven};
+ghost use Rattle.ror_history.specs.History.{next_number, statements_of};
+ghost use Rattle.ror_session.specs.declared.session.Command.TheVariants.{State, Withdraw, Replace, Undo, Ask};
+ghost use Rattle.ror_report.specs.Text.{answers_of};
+ghost use Rattle.ror_bench.specs.Bench.{IsLawfulThroughout};
+ghost use Rattle.ror_bench.specs.Names as names;
+ghost use Rattle.ror_bench.specs.Blocks.{AreAnswers, IsBodyOf, IsProvedUnlessWide, passed_of, revisions_with};
+ghost use Rattle.ror_bench.specs.Steps.{body_of, IsMade, IsOneMore, IsSaidOf, RefusesCommand, RefusesSaid, RefusesBody, RefusesAnswers, EndsWithRevision, IsTakenBack};
+
+use crate::bench::{BlockFault, Passed};
+use crate::names::{questions_of, statement_of};
+use crate::stop::LineStop;
+use ror_check::check_answers;
+use ror_history::History;
+use ror_pivot::Bits;
+use ror_proof::{Answer, Verdict};
+use ror_relation::decide_each;
+use ror_report::{Body, LineFault};
+use ror_session::{Asked, Command, Named};
+use ror_statement::{Numbered, Question, Statement};
+use ror_table::Table;
+use ror_text::Items;
+use std::alloc::{AllocError, Global};
+
+/// What a revision at a desk comes to.
+#[derive(Clone, Copy, Debug, PartialEq, Eq)]
+pub(crate) enum Made {
+    Added(u32),
+    Withdrawn(u32),
+    Replaced(u32),
+    Undone,
+}
+
+impl From<Made> for Body {
+    ghost from_gives = { λ made body. body ≡ body_of made };
+
+    fn from(made: Made) -> Body {
+        match made {
+            Made::Added(number) => Body::Added(number),
+            Made::Withdrawn(number) => Body::Withdrawn(number),
+            Made::Replaced(number) => Body::Replaced(number),
+            Made::Undone => Body::Undone,
+        }
+    }
+}
+
+/// Adds the statement of these names.
+fn add(table: &Table, history: &mut History, named: &Named) -> Result<Made, LineStop>
+    requires number { next_number history.old.state < 2 ^ 32 - 1 }
+    ensures made { IfOk result (λ made. IsMade table.now history.old.state (State named.now)
+        made history.new.state) }
+    ensures one_more { IfOk result (λ _. IsOneMore history.old.state history.new.state) }
+    ensures refused { IfErr result (RefusesCommand table.now history.old.state (State named.now)) }
+    ensures kept { IfErr result (λ _. history.new.state ≡ history.old.state) }
+{
+    let statement = statement_of(table, named)?;
+    let number = history.add(statement)?;
+    Ok(Made::Added(number))
+}
+
+/// Withdraws the statement with a number.
+fn withdraw(table: &Table, history: &mut History, number: u32) -> Result<Made, LineStop>
+    ensures made { IfOk result (λ made. IsMade table.now history.old.state (Withdraw number)
+        made history.new.state) }
+    ensures one_more { IfOk result (λ _. IsOneMore history.old.state history.new.state) }
+    ensures refused { IfErr result (RefusesCommand table.now history.old.state (Withdraw number)) }
+    ensures kept { IfErr result (λ _. history.new.state ≡ history.old.state) }
+{
+    history.withdraw(number)?;
+    Ok(Made::Withdrawn(number))
+}
+
+/// Puts the statement of these names in the place of the one with a number.
+fn replace(
+    table: &Table,
+    history: &mut History,
+    number: u32,
+    named: &Named,
+) -> Result<Made, LineStop>
+    ensures made { IfOk result (λ made. IsMade table.now history.old.state
+        (Replace number named.now) made history.new.state) }
+    ensures one_more { IfOk result (λ _. IsOneMore history.old.state history.new.state) }
+    ensures refused { IfErr result
+        (RefusesCommand table.now history.old.state (Replace number named.now)) }
+    ensures kept { IfErr result (λ _. history.new.state ≡ history.old.state) }
+{
+    let statement = statement_of(table, named)?;
+    history.replace(number, statement)?;
+    Ok(Made::Replaced(number))
+}
+
+/// Takes the last surviving revision back.
+fn undo(table: &Table, history: &mut History) -> Result<Made, LineStop>
+    ensures made { IfOk result (λ made. IsMade table.now history.old.state Undo
+        made history.new.state) }
+    ensures refused { IfErr result (RefusesCommand table.now history.old.state Undo) }
+    ensures kept { IfErr result (λ _. history.new.state ≡ history.old.state) }
+{
+    history.undo()?;
+    Ok(Made::Undone)
+}
+
+// ---- the block of a line
+
+/// Does the command at a desk, whose questions are decided at this width, and gives its body.
+pub(crate) fn perform(
+    alloc: Global,
+    table: &Table,
+    history: &mut History,
+    command: &Command,
+    bits: Bits,
+) -> Result<Body, AllocError>
+    requires number { next_number history.old.state < 2 ^ 32 - 1 }
+    requires lawful { IsLawfulThroughout table.now history.old.state }
+    ensures body { IfOk result (IsBodyOf (IsGiven (most_of bits)) table.now history.old.state
+        command.now) }
+    ensures moved { IfOk result (λ body. history.new.state
+        ≡ revisions_with table.now history.old.state command.now body) }
+    ensures kept { IfErr result (λ _. history.new.state ≡ history.old.state) }
+{
+    match command {
+        Command::State(named) => said(add(table, history, named)),
+        Command::Withdraw(number) => said(withdraw(table, history, *number)),
+        Command::Replace(number, named) => said(replace(table, history, *number, named)),
+        Command::Undo => said(undo(table, history)),
+        Command::Ask(asked) => match answers_to(alloc, table, history, asked, bits) {
+            Ok(answers) => Ok(Body::Answers(Items::from(answers))),
+            Err(LineStop::Refused(fault)) => Ok(Body::Refused(fault)),
+            Err(LineStop::Memory) => Err(AllocError),
+        },
+    }
+}
+
+/// The body of a revision that was made or refused.
+fn said(made: Result<Made, LineStop>) -> Result<Body, AllocError>
+    ensures body { IfOk result (IsSaidOf made) }
+    ensures memory { IfErr result (λ _. made ≡ Err LineStop.Memory) }
+{
+    match made {
+        Ok(made) => Ok(Body::from(made)),
+        Err(LineStop::Refused(fault)) => Ok(Body::Refused(fault)),
+        Err(LineStop::Memory) => Err(AllocError),
+    }
+}
+
+/// The answers to the questions of a line, decided at this width over what stands.
+fn answers_to(
+    alloc: Global,
+    table: &Table,
+    history: &History,
+    asked: &Asked,
+    bits: Bits,
+) -> Result<Vec<Answer>, LineStop>
+    requires lawful { IsLawfulThroughout table.now history.now.state }
+    ensures answers { IfOk result (λ answers. AreAnswers (IsGiven (most_of bits)) table.now
+        (statements_of history.now.state) (names.questions_of table.now asked.now) answers.items) }
+    ensures refused { IfErr result (RefusesCommand table.now history.now.state (Ask asked.now)) }
+{
+    let questions = questions_of(alloc, table, asked)?;
+    let list = statements_at(alloc, history)?;
+    let answers = decide_each(alloc, table, list.as_slice(), questions.as_slice(), bits)?;
+    Ok(answers)
+}
+
+/// The statements that stand, in order.
+fn statements_at(alloc: Global, history: &History) -> Result<Vec<Statement>, AllocError>
+    ensures { IfOk result (λ list. list.items ≡ statements_of history.now.state) }
+{
+    let standing = history.standing()?;
+    statements(alloc, standing.as_slice())
+}
+
+/// The statements without their numbers.
+fn statements(alloc: Global, standing: &[Numbered]) -> Result<Vec<Statement>, AllocError>
+    ensures { IfOk result (λ list. list.items ≡ map (λ x. x.statement) standing.now) }
+{
+    let mut list = Vec::new(alloc);
+    for numbered in standing {
+        list.push(numbered.statement)?;
+    }
+    Ok(list)
+}
+
+// ---- the check of a block
+
+/// Does the command at a desk where the body is its body, and says how many of its answers passed.
+pub(crate) fn check(
+    alloc: Global,
+    table: &Table,
+    history: &mut History,
+    command: &Command,
+    body: &Body,
+) -> Result<Passed, BlockFault>
+    requires number { next_number history.old.state < 2 ^ 32 - 1 }
+    requires lawful { IsLawfulThroughout table.now history.old.state }
+    ensures body { OnOk result (IsBodyOf IsProvedUnlessWide table.now history.old.state
+        command.now body.now) }
+    ensures passed { IfOk result (λ passed. passed ≡ passed_of (answers_of body.now)) }
+    ensures refused { IfErr result (RefusesBody table.now history.old.state command.now body.now) }
+    ensures moved { OnOk result (history.new.state
+        ≡ revisions_with table.now history.old.state command.now body.now) }
+    ensures kept { IfErr result (λ _. history.new.state ≡ history.old.state) }
+{
+    match command {
+        Command::State(named) => {
+            let made = add(table, history, named);
+            settle(history, made, body)
+        }
+        Command::Withdraw(number) => {
+            let made = withdraw(table, history, *number);
+            settle(history, made, body)
+        }
+        Command::Replace(number, named) => {
+            let made = replace(table, history, *number, named);
+            settle(history, made, body)
+        }
+        Command::Undo => check_undone(table, history, body),
+        Command::Ask(asked) => check_answered(alloc, table, history, asked, body),
+    }
+}
+
+/// Whether the body says what was made; otherwise the revision is taken back.
+fn settle(
+    history: &mut History,
+    made: Result<Made, LineStop>,
+    body: &Body,
+) -> Result<Passed, BlockFault>
+    requires last { IfOk made (λ _. EndsWithRevision history.old.state) }
+    ensures said { OnOk result (IsSaidOf made body.now) }
+    ensures passed { IfOk result (λ passed. passed ≡ record { answers = 0; wide = 0 }) }
+    ensures kept { OnOk result (history.new.state ≡ history.old.state) }
+    ensures refused { IfErr result (RefusesSaid made body.now) }
+    ensures taken_back { IfErr result (λ _. IsTakenBack made history.old.state history.new.state) }
+{
+    match made {
+        Ok(made) => {
+            if is_body_of(made, body) {
+                return Ok(Passed {
+                    answers: 0,
+                    wide: 0,
+                });
+            }
+            let _ = history.undo();
+            Err(BlockFault::WrongBlock)
+        }
+        Err(stop) => check_refused(stop, body),
+    }
+}
+
+/// Whether the body is the one of a revision that was made.
+fn is_body_of(made: Made, body: &Body) -> bool
+    ensures { IsTrue result ↔ (body.now ≡ body_of made) }
+{
+    match (made, body) {
+        (Made::Added(m), Body::Added(n)) => m == *n,
+        (Made::Withdrawn(m), Body::Withdrawn(n)) => m == *n,
+        (Made::Replaced(m), Body::Replaced(n)) => m == *n,
+        (Made::Undone, Body::Undone) => true,
+        _ => false,
+    }
+}
+
+/// Whether the body says that the line is refused for what stopped it.
+fn check_refused(stop: LineStop, body: &Body) -> Result<Passed, BlockFault>
+    ensures said { OnOk result (IsSaidOf (Err stop) body.now) }
+    ensures passed { IfOk result (λ passed. passed ≡ record { answers = 0; wide = 0 }) }
+    ensures refused { IfErr result (RefusesSaid (Err stop) body.now) }
+{
+    let fault = match stop {
+        LineStop::Refused(fault) => fault,
+        LineStop::Memory => return Err(BlockFault::Memory),
+    };
+    match body {
+        Body::Refused(named) if *named == fault => Ok(Passed {
+            answers: 0,
+            wide: 0,
+        }),
+        _ => Err(BlockFault::WrongBlock),
+    }
+}
+
+/// Whether the body is the one of an undo, which is then done.
+fn check_undone(table: &Table, history: &mut History, body: &Body) -> Result<Passed, BlockFault>
+    ensures body { OnOk result (IsBodyOf IsProvedUnlessWide table.now history.old.state
+        Undo body.now) }
+    ensures passed { IfOk result (λ passed. passed ≡ passed_of (answers_of body.now)) }
+    ensures refused { IfErr result (RefusesBody table.now history.old.state Undo body.now) }
+    ensures moved { OnOk result (history.new.state
+        ≡ revisions_with table.now history.old.state Undo body.now) }
+    ensures kept { IfErr result (λ _. history.new.state ≡ history.old.state) }
+{
+    if !is_body_of(Made::Undone, body) {
+        if history.can_undo() {
+            return Err(BlockFault::WrongBlock);
+        }
+        return check_refused(LineStop::Refused(LineFault::NothingToUndo), body);
+    }
+    match undo(table, history) {
+        Ok(_) => Ok(Passed {
+            answers: 0,
+            wide: 0,
+        }),
+        Err(stop) => check_refused(stop, body),
+    }
+}
+
+/// Whether the body is the one of a line that asks.
+fn check_answered(
+    alloc: Global,
+    table: &Table,
+    history: &History,
+    asked: &Asked,
+    body: &Body,
+) -> Result<Passed, BlockFault>
+    requires lawful { IsLawfulThroughout table.now history.now.state }
+    ensures body { OnOk result (IsBodyOf IsProvedUnlessWide table.now history.now.state
+        (Ask asked.now) body.now) }
+    ensures passed { IfOk result (λ passed. passed ≡ passed_of (answers_of body.now)) }
+    ensures refused { IfErr result
+        (RefusesBody table.now history.now.state (Ask asked.now) body.now) }
+{
+    match questions_of(alloc, table, asked) {
+        Ok(questions) => match body {
+            Body::Answers(answers) => {
+                check_each(
+                    alloc,
+                    table,
+                    history,
+                    questions.as_slice(),
+                    answers.as_slice(),
+                )
+            }
+            _ => Err(BlockFault::WrongBlock),
+        },
+        Err(stop) => check_refused(stop, body),
+    }
+}
+
+/// Whether the answers are to these questions in order, each too wide or with its proof over what stands.
+fn check_each(
+    alloc: Global,
+    table: &Table,
+    history: &History,
+    questions: &[Question],
+    answers: &[Answer],
+) -> Result<Passed, BlockFault>
+    requires lawful { IsLawfulThroughout table.now history.now.state }
+    requires asked { AllByRecursion (IsAskedIn table.now) questions.now }
+    requires few { length questions.now ≤ 20000 }
+    ensures each { OnOk result (AllZip (IsProvedUnlessWide table.now
+        (statements_of history.now.state)) questions.now answers.now) }
+    ensures passed { IfOk result (λ passed. passed ≡ passed_of answers.now) }
+    ensures refused { IfErr result (RefusesAnswers table.now (statements_of history.now.state)
+        questions.now answers.now) }
+{
+    if !are_to(questions, answers) {
+        return Err(BlockFault::WrongBlock);
+    }
+    let list = statements_at(alloc, history)?;
+    check_answers(alloc, table, list.as_slice(), answers)?;
+    Ok(Passed {
+        answers: count(answers, false),
+        wide: count(answers, true),
+    })
+}
+
+/// Whether the answers are to these questions, in order.
+fn are_to(questions: &[Question], answers: &[Answer]) -> bool
+    ensures { IsTrue result ↔ (map (λ x. x.question) answers.now ≡ questions.now) }
+{
+    if questions.len() != answers.len() {
+        return false;
+    }
+    for (place, answer) in answers.iter().enumerate() {
+        if !answer.question.is_same(questions[place]) {
+            return false;
+        }
+    }
+    true
+}
+
+/// How many of the answers are too wide, or are not.
+fn count(answers: &[Answer], wide: bool) -> u32
+    requires { length answers.now ≤ 20000 }
+    ensures { result ≡ count_by (λ x. beq (is_wide x.verdict) wide) answers.now }
+{
+    answers
+        .iter()
+        .filter(|x| matches!(x.verdict, Verdict::Wide { .. }) == wide)
+        .count() as u32
+}
