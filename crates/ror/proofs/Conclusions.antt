@@ -1,7 +1,10 @@
 -- What the work's outcome says of a run that ends after it.
-use Rattle.std.proofs.Common.{◌≡◌, ◌≢◌, ℕ, ◌<◌, ◌≤◌, List, Option, Some, None, Result, Ok, Err, IfErr, IsErr, refl, sym, subst, inl, inr, arith}
+use Rattle.std.proofs.Common.{◌≡◌, ◌≢◌, ℕ, eqb, ◌<◌, ◌≤◌, ◌∙◌, ◌⊎◌, List, Option, Some, None, Result, Ok, Err, IfErr, IsErr, refl, sym, subst, inl, inr, arith}
+use Rattle.std.specs.Prelude.{◌==◌, if◌then◌else◌}
+use Rattle.std.proofs.lemmas.Bool.{cases_Bool, eqb-true, eqb-false, cond-true, cond-false}
 use Rattle.ror_io.specs.Files.{Files, Lacks}
 use Rattle.ror_io.specs.Counts.{Rose}
+use Rattle.ror_bench.specs.declared.report.Accepted.{Accepted}
 use Rattle.ror.specs.declared.status.Status.{Status}
 use Rattle.ror.specs.declared.status.Status.TheVariants as statuses
 use Rattle.ror.specs.declared.work.Stop.{Stop}
@@ -9,9 +12,25 @@ use Rattle.ror.specs.declared.work.Stop.TheVariants as stops
 use Rattle.ror.specs.Words.{CheckNames, check_of}
 use Rattle.ror.specs.States.{ShelfState, SinkState}
 use Rattle.ror.specs.Stops.{status_at, ShowsStop, OfToldFiles, ShowsWork, Concludes, IsPure, WorksAfter, IsWorkOn}
+use Rattle.ror.specs.Statuses.{status_of}
 use Rattle.ror.specs.Work.{ProvesReport, LacksOne}
 use Rattle.ror.specs.Running.{ShowsStatus, ShowsFiles, DecidesStatus, CountsAnswers, Writes, HidesNoMemory, EndsAfter, IsRun}
 use Rattle.ror.proofs.Deciding.{Decides-from_Shows}
+
+by_wide : (n : ℕ) → ((n ≡ 0) × ((if n == 0 then statuses.Done else statuses.DoneWide) ≡ statuses.Done)) ⊎ ((0 < n) × ((if n == 0 then statuses.Done else statuses.DoneWide) ≡ statuses.DoneWide))
+by_wide n =
+    elim (cases_Bool (eqb n 0)) [
+      | inl none ↦ inl (eqb-true n 0 none, cond-true _ _ _ none)
+      | inr some ↦ let other = eqb-false n 0 some in inr (omega (arith, other), cond-false _ _ _ some)
+    ]
+
+-- what holds of the status where no answer is too wide, and where one is
+status_case : (P : Status → Type 0) (x : Accepted) → (x.wide ≡ 0 → P statuses.Done) → (0 < x.wide → P statuses.DoneWide) → P (status_of x)
+status_case P x done wide =
+    elim (by_wide x.wide) [
+      | inl none ↦ subst P (sym none.1) (done none.0)
+      | inr some ↦ subst P (sym some.1) (wide some.0)
+    ]
 
 stop_shown : (files : Files) (names : CheckNames) (stop : Stop) → ShowsStop files names stop → ShowsStatus files names (status_at stop)
 stop_shown files names (stops.BadTable fault) shows = shows
@@ -20,16 +39,16 @@ stop_shown files names (stops.Rejected rejection) shows = shows
 stop_shown files names stops.ReadFault shows = shows
 stop_shown files names stops.Memory shows = tt
 
-shown : (files : Files) (names : CheckNames) (b a : ℕ) (old new : Option (List ℕ)) (outcome : Result ℕ Stop) (status : Status) → Concludes b a old new outcome status → ShowsWork names outcome files → ShowsStatus files names status
+shown : (files : Files) (names : CheckNames) (b a : ℕ) (old new : Option (List ℕ)) (outcome : Result Accepted Stop) (status : Status) → Concludes b a old new outcome status → ShowsWork names outcome files → ShowsStatus files names status
 shown files names b a old new (Ok n) status (inl done) shows =
-    subst (λ (s : Status). ShowsStatus files names s) (sym done.0) ((n, shows.0), shows.1)
+    subst (λ (s : Status). ShowsStatus files names s) (sym done.0) (status_case (ShowsStatus files names) n (λ none. ((n, (shows.0, none)), shows.1)) (λ some. ((n, (shows.0, some)), shows.1)))
 shown files names b a old new (Ok n) status (inr failed) shows =
     subst (λ (s : Status). ShowsStatus files names s) (sym failed.0) (n, shows.0)
 shown files names b a old new (Err stop) status ends shows =
     subst (λ (s : Status). ShowsStatus files names s) (sym ends.0) (stop_shown files names stop shows)
 
 -- what a run's status shows of its files
-pub status_shows : (told : Option Files) (before now : ℕ) (words : List (List ℕ)) (mine : CheckNames) (b a : ℕ) (old new : Option (List ℕ)) (outcome : Result ℕ Stop) (status : Status) → check_of words ≡ Some mine → OfToldFiles told before now (ShowsWork mine outcome) → Concludes b a old new outcome status → ShowsFiles told before now words status
+pub status_shows : (told : Option Files) (before now : ℕ) (words : List (List ℕ)) (mine : CheckNames) (b a : ℕ) (old new : Option (List ℕ)) (outcome : Result Accepted Stop) (status : Status) → check_of words ≡ Some mine → OfToldFiles told before now (ShowsWork mine outcome) → Concludes b a old new outcome status → ShowsFiles told before now words status
 status_shows told before now words mine b a old new outcome status is shows ends files names is_told named stayed =
     let same : mine ≡ names = cc in
     subst (λ (n : CheckNames). ShowsStatus files n status) same (shown files mine b a old new outcome status ends (shows files is_told stayed))
@@ -38,7 +57,7 @@ pub status_decided : (told : Option Files) (before now : ℕ) (words : List (Lis
 status_decided told before now words status shows files names is_told named stayed other =
     Decides-from_Shows files names status (shows files names is_told named stayed) other
 
-counted : (told : Option Files) (before now : ℕ) (words : List (List ℕ)) (mine : CheckNames) (n : ℕ) → check_of words ≡ Some mine → OfToldFiles told before now (ShowsWork mine (Ok n)) → CountsAnswers told before now words n
+counted : (told : Option Files) (before now : ℕ) (words : List (List ℕ)) (mine : CheckNames) (n : Accepted) → check_of words ≡ Some mine → OfToldFiles told before now (ShowsWork mine (Ok n)) → CountsAnswers told before now words n
 counted told before now words mine n is shows files names is_told named stayed =
     let same : mine ≡ names = cc in
     subst (λ (x : CheckNames). ProvesReport files x n) same (shows files is_told stayed).0
@@ -51,23 +70,25 @@ stop_writes told before now words old new stops.ReadFault same = same
 stop_writes told before now words old new stops.Memory same = same
 
 -- what a run writes on standard output
-pub status_writes : (told : Option Files) (before now : ℕ) (words : List (List ℕ)) (mine : CheckNames) (b a : ℕ) (old new : Option (List ℕ)) (outcome : Result ℕ Stop) (status : Status) → check_of words ≡ Some mine → OfToldFiles told before now (ShowsWork mine outcome) → Concludes b a old new outcome status → Writes told before now words old new status
+pub status_writes : (told : Option Files) (before now : ℕ) (words : List (List ℕ)) (mine : CheckNames) (b a : ℕ) (old new : Option (List ℕ)) (outcome : Result Accepted Stop) (status : Status) → check_of words ≡ Some mine → OfToldFiles told before now (ShowsWork mine outcome) → Concludes b a old new outcome status → Writes told before now words old new status
 status_writes told before now words mine b a old new (Ok n) status is shows (inl done) =
-    subst (λ (s : Status). Writes told before now words old new s) (sym done.0) (n, counted told before now words mine n is shows, done.2)
+    let counts = counted told before now words mine n is shows in
+    subst (λ (s : Status). Writes told before now words old new s) (sym done.0) (status_case (Writes told before now words old new) n (λ none. (n, counts, none, done.2)) (λ some. (n, counts, some, done.2)))
 status_writes told before now words mine b a old new (Ok n) status is shows (inr failed) =
     subst (λ (s : Status). Writes told before now words old new s) (sym failed.0) (n, counted told before now words mine n is shows, failed.3)
 status_writes told before now words mine b a old new (Err stop) status is shows ends =
     subst (λ (s : Status). Writes told before now words old new s) (sym ends.0) (stop_writes told before now words old new stop ends.2)
 
 -- the count of faults of standard output does not fall
-pub out_rises : (b a : ℕ) (old new : Option (List ℕ)) (outcome : Result ℕ Stop) (status : Status) → Concludes b a old new outcome status → b ≤ a
+pub out_rises : (b a : ℕ) (old new : Option (List ℕ)) (outcome : Result Accepted Stop) (status : Status) → Concludes b a old new outcome status → b ≤ a
 out_rises b a old new (Ok n) status (inl done) = omega (arith, done.1)
 out_rises b a old new (Ok n) status (inr failed) = failed.1
 out_rises b a old new (Err stop) status ends = omega (arith, ends.1)
 
 -- no status is that for usage where the work was begun
-no_usage : (b a : ℕ) (old new : Option (List ℕ)) (outcome : Result ℕ Stop) (status : Status) → Concludes b a old new outcome status → status ≡ statuses.Usage → ⊥
-no_usage b a old new (Ok n) status (inl done) is = let p = done.0 in cc
+no_usage : (b a : ℕ) (old new : Option (List ℕ)) (outcome : Result Accepted Stop) (status : Status) → Concludes b a old new outcome status → status ≡ statuses.Usage → ⊥
+no_usage b a old new (Ok n) status (inl done) is =
+    status_case (λ s. s ≡ statuses.Usage → ⊥) n (λ none e. cc) (λ some e. cc) (sym done.0 ∙ is)
 no_usage b a old new (Ok n) status (inr failed) is = let p = failed.0 in cc
 no_usage b a old new (Err (stops.BadTable fault)) status ends is = let p = ends.0 in cc
 no_usage b a old new (Err (stops.BadSession fault)) status ends is = let p = ends.0 in cc
@@ -76,8 +97,9 @@ no_usage b a old new (Err stops.ReadFault) status ends is = let p = ends.0 in cc
 no_usage b a old new (Err stops.Memory) status ends is = let p = ends.0 in cc
 
 -- a status of a file that could not be read is that of the work
-read_stops : (b a : ℕ) (old new : Option (List ℕ)) (outcome : Result ℕ Stop) (status : Status) → Concludes b a old new outcome status → status ≡ statuses.ReadFault → outcome ≡ Err stops.ReadFault
-read_stops b a old new (Ok n) status (inl done) is = absurd (let p = done.0 in cc)
+read_stops : (b a : ℕ) (old new : Option (List ℕ)) (outcome : Result Accepted Stop) (status : Status) → Concludes b a old new outcome status → status ≡ statuses.ReadFault → outcome ≡ Err stops.ReadFault
+read_stops b a old new (Ok n) status (inl done) is =
+    absurd (status_case (λ s. s ≡ statuses.ReadFault → ⊥) n (λ none e. cc) (λ some e. cc) (sym done.0 ∙ is))
 read_stops b a old new (Ok n) status (inr failed) is = absurd (let p = failed.0 in cc)
 read_stops b a old new (Err (stops.BadTable fault)) status ends is = absurd (let p = ends.0 in cc)
 read_stops b a old new (Err (stops.BadSession fault)) status ends is = absurd (let p = ends.0 in cc)
@@ -85,12 +107,13 @@ read_stops b a old new (Err (stops.Rejected rejection)) status ends is = absurd 
 read_stops b a old new (Err stops.ReadFault) status ends is = refl
 read_stops b a old new (Err stops.Memory) status ends is = absurd (let p = ends.0 in cc)
 
-stop_read : (b a : ℕ) (old new : Option (List ℕ)) (outcome : Result ℕ Stop) (status : Status) → Concludes b a old new outcome status → outcome ≡ Err stops.ReadFault → status ≡ statuses.ReadFault
+stop_read : (b a : ℕ) (old new : Option (List ℕ)) (outcome : Result Accepted Stop) (status : Status) → Concludes b a old new outcome status → outcome ≡ Err stops.ReadFault → status ≡ statuses.ReadFault
 stop_read b a old new (Ok n) status ends is = absurd cc
 stop_read b a old new (Err stop) status ends is = let p = ends.0 in cc
 
-writing : (b a : ℕ) (old new : Option (List ℕ)) (outcome : Result ℕ Stop) (status : Status) → Concludes b a old new outcome status → status ≡ statuses.WriteFault → Rose b a
-writing b a old new (Ok n) status (inl done) is = absurd (let p = done.0 in cc)
+writing : (b a : ℕ) (old new : Option (List ℕ)) (outcome : Result Accepted Stop) (status : Status) → Concludes b a old new outcome status → status ≡ statuses.WriteFault → Rose b a
+writing b a old new (Ok n) status (inl done) is =
+    absurd (status_case (λ s. s ≡ statuses.WriteFault → ⊥) n (λ none e. cc) (λ some e. cc) (sym done.0 ∙ is))
 writing b a old new (Ok n) status (inr failed) is = failed.2
 writing b a old new (Err (stops.BadTable fault)) status ends is = absurd (let p = ends.0 in cc)
 writing b a old new (Err (stops.BadSession fault)) status ends is = absurd (let p = ends.0 in cc)
@@ -98,21 +121,21 @@ writing b a old new (Err (stops.Rejected rejection)) status ends is = absurd (le
 writing b a old new (Err stops.ReadFault) status ends is = absurd (let p = ends.0 in cc)
 writing b a old new (Err stops.Memory) status ends is = absurd (let p = ends.0 in cc)
 
-rose_writing : (b a : ℕ) (old new : Option (List ℕ)) (outcome : Result ℕ Stop) (status : Status) → Concludes b a old new outcome status → b < a → status ≡ statuses.WriteFault
+rose_writing : (b a : ℕ) (old new : Option (List ℕ)) (outcome : Result Accepted Stop) (status : Status) → Concludes b a old new outcome status → b < a → status ≡ statuses.WriteFault
 rose_writing b a old new (Ok n) status (inl done) rose = absurd (omega (arith, done.1, rose))
 rose_writing b a old new (Ok n) status (inr failed) rose = failed.0
 rose_writing b a old new (Err stop) status ends rose = absurd (omega (arith, ends.1, rose))
 
-done_ok : (b a : ℕ) (old new : Option (List ℕ)) (outcome : Result ℕ Stop) (status : Status) → Concludes b a old new outcome status → IsErr outcome → status ≢ statuses.Done
-done_ok b a old new (Ok n) status ends failed is = absurd (let f = failed in cc)
-done_ok b a old new (Err (stops.BadTable fault)) status ends failed is = let p = ends.0 in cc
-done_ok b a old new (Err (stops.BadSession fault)) status ends failed is = let p = ends.0 in cc
-done_ok b a old new (Err (stops.Rejected rejection)) status ends failed is = let p = ends.0 in cc
-done_ok b a old new (Err stops.ReadFault) status ends failed is = let p = ends.0 in cc
-done_ok b a old new (Err stops.Memory) status ends failed is = let p = ends.0 in cc
+done_ok : (b a : ℕ) (old new : Option (List ℕ)) (outcome : Result Accepted Stop) (status : Status) → Concludes b a old new outcome status → IsErr outcome → (status ≢ statuses.Done) × (status ≢ statuses.DoneWide)
+done_ok b a old new (Ok n) status ends failed = absurd (let f = failed in cc)
+done_ok b a old new (Err (stops.BadTable fault)) status ends failed = let p = ends.0 in (λ is. cc, λ is. cc)
+done_ok b a old new (Err (stops.BadSession fault)) status ends failed = let p = ends.0 in (λ is. cc, λ is. cc)
+done_ok b a old new (Err (stops.Rejected rejection)) status ends failed = let p = ends.0 in (λ is. cc, λ is. cc)
+done_ok b a old new (Err stops.ReadFault) status ends failed = let p = ends.0 in (λ is. cc, λ is. cc)
+done_ok b a old new (Err stops.Memory) status ends failed = let p = ends.0 in (λ is. cc, λ is. cc)
 
-hides : (b a : ℕ) (old new : Option (List ℕ)) (outcome : Result ℕ Stop) (status : Status) → Concludes b a old new outcome status → IfErr outcome IsPure → HidesNoMemory status
-hides b a old new (Ok n) status (inl done) pure = subst HidesNoMemory (sym done.0) tt
+hides : (b a : ℕ) (old new : Option (List ℕ)) (outcome : Result Accepted Stop) (status : Status) → Concludes b a old new outcome status → IfErr outcome IsPure → HidesNoMemory status
+hides b a old new (Ok n) status (inl done) pure = subst HidesNoMemory (sym done.0) (status_case HidesNoMemory n (λ none. tt) (λ some. tt))
 hides b a old new (Ok n) status (inr failed) pure = subst HidesNoMemory (sym failed.0) tt
 hides b a old new (Err (stops.BadTable fault)) status ends pure = subst HidesNoMemory (sym ends.0) tt
 hides b a old new (Err (stops.BadSession fault)) status ends pure = subst HidesNoMemory (sym ends.0) pure
@@ -120,8 +143,8 @@ hides b a old new (Err (stops.Rejected rejection)) status ends pure = subst Hide
 hides b a old new (Err stops.ReadFault) status ends pure = subst HidesNoMemory (sym ends.0) tt
 hides b a old new (Err stops.Memory) status ends pure = subst HidesNoMemory (sym ends.0) tt
 
-ends_after : (b a n : ℕ) (old new : Option (List ℕ)) (outcome : Result ℕ Stop) (status : Status) → Concludes b a old new outcome status → WorksAfter outcome n → EndsAfter status n
-ends_after b a n old new (Ok m) status (inl done) after = subst (λ (s : Status). EndsAfter s n) (sym done.0) after
+ends_after : (b a n : ℕ) (old new : Option (List ℕ)) (outcome : Result Accepted Stop) (status : Status) → Concludes b a old new outcome status → WorksAfter outcome n → EndsAfter status n
+ends_after b a n old new (Ok m) status (inl done) after = subst (λ (s : Status). EndsAfter s n) (sym done.0) (status_case (λ s. EndsAfter s n) m (λ none. after) (λ some. after))
 ends_after b a n old new (Ok m) status (inr failed) after = subst (λ (s : Status). EndsAfter s n) (sym failed.0) after
 ends_after b a n old new (Err (stops.BadTable fault)) status ends after = subst (λ (s : Status). EndsAfter s n) (sym ends.0) after
 ends_after b a n old new (Err (stops.BadSession fault)) status ends after = subst (λ (s : Status). EndsAfter s n) (sym ends.0) after
@@ -130,7 +153,7 @@ ends_after b a n old new (Err stops.ReadFault) status ends after = subst (λ (s 
 ends_after b a n old new (Err stops.Memory) status ends after = subst (λ (s : Status). EndsAfter s n) (sym ends.0) after
 
 -- the words name files: the run is the work on them and its conclusion
-pub concluded_run : (words : List (List ℕ)) (names : CheckNames) (before now : ShelfState) (old new : SinkState) (outcome : Result ℕ Stop) (status : Status) → check_of words ≡ Some names → IsWorkOn names before now outcome → Concludes old.faults new.faults old.written new.written outcome status → IsRun words before now old new status
+pub concluded_run : (words : List (List ℕ)) (names : CheckNames) (before now : ShelfState) (old new : SinkState) (outcome : Result Accepted Stop) (status : Status) → check_of words ≡ Some names → IsWorkOn names before now outcome → Concludes old.faults new.faults old.written new.written outcome status → IsRun words before now old new status
 concluded_run words names before now old new outcome status is work ends =
     let shows = status_shows before.told before.faults now.faults words names old.faults new.faults old.written new.written outcome status is work.shows ends in
     record {
@@ -167,7 +190,7 @@ usage_run words shelf out none =
       out_never_falls = omega arith;
       told_stays = refl;
       fetched = (0, refl, refl);
-      lacking = λ lacks is. cc;
+      lacking = λ lacks. (λ is. cc, λ is. cc);
       no_table = λ lacks. absurd (let p = lacks.1 in cc);
       pure = tt;
       shows = λ files names told named stayed. absurd cc;

@@ -3,6 +3,7 @@ use Rattle.std.proofs.Common.{◌≡◌, ◌∙◌, ◌<◌, ℕ, List, Option, 
 use Rattle.ror_io.specs.Files.{Files, Lacks}
 use Rattle.ror_io.specs.Counts.{next_count}
 use Rattle.ror_io.proofs.CountLemmas.{then-Rose}
+use Rattle.ror_bench.specs.declared.report.Accepted.{Accepted}
 use Rattle.ror.specs.declared.work.Stop.{Stop}
 use Rattle.ror.specs.declared.work.Stop.TheVariants as stops
 use Rattle.ror.specs.States.{ShelfState}
@@ -39,15 +40,15 @@ stopped_second {A} {B} names a b d x e first second shows =
     }
 
 -- what an outcome of the last fetch comes after
-last_stop : (r : Result ℕ Stop) → IfErr r (λ stop. StopsAfter stop 3) → WorksAfter r 3
-last_stop (Ok n) stop = refl
+last_stop : (r : Result Accepted Stop) → IfErr r (λ stop. StopsAfter stop 3) → WorksAfter r 3
+last_stop (Ok x) stop = refl
 last_stop (Err e) stop = stop
 
-no_outcome : (r : Result ℕ Stop) → r ≡ Err stops.ReadFault → IsErr r
+no_outcome : (r : Result Accepted Stop) → r ≡ Err stops.ReadFault → IsErr r
 no_outcome r is = rw is refl
 
 -- table and session were read, and the report was fetched
-pub ended_third : {A B : Type 0} (names : CheckNames) (a b d f : ShelfState) (x : A) (y : B) (r : Result ℕ Stop) → IsFetchOf names.table 1 a b (Ok x) → IsFetchOf names.session 2 b d (Ok y) → IsFetchOf names.report 3 d f r → OfToldFiles a.told a.faults f.faults (ShowsWork names r) → IsWorkOn names a f r
+pub ended_third : {A B : Type 0} (names : CheckNames) (a b d f : ShelfState) (x : A) (y : B) (r : Result Accepted Stop) → IsFetchOf names.table 1 a b (Ok x) → IsFetchOf names.session 2 b d (Ok y) → IsFetchOf names.report 3 d f r → OfToldFiles a.told a.faults f.faults (ShowsWork names r) → IsWorkOn names a f r
 ended_third {A} {B} names a b d f x y r first second third shows =
     let same = never_rose names.table 1 a b x first in
     let again = never_rose names.session 2 b d y second in

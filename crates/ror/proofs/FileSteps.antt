@@ -1,6 +1,6 @@
 -- What a fetch and the reading of its bytes say of the files of a shelf.
 use Rattle.ror_bench.specs.declared.report.TheConstants.{MOST_REPORT_BYTES}
-use Rattle.std.proofs.Common.{◌≡◌, ◌≢◌, ℕ, ◌<◌, ◌≤◌, ◌⊎◌, List, length, Option, Some, None, Result, Ok, Err, refl, sym, arith, inl, inr, subst, ap}
+use Rattle.std.proofs.Common.{◌≡◌, ◌≢◌, ℕ, ◌≤◌, ◌⊎◌, List, length, Option, Some, None, Result, Ok, Err, refl, sym, inl, inr, subst}
 use Rattle.ror_io.specs.Files.{Files, file, HasFile, Lacks}
 use Rattle.ror_io.specs.Counts.{Rose, DidNotRise}
 use Rattle.ror_io.specs.Fetching.{OnFailed}
@@ -11,14 +11,16 @@ use Rattle.ror_table.specs.Table.{DecisionTable}
 use Rattle.ror_table.specs.Plain.{plain_table}
 use Rattle.ror_session.specs.declared.session.Session.{Session}
 use Rattle.ror_session.specs.declared.session.Line.{Line}
+use Rattle.ror_session.specs.Session.{session_of}
 use Rattle.ror_bench.specs.declared.report.ReportError.{ReportError}
 use Rattle.ror_bench.specs.declared.report.ReportError.TheVariants as report_errors
 use Rattle.ror_bench.specs.Bench.{Workbench}
-use Rattle.ror_bench.specs.Reports.{IsProvedReport}
+use Rattle.ror_bench.specs.declared.report.Accepted.{Accepted}
+use Rattle.ror_bench.specs.Reports.{IsProvedReport, IsRejectedFor, IfRejected}
 use Rattle.ror.specs.declared.work.Stop.{Stop}
 use Rattle.ror.specs.declared.work.Stop.TheVariants as stops
 use Rattle.ror.specs.Words.{CheckNames}
-use Rattle.ror.specs.Work.{bench_for, session_over, ReadsTable, ReadsSession, Misses}
+use Rattle.ror.specs.Work.{bench_for, ReadsTable, ReadsSession, Misses, at_fault}
 use Rattle.ror.specs.Stops.{stop_at_shelf, stop_at_report, ShowsStop, ReadsTableAs, ReadsSessionAs, Judges, ShowsTable, ShowsSession, ShowsWork}
 
 -- what is not missing is there
@@ -49,7 +51,7 @@ table_shown files names bytes (Err (stops.Rejected rejection)) found reads = abs
 table_shown files names bytes (Err stops.ReadFault) found reads = absurd reads
 table_shown files names bytes (Err stops.Memory) found reads = tt
 
-pub session_shown : (files : Files) (names : CheckNames) (t : DecisionTable) (bytes : List ℕ) (result : Result Session Stop) → ReadsTable files names t → file files names.session ≡ Some bytes → ReadsSessionAs (session_over t bytes) result → ShowsSession names t result files
+pub session_shown : (files : Files) (names : CheckNames) (t : DecisionTable) (bytes : List ℕ) (result : Result Session Stop) → ReadsTable files names t → file files names.session ≡ Some bytes → ReadsSessionAs (session_of bytes) result → ShowsSession names t result files
 session_shown files names t bytes (Ok s) table found reads = record { table = table; bytes = bytes; there = found; read = reads }
 session_shown files names t bytes (Err (stops.BadTable fault)) table found reads = absurd reads
 session_shown files names t bytes (Err (stops.BadSession fault)) table found reads = record { table = t; table_read = table; bytes = bytes; there = found; refused = reads }
@@ -57,21 +59,21 @@ session_shown files names t bytes (Err (stops.Rejected rejection)) table found r
 session_shown files names t bytes (Err stops.ReadFault) table found reads = absurd reads
 session_shown files names t bytes (Err stops.Memory) table found reads = tt
 
-pub work_shown : (files : Files) (names : CheckNames) (t : DecisionTable) (s : Session) (bytes : List ℕ) (result : Result ℕ Stop) → ReadsSession files names t s → file files names.report ≡ Some bytes → Judges t s bytes result → ShowsWork names result files
-work_shown files names t s bytes (Ok n) session found judges =
-    (record { table = t; session = s; session_read = session; bytes = bytes; there = found; short = judges.0; proved = judges.1.proved }, record { table = t; session = s; session_read = session; bytes = bytes; there = found; answers = n; accepted = judges.1 })
+pub work_shown : (files : Files) (names : CheckNames) (t : DecisionTable) (s : Session) (bytes : List ℕ) (result : Result Accepted Stop) → ReadsSession files names t s → file files names.report ≡ Some bytes → Judges t s bytes result → ShowsWork names result files
+work_shown files names t s bytes (Ok x) session found judges =
+    (record { table = t; session = s; session_read = session; bytes = bytes; there = found; short = judges.0; proved = judges.1.proved }, record { table = t; session = s; session_read = session; bytes = bytes; there = found; counts = x; accepted = judges.1 })
 work_shown files names t s bytes (Err (stops.BadTable fault)) session found judges = absurd judges
 work_shown files names t s bytes (Err (stops.BadSession fault)) session found judges = absurd judges
 work_shown files names t s bytes (Err (stops.Rejected rejection)) session found judges =
     record {
       not_proved = record { table = t; session = s; session_read = session; bytes = bytes; there = found; not_proved = judges.0 };
-      too_long = λ other. judges.1 (let same : other.bytes ≡ bytes = let at = other.there in cc in subst (λ (xs : List ℕ). MOST_REPORT_BYTES < length xs) same other.long);
+      rejected = record { table = t; session = s; session_read = session; bytes = bytes; there = found; rejected = judges.1 };
     }
 work_shown files names t s bytes (Err stops.ReadFault) session found judges = absurd judges
 work_shown files names t s bytes (Err stops.Memory) session found judges = tt
 
--- what is refused of the bytes that were fetched is not proved
-pub judged : (t : DecisionTable) (s : Session) (bench : Workbench) (lines : List Line) (got bytes : List ℕ) (error : ReportError) → bench ≡ bench_for t s → lines ≡ s.lines → got ≡ bytes → length got ≤ MOST_REPORT_BYTES → (error ≢ report_errors.Memory → (n : ℕ) → IsProvedReport bench lines got n → ⊥) → Judges t s bytes (Err (stop_at_report error))
-judged t s bench lines got bytes (report_errors.Rejected rejection) benches same whole short refuted =
-    (λ n within proved. refuted (λ e. cc) n (subst (λ (b : Workbench). IsProvedReport b lines got n) (sym benches) (subst (λ (ls : List Line). IsProvedReport (bench_for t s) ls got n) (sym same) (subst (λ (bs : List ℕ). IsProvedReport (bench_for t s) s.lines bs n) (sym whole) proved))), λ long. absurd (omega (arith, long, short, ap length whole)))
-judged t s bench lines got bytes report_errors.Memory benches same whole short refuted = tt
+-- what is refused of the bytes that were fetched is not proved, and rejected for this
+pub judged : (t : DecisionTable) (s : Session) (bench : Workbench) (lines : List Line) (got bytes : List ℕ) (error : ReportError) → bench ≡ bench_for t s → lines ≡ s.lines → got ≡ bytes → length got ≤ MOST_REPORT_BYTES → (error ≢ report_errors.Memory → (x : Accepted) → IsProvedReport bench lines got x → ⊥) → IfRejected (IsRejectedFor bench lines got) error → Judges t s bytes (Err (stop_at_report error))
+judged t s bench lines got bytes (report_errors.Rejected rejection) benches same whole short refuted why =
+    (λ x within proved. refuted (λ e. cc) x (subst (λ (b : Workbench). IsProvedReport b lines got x) (sym benches) (subst (λ (ls : List Line). IsProvedReport (bench_for t s) ls got x) (sym same) (subst (λ (bs : List ℕ). IsProvedReport (bench_for t s) s.lines bs x) (sym whole) proved))), at_fault (subst (λ (bs : List ℕ). length bs ≤ MOST_REPORT_BYTES) whole short) (subst (λ (b : Workbench). IsRejectedFor b s.lines bytes rejection) benches (subst (λ (ls : List Line). IsRejectedFor bench ls bytes rejection) same (subst (λ (bs : List ℕ). IsRejectedFor bench lines bs rejection) whole why))))
+judged t s bench lines got bytes report_errors.Memory benches same whole short refuted why = tt

@@ -5,4 +5,3 @@ pub mod FileSteps
 pub mod Fetches
 pub mod Deciding
 pub mod Conclusions
-pub mod RefusedLines

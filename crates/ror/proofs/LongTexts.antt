@@ -2,12 +2,10 @@
 use Rattle.ror_text.specs.declared.lines.TheConstants.{MOST_TEXT_BYTES}
 use Rattle.std.proofs.Common.{◌≡◌, ℕ, ◌<◌, List, length, Err, refl}
 use Rattle.std.proofs.lemmas.Bool.{lt-ltb}
-use Rattle.ror_table.specs.Table.{DecisionTable}
 use Rattle.ror_table.specs.Plain.{plain_table}
 use Rattle.ror_table.specs.declared.fault.TableKind.TheVariants as kinds
 use Rattle.ror_session.specs.Session.{session_of}
 use Rattle.ror_session.specs.declared.session.SessionFault.TheVariants as faults
-use Rattle.ror.specs.Work.{session_over}
 
 pub plain_table-long : (bytes : List ℕ) → MOST_TEXT_BYTES < length bytes → plain_table bytes ≡ Err (record { kind = kinds.TooLong; line = 0 })
 unfolding plain_table
@@ -16,6 +14,3 @@ plain_table-long bytes long = rw (lt-ltb MOST_TEXT_BYTES (length bytes) long) re
 pub session_of-long : (bytes : List ℕ) → MOST_TEXT_BYTES < length bytes → session_of bytes ≡ Err faults.TooLong
 unfolding session_of
 session_of-long bytes long = rw (lt-ltb MOST_TEXT_BYTES (length bytes) long) refl
-
-pub session_over-long : (t : DecisionTable) (bytes : List ℕ) → MOST_TEXT_BYTES < length bytes → session_over t bytes ≡ Err faults.TooLong
-session_over-long t bytes long = rw (session_of-long bytes long)

@@ -8,12 +8,13 @@ use Rattle.ror.specs.declared.status.Status.TheVariants as statuses
 use Rattle.ror_table.specs.declared.fault.TableFault.{TableFault}
 use Rattle.ror_session.specs.declared.session.SessionFault.{SessionFault}
 use Rattle.ror_session.specs.declared.session.SessionFault.TheVariants as session_faults
+use Rattle.ror_bench.specs.declared.report.Accepted.{Accepted}
 use Rattle.ror_bench.specs.declared.report.Reason.TheVariants.{TooLong}
 use Rattle.ror_bench.specs.Reports.{IsFreeOfMemory}
 use Rattle.ror.specs.States.{ShelfState, SinkState}
 use Rattle.ror.specs.Words.{CheckNames, check_of}
 use Rattle.ror.specs.Statuses.{status_text, accepted_text}
-use Rattle.ror.specs.Work.{RefusesTable, RefusesSession, ProvesReport, RefutesReport, IsNotProved, IsLongReport, AnswersTrue, Misses, LacksOne}
+use Rattle.ror.specs.Work.{RefusesTable, RefusesSession, ProvesReport, ProvesAll, ProvesTheRest, RefutesReport, IsNotProved, IsLongReport, AnswersTrue, Misses, LacksOne}
 
 -- a told map lacks a file that the words name; lacks the table
 abbrev pub LacksNamed : Option Files → List (List ℕ) → Type 0
@@ -47,13 +48,16 @@ EndsAfter _ n = n ≡ 3
 -- what the files are like where a run ends with the status; want of memory says nothing
 abbrev pub ShowsStatus : Files → CheckNames → Status → Type 0
 ShowsStatus files names statuses.Done =
-    ((n : ℕ) × ProvesReport files names n) × AnswersTrue files names
+    ((accepted : Accepted) × ProvesAll files names accepted) × AnswersTrue files names
+ShowsStatus files names statuses.DoneWide =
+    ((accepted : Accepted) × ProvesTheRest files names accepted) × AnswersTrue files names
 ShowsStatus files names statuses.Usage = ⊥
 ShowsStatus files names (statuses.BadTable fault) = RefusesTable files names fault
 ShowsStatus files names (statuses.BadSession fault) = RefusesSession files names fault
 ShowsStatus files names (statuses.Rejected r) = RefutesReport files names r
 ShowsStatus files names statuses.ReadFault = Misses files names
-ShowsStatus files names statuses.WriteFault = (n : ℕ) × ProvesReport files names n
+ShowsStatus files names statuses.WriteFault =
+    (accepted : Accepted) × ProvesReport files names accepted
 ShowsStatus files names statuses.Memory = Unit {0}
 
 -- which status files of this kind lead to, unless memory runs out
@@ -66,8 +70,10 @@ pub record Decides (files : Files) (names : CheckNames) (status : Status) : Type
   pub rejected : IsNotProved files names → IsRejected status
   pub too_long : IsLongReport files names
       → status ≡ statuses.Rejected (record { block = 0; reason = TooLong })
-  pub done : (n : ℕ) → ProvesReport files names n → (status ≡ statuses.Done)
-      ⊎ (status ≡ statuses.WriteFault)
+  pub done : (accepted : Accepted) → ProvesAll files names accepted
+      → (status ≡ statuses.Done) ⊎ (status ≡ statuses.WriteFault)
+  pub done_wide : (accepted : Accepted) → ProvesTheRest files names accepted
+      → (status ≡ statuses.DoneWide) ⊎ (status ≡ statuses.WriteFault)
 
 -- a shelf that tells its files, and whose count did not rise, is of files that the status shows
 abbrev pub ShowsFiles : Option Files → ℕ → ℕ → List (List ℕ) → Status → Type 0
@@ -81,20 +87,24 @@ DecidesStatus told before now words status =
     (files : Files) (names : CheckNames) → told ≡ Some files → check_of words ≡ Some names
     → DidNotRise before now → status ≢ statuses.Memory → Decides files names status
 
--- the report that such files prove has so many answers
-abbrev pub CountsAnswers : Option Files → ℕ → ℕ → List (List ℕ) → ℕ → Type 0
-CountsAnswers told before now words n =
+-- the report that such files prove has so many answers with a proof, and so many that are too wide
+abbrev pub CountsAnswers : Option Files → ℕ → ℕ → List (List ℕ) → Accepted → Type 0
+CountsAnswers told before now words accepted =
     (files : Files) (names : CheckNames) → told ≡ Some files → check_of words ≡ Some names
-    → DidNotRise before now → ProvesReport files names n
+    → DidNotRise before now → ProvesReport files names accepted
 
 -- What is written on standard output, where it is told: the line of the accepted report where the work was done, a
 -- proper beginning of that line where a write failed, and nothing under every other status.
 abbrev pub Writes : Option Files → ℕ → ℕ → List (List ℕ) → Option (List ℕ) → Option (List ℕ)
     → Status → Type 0
-Writes told before now words old new statuses.Done =
-    (n : ℕ) × CountsAnswers told before now words n × Grew old new (accepted_text n)
-Writes told before now words old new statuses.WriteFault =
-    (n : ℕ) × CountsAnswers told before now words n × GrewShort old new (accepted_text n)
+Writes told before now words old new statuses.Done = (accepted : Accepted)
+    × CountsAnswers told before now words accepted × (accepted.wide ≡ 0)
+    × Grew old new (accepted_text accepted)
+Writes told before now words old new statuses.DoneWide = (accepted : Accepted)
+    × CountsAnswers told before now words accepted × (0 < accepted.wide)
+    × Grew old new (accepted_text accepted)
+Writes told before now words old new statuses.WriteFault = (accepted : Accepted)
+    × CountsAnswers told before now words accepted × GrewShort old new (accepted_text accepted)
 Writes told before now words old new _ = new ≡ old
 
 -- What is written on standard error, where it is told: the text of the status, or a proper beginning of it where its
@@ -121,7 +131,8 @@ pub record IsRun (words : List (List ℕ)) (before now : ShelfState) (old new : 
   pub fetched : (n : ℕ) × EndsAfter status n × (now.fetches ≡ count_after n before.fetches)
   -- Whatever the counts are: the work is not done without one of the files, nor begun without the table. Want of memory
   -- is a status of its own, and no other one holds it.
-  pub lacking : LacksNamed before.told words → status ≢ statuses.Done
+  pub lacking : LacksNamed before.told words
+      → (status ≢ statuses.Done) × (status ≢ statuses.DoneWide)
   pub no_table : LacksTable before.told words → status ≡ statuses.ReadFault
   pub pure : HidesNoMemory status
   -- what the files are like under each status, and which status the files lead to

@@ -1,5 +1,5 @@
 -- The exit status of a run, and the line that it writes on standard error.
-use Rattle.std.specs.Prelude.{ℕ, List, [], ◌++◌, codes, decimal}
+use Rattle.std.specs.Prelude.{ℕ, ◌==◌, List, [], ◌++◌, codes, decimal, if◌then◌else◌}
 use Rattle.ror_table.specs.declared.fault.What.{What}
 use Rattle.ror_table.specs.declared.fault.What.TheVariants as whats
 use Rattle.ror_table.specs.declared.fault.TableKind.{TableKind}
@@ -11,6 +11,7 @@ use Rattle.ror_system.specs.declared.reject.Reject.TheVariants as rejects
 use Rattle.ror_check.specs.declared.fault.CheckFault.{CheckFault}
 use Rattle.ror_check.specs.declared.fault.CheckFault.TheVariants as checks
 use Rattle.ror_table.specs.declared.fault.TableFault.{TableFault}
+use Rattle.ror_bench.specs.declared.report.Accepted.{Accepted}
 use Rattle.ror_bench.specs.declared.report.Rejection.{Rejection}
 use Rattle.ror_bench.specs.declared.report.Reason.{Reason}
 use Rattle.ror_bench.specs.declared.report.Reason.TheVariants as reasons
@@ -26,6 +27,11 @@ code_of (statuses.Rejected r) = 5
 code_of statuses.ReadFault = 6
 code_of statuses.WriteFault = 7
 code_of statuses.Memory = 8
+code_of statuses.DoneWide = 9
+
+-- the status where the work was done: by whether an answer is too wide
+abbrev pub status_of : Accepted → Status
+status_of accepted = if accepted.wide == 0 then statuses.Done else statuses.DoneWide
 
 abbrev pub what_text : What → List ℕ
 what_text whats.Alternatives = codes "Alternatives"
@@ -49,6 +55,7 @@ session_text sessions.NotUtf8 = codes "NotUtf8"
 session_text (sessions.BadLine n) = codes "BadLine line " ++ decimal n
 session_text sessions.TooManyLines = codes "TooManyLines"
 session_text sessions.TooLong = codes "TooLong"
+session_text (sessions.TooManyDesks n) = codes "TooManyDesks line " ++ decimal n
 session_text sessions.Memory = codes "Memory"
 
 abbrev pub reject_text : Reject → List ℕ
@@ -99,7 +106,9 @@ status_text (statuses.Rejected r) = rejection_line r
 status_text statuses.ReadFault = codes "read fault\n"
 status_text statuses.WriteFault = codes "write fault\n"
 status_text statuses.Memory = codes "memory\n"
+status_text statuses.DoneWide = []
 
--- the line of an accepted report with so many answers
-unfoldable pub accepted_text : ℕ → List ℕ
-accepted_text n = codes "accepted " ++ decimal n ++ codes " wide 0\n"
+-- the line of an accepted report: how many answers were accepted, and how many are too wide
+unfoldable pub accepted_text : Accepted → List ℕ
+accepted_text accepted =
+    codes "accepted " ++ decimal accepted.answers ++ codes " wide " ++ decimal accepted.wide ++ codes "\n"

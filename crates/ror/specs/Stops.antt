@@ -13,9 +13,9 @@ use Rattle.ror_table.specs.declared.fault.TableError.TheVariants as table_errors
 use Rattle.ror_session.specs.declared.session.Session.{Session}
 use Rattle.ror_session.specs.declared.session.SessionFault.{SessionFault}
 use Rattle.ror_session.specs.declared.session.SessionFault.TheVariants as session_faults
+use Rattle.ror_bench.specs.declared.report.Accepted.{Accepted}
 use Rattle.ror_bench.specs.declared.report.ReportError.{ReportError}
 use Rattle.ror_bench.specs.declared.report.ReportError.TheVariants as report_errors
-use Rattle.ror_bench.specs.declared.report.Reason.TheVariants.{TooLong}
 use Rattle.ror_bench.specs.Reports.{IsProvedReport, IsAcceptedReport, IsFreeOfMemory}
 use Rattle.ror.specs.declared.status.Status.{Status}
 use Rattle.ror.specs.declared.status.Status.TheVariants as statuses
@@ -23,8 +23,8 @@ use Rattle.ror.specs.declared.work.Stop.{Stop}
 use Rattle.ror.specs.declared.work.Stop.TheVariants as stops
 use Rattle.ror.specs.States.{ShelfState}
 use Rattle.ror.specs.Words.{CheckNames}
-use Rattle.ror.specs.Statuses.{accepted_text}
-use Rattle.ror.specs.Work.{bench_for, ReadsTable, ReadsSession, RefusesTable, RefusesSession, ProvesReport, RefutesReport, AnswersTrue, Misses, LacksOne}
+use Rattle.ror.specs.Statuses.{accepted_text, status_of}
+use Rattle.ror.specs.Work.{bench_for, ReadsTable, ReadsSession, RefusesTable, RefusesSession, ProvesReport, IsRejectionOf, RefutesReport, AnswersTrue, Misses, LacksOne}
 
 -- the stop that a fault of the shelf leads to, and those of the readers
 abbrev pub stop_at_shelf : ShelfFault → Stop
@@ -40,6 +40,7 @@ stop_at_session session_faults.NotUtf8 = stops.BadSession session_faults.NotUtf8
 stop_at_session (session_faults.BadLine n) = stops.BadSession (session_faults.BadLine n)
 stop_at_session session_faults.TooManyLines = stops.BadSession session_faults.TooManyLines
 stop_at_session session_faults.TooLong = stops.BadSession session_faults.TooLong
+stop_at_session (session_faults.TooManyDesks n) = stops.BadSession (session_faults.TooManyDesks n)
 stop_at_session session_faults.Memory = stops.Memory
 
 abbrev pub stop_at_report : ReportError → Stop
@@ -78,8 +79,8 @@ StopsAfter stops.ReadFault n = (1 ≤ n) × (n ≤ 3)
 StopsAfter stops.Memory n = n ≤ 3
 
 -- the work is done after three fetches
-abbrev pub WorksAfter : Result ℕ Stop → ℕ → Type 0
-WorksAfter (Ok answers) n = n ≡ 3
+abbrev pub WorksAfter : Result Accepted Stop → ℕ → Type 0
+WorksAfter (Ok accepted) n = n ≡ 3
 WorksAfter (Err stop) n = StopsAfter stop n
 
 -- a stop at the bytes of a file, after so many fetches: it is none of the shelf
@@ -105,15 +106,17 @@ ReadsSessionAs reading (Err (stops.Rejected rejection)) = ⊥
 ReadsSessionAs reading (Err stops.ReadFault) = ⊥
 ReadsSessionAs reading (Err stops.Memory) = Unit {0}
 
--- what a step answered of a report's bytes: the number of answers, of which each is true, or that none is proved
-abbrev pub Judges : DecisionTable → Session → List ℕ → Result ℕ Stop → Type 0
-Judges t s bytes (Ok n) =
-    (length bytes ≤ MOST_REPORT_BYTES) × IsAcceptedReport (bench_for t s) s.lines bytes n
+-- what a step answered of a report's bytes: how many of its answers have a proof, and are true, and how many are too
+-- wide; or that the bytes are the text of no such report, and why
+abbrev pub Judges : DecisionTable → Session → List ℕ → Result Accepted Stop → Type 0
+Judges t s bytes (Ok accepted) =
+    (length bytes ≤ MOST_REPORT_BYTES) × IsAcceptedReport (bench_for t s) s.lines bytes accepted
 Judges t s bytes (Err (stops.BadTable fault)) = ⊥
 Judges t s bytes (Err (stops.BadSession fault)) = ⊥
 Judges t s bytes (Err (stops.Rejected rejection)) =
-    ((n : ℕ) → length bytes ≤ MOST_REPORT_BYTES → IsProvedReport (bench_for t s) s.lines bytes n
-    → ⊥) × (MOST_REPORT_BYTES < length bytes → rejection ≡ record { block = 0; reason = TooLong })
+    ((accepted : Accepted) → length bytes ≤ MOST_REPORT_BYTES
+    → IsProvedReport (bench_for t s) s.lines bytes accepted → ⊥)
+    × IsRejectionOf (bench_for t s) s.lines bytes rejection
 Judges t s bytes (Err stops.ReadFault) = ⊥
 Judges t s bytes (Err stops.Memory) = Unit {0}
 
@@ -122,7 +125,7 @@ abbrev pub OfToldFiles : Option Files → ℕ → ℕ → (Files → Type 0) →
 OfToldFiles told before now P =
     (files : Files) → told ≡ Some files → DidNotRise before now → P files
 
--- what a table, a session, and the number of a proved report's answers show, or else the stop
+-- what a table, a session, and the counts of a proved report's answers show, or else the stop
 abbrev pub ShowsTable : CheckNames → Result DecisionTable Stop → Files → Type 0
 ShowsTable names (Ok t) files = ReadsTable files names t
 ShowsTable names (Err stop) files = ShowsStop files names stop
@@ -131,8 +134,8 @@ abbrev pub ShowsSession : CheckNames → DecisionTable → Result Session Stop �
 ShowsSession names t (Ok s) files = ReadsSession files names t s
 ShowsSession names t (Err stop) files = ShowsStop files names stop
 
-abbrev pub ShowsWork : CheckNames → Result ℕ Stop → Files → Type 0
-ShowsWork names (Ok n) files = ProvesReport files names n × AnswersTrue files names
+abbrev pub ShowsWork : CheckNames → Result Accepted Stop → Files → Type 0
+ShowsWork names (Ok accepted) files = ProvesReport files names accepted × AnswersTrue files names
 ShowsWork names (Err stop) files = ShowsStop files names stop
 
 -- Fetching the file with this name, the next after so many that were read, and reading it: what the shelf was and is, and
@@ -151,7 +154,7 @@ pub record IsFetchOf {A : Type 0} (name : List ℕ) (place : ℕ) (before now : 
 
 -- the whole work on the files of these names
 pub record IsWorkOn (names : CheckNames) (before now : ShelfState)
-    (result : Result ℕ Stop) : Type 0 where
+    (result : Result Accepted Stop) : Type 0 where
   pub never_falls : before.faults ≤ now.faults
   pub told_stays : now.told ≡ before.told
   pub counted : (n : ℕ) × WorksAfter result n × (now.fetches ≡ count_after n before.fetches)
@@ -165,10 +168,11 @@ pub record IsWorkOn (names : CheckNames) (before now : ShelfState)
 
 -- How a run ends after the work, and what it writes: the line of the accepted report or a proper front of it where the
 -- work was done, and nothing where it stopped.
-abbrev pub Concludes : ℕ → ℕ → Option (List ℕ) → Option (List ℕ) → Result ℕ Stop → Status → Type 0
-Concludes before now old new (Ok n) status =
-    ((status ≡ statuses.Done) × (now ≡ before) × Grew old new (accepted_text n))
+abbrev pub Concludes : ℕ → ℕ → Option (List ℕ) → Option (List ℕ) → Result Accepted Stop → Status
+    → Type 0
+Concludes before now old new (Ok accepted) status =
+    ((status ≡ status_of accepted) × (now ≡ before) × Grew old new (accepted_text accepted))
     ⊎ ((status ≡ statuses.WriteFault) × (before ≤ now) × Rose before now
-    × GrewShort old new (accepted_text n))
+    × GrewShort old new (accepted_text accepted))
 Concludes before now old new (Err stop) status =
     (status ≡ status_at stop) × (now ≡ before) × (new ≡ old)

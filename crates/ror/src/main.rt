@@ -2,7 +2,6 @@
 #![tactic(auto)]
 
 mod host;
-mod names;
 mod running;
 mod status;
 #[cfg(test)]

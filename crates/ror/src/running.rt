@@ -10,6 +10,7 @@ use crate::status::Status;
 use crate::texts::{write_accepted, write_status};
 use crate::words::check_names;
 use crate::work::{Stop, check_files};
+use ror_bench::Accepted;
 use ror_io::{Shelf, Sink};
 use std::alloc::Global;
 
@@ -57,13 +58,13 @@ fn status_of<F: Shelf, O: Sink>(
 }
 
 /// Writes the line of an accepted report, if there is one.
-fn conclude<O: Sink>(outcome: Result<u64, Stop>, out: &mut O) -> Status
+fn conclude<O: Sink>(outcome: Result<Accepted, Stop>, out: &mut O) -> Status
     ensures { Concludes (O.faults out.old) (O.faults out.new)
         (O.written out.old) (O.written out.new) outcome result }
 {
     match outcome {
-        Ok(answers) => match write_accepted(out, answers) {
-            Ok(()) => Status::Done,
+        Ok(accepted) => match write_accepted(out, accepted) {
+            Ok(()) => Status::from(accepted),
             Err(_) => Status::WriteFault,
         },
         Err(stop) => Status::from(stop),

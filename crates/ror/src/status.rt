@@ -2,22 +2,22 @@
 
 ghost use Rattle.std.specs.Prelude.{◌≡◌};
 
-use ror_bench::Rejection;
+use ror_bench::{Accepted, Rejection};
 use ror_session::SessionFault;
 use ror_table::TableFault;
 
 /// How a run ended.
 #[derive(Debug, Drop)]
 pub enum Status {
-    /// The work was done to the last line.
+    /// The work was done to the last line, and no answer is too wide.
     Done,
     /// The words are not those of a command.
     Usage,
     /// The table's bytes are no table: the first fault.
     BadTable(TableFault),
-    /// The session's bytes are no session over the table: the first fault.
+    /// The session's bytes are no session: the first fault.
     BadSession(SessionFault),
-    /// The report's bytes are no report that is proved for the session.
+    /// The report's bytes are no report that is proved for the session but for answers that are too wide: why.
     Rejected(Rejection),
     /// A file is not there, or could not be read.
     ReadFault,
@@ -25,6 +25,22 @@ pub enum Status {
     WriteFault,
     /// There was not enough memory.
     Memory,
+    /// The work was done to the last line, and at least one answer is too wide.
+    DoneWide,
+}
+
+impl From<Accepted> for Status {
+    ghost use Rattle.ror.specs.Statuses.{status_of};
+
+    ghost from_gives = { λ accepted status. status ≡ status_of accepted };
+
+    fn from(accepted: Accepted) -> Status {
+        if accepted.wide == 0 {
+            Status::Done
+        } else {
+            Status::DoneWide
+        }
+    }
 }
 
 impl Status {
@@ -43,6 +59,7 @@ impl Status {
             Status::ReadFault => 6,
             Status::WriteFault => 7,
             Status::Memory => 8,
+            Status::DoneWide => 9,
         }
     }
 }

@@ -90,6 +90,20 @@ fn accepts_a_proved_report(rt: HostRuntime) -> Result<(), Fail> {
 }
 
 #[test]
+fn counts_answers_that_are_too_wide(rt: HostRuntime) -> Result<(), Fail> {
+    let case = Case {
+        report: b"ror-report 1\nline 1\nanswer necessary a c wide\nwide 1 step 1 0 path 2:1 0:0\nend 1\n",
+        code: 9,
+        out: b"accepted 0 wide 1\n",
+        ..accepted()
+    };
+    let mut shelf = shelf_of(rt.alloc(), &case)?;
+    let mut out = MemorySink::new(rt.alloc(), 64)?;
+    let mut err = MemorySink::new(rt.alloc(), 0)?;
+    expect(&rt, "check t s r", &case, &mut shelf, &mut out, &mut err)
+}
+
+#[test]
 fn ends_where_a_file_cannot_be_read(rt: HostRuntime) -> Result<(), Fail> {
     let case = refused(accepted(), 6, b"read fault\n");
     for fetch in 1..=3u64 {
@@ -109,6 +123,8 @@ fn ends_where_a_stream_cannot_be_written(rt: HostRuntime) -> Result<(), Fail> {
         (1u64, b"".as_slice()),
         (2, b"accepted ".as_slice()),
         (3, b"accepted 1".as_slice()),
+        (4, b"accepted 1 wide ".as_slice()),
+        (5, b"accepted 1 wide 0".as_slice()),
     ];
     for (write, front) in fronts {
         let case = Case {

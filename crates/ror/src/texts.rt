@@ -6,7 +6,7 @@ ghost use Rattle.ror.specs.Statuses.{kind_text, reject_text, fault_text, reason_
 
 use crate::status::Status;
 use itoa::{Buffer, Integer};
-use ror_bench::{Reason, Rejection};
+use ror_bench::{Accepted, Reason, Rejection};
 use ror_check::CheckFault;
 use ror_io::{Sink, SinkFault, write_all, write_pieces};
 use ror_session::SessionFault;
@@ -20,7 +20,7 @@ pub fn write_status<S: Sink>(sink: &mut S, status: &Status) -> Result<(), SinkFa
         (S.written sink.old) (S.written sink.new) (status_text status.now) result }
 {
     match status {
-        Status::Done => Ok(()),
+        Status::Done | Status::DoneWide => Ok(()),
         Status::Usage => write_text(sink, b"usage: ror check TABLE SESSION REPORT\n"),
         Status::BadTable(fault) => write_table_fault(sink, fault),
         Status::BadSession(fault) => write_session_fault(sink, fault),
@@ -31,13 +31,24 @@ pub fn write_status<S: Sink>(sink: &mut S, status: &Status) -> Result<(), SinkFa
     }
 }
 
-/// Writes the line of an accepted report with so many answers.
+/// Writes the line of an accepted report: how many answers were accepted, and how many are too wide.
 #[tactic(auto, unfolding(crate::specs::Statuses::accepted_text))]
-pub fn write_accepted<S: Sink>(sink: &mut S, answers: u64) -> Result<(), SinkFault>
+pub fn write_accepted<S: Sink>(sink: &mut S, accepted: Accepted) -> Result<(), SinkFault>
     ensures { Prints (S.faults sink.old) (S.faults sink.new)
-        (S.written sink.old) (S.written sink.new) (accepted_text answers) result }
+        (S.written sink.old) (S.written sink.new) (accepted_text accepted) result }
 {
-    write_numbered(sink, b"accepted ", answers, b" wide 0\n")
+    let mut answers = Buffer::new();
+    let mut wide = Buffer::new();
+    write_pieces(
+        sink,
+        &[
+            b"accepted ",
+            answers.format(accepted.answers).as_bytes(),
+            b" wide ",
+            wide.format(accepted.wide).as_bytes(),
+            b"\n",
+        ],
+    )
 }
 
 fn write_text<S: Sink>(sink: &mut S, text: &[u8]) -> Result<(), SinkFault>
@@ -123,6 +134,12 @@ fn write_session_fault<S: Sink>(sink: &mut S, fault: &SessionFault) -> Result<()
         ),
         SessionFault::TooManyLines => write_text(sink, b"bad session: TooManyLines\n"),
         SessionFault::TooLong => write_text(sink, b"bad session: TooLong\n"),
+        SessionFault::TooManyDesks(line) => write_numbered(
+            sink,
+            b"bad session: TooManyDesks line ",
+            *line,
+            b"\n",
+        ),
         SessionFault::Memory => write_text(sink, b"bad session: Memory\n"),
     }
 }

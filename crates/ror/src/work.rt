@@ -1,19 +1,19 @@
 //! The work of a check on its three files. After a fault of the shelf nothing more is fetched.
 
-ghost use Rattle.std.specs.Prelude.{◌≡◌, ◌≤◌, ℕ, List, IfErr, IfOk, length};
-ghost use Rattle.std.specs.List.{AllByRecursion};
+ghost use Rattle.std.specs.Prelude.{◌≡◌, ℕ, List, IfErr, IfOk};
 ghost use Rattle.ror_io.specs.Fetching.{Fetches, IsNoLonger};
+ghost use Rattle.ror_table.specs.Table.{DecisionTable};
 ghost use Rattle.ror_table.specs.Plain.{plain_table};
-ghost use Rattle.ror_bench.specs.Reports.{NamesADesk};
+ghost use Rattle.ror_session.specs.Session.{session_of};
+ghost use Rattle.ror_session.specs.Sound.{IsSound};
 ghost use Rattle.ror.specs.Named.{names_of};
 ghost use Rattle.ror.specs.States.{shelf_state};
-ghost use Rattle.ror.specs.Work.{session_over, ReadsTable, ReadsSession};
+ghost use Rattle.ror.specs.Work.{ReadsTable, ReadsSession};
 ghost use Rattle.ror.specs.Stops.{IsOfBytes, IsFetchOf, IsWorkOn, ReadsTableAs, ReadsSessionAs, Judges, OfToldFiles, ShowsTable, ShowsSession, ShowsWork};
 
-use crate::names::first_refused;
 use crate::status::Status;
 use crate::words::FileNames;
-use ror_bench::{Bench, MOST_REPORT_BYTES, Reason, Rejection, ReportError, check_report};
+use ror_bench::{Accepted, Bench, MOST_REPORT_BYTES, Reason, Rejection, ReportError, check_report};
 use ror_io::{Fetched, Shelf, ShelfFault};
 use ror_session::{Session, SessionFault, read_session};
 use ror_table::{Table, TableError, TableFault, TableKind, read_plain};
@@ -27,9 +27,9 @@ use std::alloc::{AllocError, Global};
 pub enum Stop {
     /// The table's bytes are no table.
     BadTable(TableFault),
-    /// The session's bytes are no session over the table.
+    /// The session's bytes are no session.
     BadSession(SessionFault),
-    /// The report's bytes are no report that is proved for the session.
+    /// The report's bytes are no report that is proved for the session but for answers that are too wide.
     Rejected(Rejection),
     /// A file is not there, or could not be read.
     ReadFault,
@@ -115,19 +115,19 @@ impl From<Stop> for Status {
     }
 }
 
-/// Fetches the three files in order, each once those before it were read, and gives the number of
-/// the report's answers.
+/// Fetches the three files in order, each once those before it were read, and gives how many answers of the report were
+/// accepted and how many are too wide.
 pub fn check_files<F: Shelf>(
     alloc: Global,
     names: &FileNames<'_>,
     shelf: &mut F,
-) -> Result<u64, Stop>
+) -> Result<Accepted, Stop>
     ensures work { IsWorkOn (names_of names.now)
         (shelf_state (F.told shelf.old) (F.faults shelf.old) (F.fetch_count shelf.old))
         (shelf_state (F.told shelf.new) (F.faults shelf.new) (F.fetch_count shelf.new)) result }
 {
     let table = fetch_table(alloc, names, shelf)?;
-    let session = fetch_session(alloc, names, shelf, &table)?;
+    let session = fetch_session(alloc, names, shelf)?;
     check_fetched(alloc, names, shelf, table, &session)
 }
 
@@ -146,29 +146,27 @@ fn table_in(alloc: Global, fetched: Fetched) -> Result<Table, Stop>
     Ok(read_plain(alloc, bytes.as_slice())?)
 }
 
-/// Reads a session that was fetched, and refuses the first line that names an alternative which
-/// the table lacks, or that states after 200 others did.
-fn session_in(alloc: Global, table: &Table, fetched: Fetched) -> Result<Session, Stop>
+/// Reads a session that was fetched.
+fn session_in(alloc: Global, fetched: Fetched) -> Result<Session, Stop>
     ensures reads { (bytes : List ℕ) → Fetches bytes MOST_TEXT_BYTES fetched
-        → ReadsSessionAs (session_over table.now bytes) result }
+        → ReadsSessionAs (session_of bytes) result }
     ensures stop { IfErr result (IsOfBytes 2) }
-    ensures desks { IfOk result (λ s. AllByRecursion (NamesADesk (length s.desks)) s.lines) }
-    ensures few_desks { IfOk result (λ s. length s.desks ≤ 64) }
+    ensures sound { IfOk result IsSound }
 {
     let Fetched::Whole(bytes) = fetched else {
         return Err(Stop::BadSession(SessionFault::TooLong));
     };
-    let session = read_session(alloc, bytes.as_slice())?;
-    if let Some(line) = first_refused(table, session.lines.as_slice()) {
-        return Err(Stop::BadSession(SessionFault::BadLine(line.number)));
-    }
-    Ok(session)
+    Ok(read_session(alloc, bytes.as_slice())?)
 }
 
-/// Checks a report that was fetched, and gives the number of its answers.
-fn answers_in(alloc: Global, table: Table, session: &Session, fetched: Fetched) -> Result<u64, Stop>
-    requires desks { AllByRecursion (NamesADesk (length session.now.desks)) session.now.lines }
-    requires few_desks { length session.now.desks ≤ 64 }
+/// Checks a report that was fetched, and counts its answers.
+fn answers_in(
+    alloc: Global,
+    table: Table,
+    session: &Session,
+    fetched: Fetched,
+) -> Result<Accepted, Stop>
+    requires sound { IsSound session.now }
     requires within { IsNoLonger MOST_REPORT_BYTES fetched }
     ensures judges { (bytes : List ℕ) → Fetches bytes MOST_REPORT_BYTES fetched
         → Judges table session.now bytes result }
@@ -203,34 +201,27 @@ fn fetch_session<F: Shelf>(
     alloc: Global,
     names: &FileNames<'_>,
     shelf: &mut F,
-    table: &Table,
 ) -> Result<Session, Stop>
     ensures fetch { IsFetchOf names.now.session.now 2
         (shelf_state (F.told shelf.old) (F.faults shelf.old) (F.fetch_count shelf.old))
         (shelf_state (F.told shelf.new) (F.faults shelf.new) (F.fetch_count shelf.new)) result }
-    ensures shows { OfToldFiles (F.told shelf.old) (F.faults shelf.old) (F.faults shelf.new)
-        (λ files. ReadsTable files (names_of names.now) table.now
-        → ShowsSession (names_of names.now) table.now result files) }
-    ensures desks { IfOk result (λ s. AllByRecursion (NamesADesk (length s.desks)) s.lines) }
-    ensures few_desks { IfOk result (λ s. length s.desks ≤ 64) }
+    ensures shows { (t : DecisionTable) → OfToldFiles (F.told shelf.old) (F.faults shelf.old)
+        (F.faults shelf.new) (λ files. ReadsTable files (names_of names.now) t
+        → ShowsSession (names_of names.now) t result files) }
+    ensures sound { IfOk result IsSound }
 {
-    session_in(
-        alloc,
-        table,
-        shelf.fetch(alloc, names.session, MOST_TEXT_BYTES)?,
-    )
+    session_in(alloc, shelf.fetch(alloc, names.session, MOST_TEXT_BYTES)?)
 }
 
-/// Fetches and checks the report, and gives the number of its answers.
+/// Fetches and checks the report, and counts its answers.
 fn check_fetched<F: Shelf>(
     alloc: Global,
     names: &FileNames<'_>,
     shelf: &mut F,
     table: Table,
     session: &Session,
-) -> Result<u64, Stop>
-    requires desks { AllByRecursion (NamesADesk (length session.now.desks)) session.now.lines }
-    requires few_desks { length session.now.desks ≤ 64 }
+) -> Result<Accepted, Stop>
+    requires sound { IsSound session.now }
     ensures fetch { IsFetchOf names.now.report.now 3
         (shelf_state (F.told shelf.old) (F.faults shelf.old) (F.fetch_count shelf.old))
         (shelf_state (F.told shelf.new) (F.faults shelf.new) (F.fetch_count shelf.new)) result }

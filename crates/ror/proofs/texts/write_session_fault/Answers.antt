@@ -16,3 +16,6 @@ returns-in-TooLong g c = rw (ap session_line c.in-TooLong.is) c.write_text-in-To
 
 pub returns-in-Memory : goal.returns-in-Memory
 returns-in-Memory g c = rw (ap session_line c.in-Memory.is) c.write_text-in-Memory.ensures
+
+pub returns-in-TooManyDesks : goal.returns-in-TooManyDesks
+returns-in-TooManyDesks g c = rw (ap session_line c.in-TooManyDesks.is) c.write_numbered-in-TooManyDesks.ensures

@@ -12,7 +12,7 @@ returns-in_err-session g c =
     let second = c.in_err-session.ensures.fetch in
     rw (p.1, p.2) (record {
       work = stopped_second (names_of c.args.names.now) _ _ _ _ _ first second (λ files is stayed.
-          c.in_err-session.ensures.shows files (first.told_stays ∙ is) (DidNotRise-second _ _ _ first.never_falls second.never_falls stayed) (c.in_ok-table.ensures.shows files is (DidNotRise-first _ _ _ first.never_falls second.never_falls stayed)));
+          c.in_err-session.ensures.shows _ files (first.told_stays ∙ is) (DidNotRise-second _ _ _ first.never_falls second.never_falls stayed) (c.in_ok-table.ensures.shows files is (DidNotRise-first _ _ _ first.never_falls second.never_falls stayed)));
     })
 
 pub returns : goal.returns
@@ -27,5 +27,5 @@ returns g c =
           let still = DidNotRise-first _ _ _ (omega (arith, up, more)) third.never_falls stayed in
           let table = c.in_ok-table.ensures.shows files is (DidNotRise-first _ _ _ up more still) in
           let told = first.told_stays ∙ is in
-          c.check_fetched.ensures.shows files (second.told_stays ∙ told) (DidNotRise-second _ _ _ (omega (arith, up, more)) third.never_falls stayed) (c.in_ok-session.ensures.shows files told (DidNotRise-second _ _ _ up more still) table));
+          c.check_fetched.ensures.shows files (second.told_stays ∙ told) (DidNotRise-second _ _ _ (omega (arith, up, more)) third.never_falls stayed) (c.in_ok-session.ensures.shows _ files told (DidNotRise-second _ _ _ up more still) table));
     }
