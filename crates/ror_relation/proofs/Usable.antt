@@ -32,13 +32,21 @@ few_by Plain es few = omega arith
 few_by Any es few = omega arith
 few_by Every es few = omega (arith, length-map es (λ e. negation_of e ∷ []), few)
 
-pub usable : (t : DecisionTable) (list : List Statement) (q : Question) (systems : List (SmallVec Extra)) → IsLawfulIn t list → IsAskedIn t q → map extras_of systems ≡ systems_of_question list q → AllByRecursion (AreUsable t) (map extras_of systems)
-usable t list q systems lawful asked are =
+-- ---- the systems of a question
+
+pub usable_systems : (t : DecisionTable) (list : List Statement) (q : Question) → IsLawfulIn t list → IsAskedIn t q → AllByRecursion (AreUsable t) (systems_of_question list q)
+usable_systems t list q lawful asked = usable_by t (kind_of q) (conditions_of list (property_of q)) (conditions_few t list (property_of q) lawful) (conditions_named t list (property_of q) lawful asked)
+
+pub few_systems : (t : DecisionTable) (list : List Statement) (q : Question) → IsLawfulIn t list → length (systems_of_question list q) ≤ 200
+few_systems t list q lawful =
     let es = conditions_of list (property_of q) in
-    subst (λ (s : List (List Comparison)). AllByRecursion (AreUsable t) s) (sym are) (usable_by t (kind_of q) es (conditions_few t list (property_of q) lawful) (conditions_named t list (property_of q) lawful asked))
+    let bound = few_by (kind_of q) es (conditions_few t list (property_of q) lawful) in
+    omega (arith, length-map (systems_by (kind_of q) es) (map comparison_of_extra), bound)
+
+pub usable : (t : DecisionTable) (list : List Statement) (q : Question) (systems : List (SmallVec Extra)) → IsLawfulIn t list → IsAskedIn t q → map extras_of systems ≡ systems_of_question list q → AllByRecursion (AreUsable t) (map extras_of systems)
+usable t list q systems lawful asked are = subst (λ (s : List (List Comparison)). AllByRecursion (AreUsable t) s) (sym are) (usable_systems t list q lawful asked)
 
 pub few : (t : DecisionTable) (list : List Statement) (q : Question) (systems : List (SmallVec Extra)) → IsLawfulIn t list → map extras_of systems ≡ systems_of_question list q → length systems ≤ 200
 few t list q systems lawful are =
-    let es = conditions_of list (property_of q) in
-    let bound = few_by (kind_of q) es (conditions_few t list (property_of q) lawful) in
-    omega (arith, length-map systems extras_of, ap length are, length-map (systems_by (kind_of q) es) (map comparison_of_extra), bound)
+    let bound = few_systems t list q lawful in
+    omega (arith, length-map systems extras_of, ap length are, bound)
