@@ -7,3 +7,4 @@ pub mod AnswerLemmas
 pub mod Utf8Proofs
 pub mod ReportProofs
 pub mod Truth
+pub mod PrintableLemmas

@@ -1,5 +1,5 @@
 -- Which block is one of a line, over what its desk holds, and what the desk holds then.
-use Rattle.std.specs.Prelude.{◌≡◌, ℕ, ◌-◌, true, false, List, [], ◌∷◌, length, take, count_by, Option, Some, None, Result, Ok, slice_set}
+use Rattle.std.specs.Prelude.{◌≡◌, ◌-◌, true, false, List, [], ◌∷◌, length, take, count_by, Option, Some, None, Result, Ok, slice_set}
 use Rattle.std.specs.Bool.{beq}
 use Rattle.std.specs.List.{AllByRecursion, AllZip}
 use Rattle.std.specs.Result.{result_ok}
@@ -15,7 +15,8 @@ use Rattle.ror_report.specs.declared.block.Block.{Block}
 use Rattle.ror_report.specs.declared.block.Body.{Body}
 use Rattle.ror_report.specs.declared.block.Body.TheVariants.{Added, Withdrawn, Replaced, Undone, Answers, Refused}
 use Rattle.ror_report.specs.declared.block.LineFault.{LineFault}
-use Rattle.ror_report.specs.Text.{answers_of}
+use Rattle.ror_report.specs.Printing.{HasValidQuestion, HasNarrowVerdict}
+use Rattle.ror_report.specs.Text.{answers_of, IsPrintableBlock}
 use Rattle.ror_history.specs.History.{Revision, addition, withdrawal, replacement, Revisions, with_revision, next_number, statements_of}
 use Rattle.ror_bench.specs.Bench.{Workbench, revisions_at}
 use Rattle.ror_bench.specs.Names.{statement_of, questions_of}
@@ -62,6 +63,15 @@ pub record IsBlockOf (HasAnswer : Answering) (t : DecisionTable) (r : Revisions)
     (block : Block) : Type 0 where
   pub number : block.line ≡ line.number
   pub body : IsBodyOf HasAnswer t r line.command block.body
+
+-- ---- its text
+
+-- The block has a text, which is read back as it, and is what a printer takes: its answers are to valid questions of the
+-- table, and no number of their certificates is too wide for a report.
+pub record HasText (t : DecisionTable) (block : Block) : Type 0 where
+  pub printable : IsPrintableBlock t block
+  pub valid : AllByRecursion (HasValidQuestion t) (answers_of block.body)
+  pub narrow : AllByRecursion HasNarrowVerdict (answers_of block.body)
 
 -- ---- what the desk holds then
 

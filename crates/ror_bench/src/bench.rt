@@ -9,7 +9,7 @@ ghost use Rattle.ror_relation.specs.Answers.{IsGiven};
 ghost use Rattle.ror_history.specs.History.{next_number, statements_of};
 ghost use Rattle.ror_report.specs.Text.{answers_of};
 ghost use Rattle.ror_bench.specs.Bench.{Workbench, revisions_at, bench_of, IsLawfulBench};
-ghost use Rattle.ror_bench.specs.Blocks.{IsBlockOf, IsProvedBlock, passed_of, AreTrue, with_block};
+ghost use Rattle.ror_bench.specs.Blocks.{IsBlockOf, HasText, IsProvedBlock, passed_of, AreTrue, with_block};
 ghost use Rattle.ror_bench.specs.Faults.{FailsBlock, IsEarlierBlockFault};
 ghost use Rattle.ror_bench.specs.Steps as steps;
 ghost use Rattle.ror_bench.specs.declared.bench.BlockFault.TheVariants.{Memory};
@@ -120,7 +120,8 @@ impl Bench {
     }
 
     /// Does the line at its desk, questions being decided at this width, and gives its block: what was made, the answers, or
-    /// the first refusal. Another desk never changes, and this one by its own statements alone.
+    /// the first refusal. Another desk never changes, and this one by its own statements alone. The block has a text, which is
+    /// read back as it.
     ///
     /// It asks that the desk has a number left. Its one error is want of memory, which changes nothing.
     pub fn step(&mut self, line: &Line, bits: Bits) -> Result<Block, AllocError>
@@ -128,9 +129,12 @@ impl Bench {
         requires number { next_number (revisions_at self.old line.now.desk) < 2 ^ 32 - 1 }
         ensures block { IfOk result (IsBlockOf (IsGiven (most_of bits)) self.old.table
             (revisions_at self.old line.now.desk) line.now) }
+        ensures text { IfOk result (HasText self.old.table) }
         ensures moved { IfOk result (λ block. self.new ≡ with_block self.old line.now block) }
         ensures kept { IfErr result (λ _. self.new ≡ self.old) }
     {
+        // The systems of an answer have at most as many columns as a table, and each table has alternatives.
+        prove!(self.table.alternatives() > 0);
         let history = &mut self.desks[line.desk as usize];
         let body = perform(self.alloc, &self.table, history, &line.command, bits)?;
         Ok(Block {
