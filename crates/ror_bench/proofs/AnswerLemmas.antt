@@ -80,7 +80,7 @@ to_each t list (q ∷ qs) [] e = absurd cc
 to_each t list (q ∷ qs) (x ∷ xs) e = ((let first : x.question ≡ q = cc in first), to_each t list qs xs (let others : map (λ (y : Answer). y.question) xs ≡ qs = cc in others))
 
 -- the questions of a line are one list
-one_list : (questions : Result (List Question) LineFault) (qs rs : List Question) → questions ≡ Ok qs → questions ≡ Ok rs → rs ≡ qs
+pub one_list : (questions : Result (List Question) LineFault) (qs rs : List Question) → questions ≡ Ok qs → questions ≡ Ok rs → rs ≡ qs
 one_list questions qs rs e f = (let both = sym e ∙ f in cc)
 
 -- ---- the answers of a body

@@ -8,3 +8,5 @@ pub mod Utf8Proofs
 pub mod ReportProofs
 pub mod Truth
 pub mod PrintableLemmas
+pub mod ApartLemmas
+pub mod AgreeLemmas

@@ -1,5 +1,5 @@
 -- What is left of a report, block by block, that reading it is a function, and what a rejected one is.
-use Rattle.std.proofs.Common.{length-set, append-nil, inl, inr, rules, ◌≡◌, ◌≢◌, ℕ, zero, suc, ◌+◌, ◌<◌, ◌≤◌, ◌^◌, ◌-◌, true, false, List, [], ◌∷◌, ◌++◌, length, drop, get_or, Some, Result, Ok, Err, refl, sym, ap, ◌∙◌, subst, append_assoc, length-append, zero-add, add-one, drop-cons, arith}
+use Rattle.std.proofs.Common.{length-set, append-nil, inl, inr, rules, ◌≡◌, ◌≢◌, ℕ, zero, suc, ◌+◌, ◌<◌, ◌≤◌, ◌^◌, true, false, List, [], ◌∷◌, ◌++◌, length, drop, get_or, Some, Result, Ok, Err, refl, sym, ap, ◌∙◌, subst, append_assoc, length-append, zero-add, add-one, drop-cons, arith}
 use Rattle.std.specs.Prelude.{codes, IfErr, IfSome, ◌==◌, ◌⊎◌, slice_set}
 use Rattle.std.proofs.lemmas.Bool.{cases_lt}
 use Rattle.std.specs.List.{AllByRecursion, flat_map, sum_by, filter}
@@ -146,10 +146,10 @@ no_rest start before total bytes text = record { blocks = []; text = text; print
 
 -- ---- what the desks hold
 
-same_number : (m n : ℕ) → m ≡ n → (m == n) ≡ true
+pub same_number : (m n : ℕ) → m ≡ n → (m == n) ≡ true
 same_number m n e = search rules
 
-other_number : (m n : ℕ) → m ≢ n → (m == n) ≡ false
+pub other_number : (m n : ℕ) → m ≢ n → (m == n) ≡ false
 other_number m n ne = search rules
 
 pub number_cases : (m n : ℕ) → (m ≡ n) ⊎ (m ≢ n)
@@ -245,11 +245,12 @@ pub record IsWay (start : Workbench) (lines : List Line) (bytes : List ℕ) (pla
   pub completes : (x : Accepted) → IsRest start before left (length lines) (drop from bytes) x → IsProvedReport start lines bytes (record { answers = accepted.answers + x.answers; wide = accepted.wide + x.wide })
   pub rejects : (rejection : Rejection) → IsRejectedFrom start bytes rejection before left from → IsRejectedFrom start bytes rejection [] lines place
 
-lengths : (start : Workbench) (before : List (Line × Block)) (xs : List Line) (ys : List Block) → EachHolds (IsProvedBlock start.table) start before xs ys → length xs ≡ length ys
-lengths start before [] [] h = refl
-lengths start before [] (y ∷ ys) h = absurd h
-lengths start before (x ∷ xs) [] h = absurd h
-lengths start before (x ∷ xs) (y ∷ ys) h = let others = lengths start (before ++ (x, y) ∷ []) xs ys h.1 in omega arith
+-- there is a block for each line
+pub as_many : (P : Revisions → Line → Block → Type 0) (bench : Workbench) (before : List (Line × Block)) (xs : List Line) (ys : List Block) → EachHolds P bench before xs ys → length xs ≡ length ys
+as_many P bench before [] [] all = refl
+as_many P bench before [] (y ∷ ys) all = absurd all
+as_many P bench before (x ∷ xs) [] all = absurd all
+as_many P bench before (x ∷ xs) (y ∷ ys) all = let others = as_many P bench (before ++ (x, y) ∷ []) xs ys all.1 in omega arith
 
 from_nothing : (x : Accepted) → record { answers = 0 + x.answers; wide = 0 + x.wide } ≡ x
 from_nothing x = ap (λ n. record { answers = n; wide = 0 + x.wide }) (zero-add x.answers) ∙ ap (λ n. record { answers = x.answers; wide = n }) (zero-add x.wide)
@@ -263,10 +264,10 @@ way_begins start lines bytes place header =
       counted = refl;
       after = after_nothing start;
       completes = λ x rest.
-          let as_many = lengths start [] lines rest.blocks rest.proved in
+          let count = as_many (IsProvedBlock t) start [] lines rest.blocks rest.proved in
           record {
             blocks = rest.blocks;
-            text = is.1 ∙ ap (λ (l : List ℕ). header_text ++ l) (rest.text ∙ ap (λ m. flat_map (block_text t) rest.blocks ++ end_text m) as_many);
+            text = is.1 ∙ ap (λ (l : List ℕ). header_text ++ l) (rest.text ∙ ap (λ m. flat_map (block_text t) rest.blocks ++ end_text m) count);
             printable = rest.printable;
             proved = rest.proved;
             counted = from_nothing x ∙ rest.counted;
@@ -342,7 +343,7 @@ first_read start before line lines total bytes from table first =
 ok_read : Block × Cursor → Result (Block × Cursor) ReportFault
 ok_read p = Ok p
 
-one_read : (r : Result (Block × Cursor) ReportFault) (p q : Block × Cursor) → r ≡ Ok p → r ≡ Ok q → q ≡ p
+pub one_read : (r : Result (Block × Cursor) ReportFault) (p q : Block × Cursor) → r ≡ Ok p → r ≡ Ok q → q ≡ p
 one_read r p q e f = (let both = sym e ∙ f in cc)
 
 next_not_first : (start : Workbench) (before : List (Line × Block)) (line : Line) (lines : List Line) (total : ℕ) (bytes : List ℕ) (from : ℕ) (reason : Reason) → IsTable start.table → HasFirst start before line lines total (drop from bytes) → RejectsNext start.table (revisions_then start before line.desk) line bytes from reason → ⊥
@@ -382,11 +383,11 @@ rejected_not_proved bench lines bytes rejection accepted table short (no_header 
     absurd (let both = sym none ∙ ap header_at report.text ∙ back in cc)
 rejected_not_proved bench lines bytes rejection accepted table short (in_blocks text place header from) report =
     let is = header_is_text bytes place header in
-    let as_many = lengths bench [] lines report.blocks report.proved in
+    let count = as_many (IsProvedBlock bench.table) bench [] lines report.blocks report.proved in
     let few = few_blocks bench lines bytes accepted short report in
     let rest : IsRest bench [] lines (length lines) (drop place bytes) accepted = record {
       blocks = report.blocks;
-      text = append_cancel_left header_text (drop place bytes) (flat_map (block_text bench.table) report.blocks ++ end_text (length report.blocks)) (sym is.1 ∙ report.text) ∙ ap (λ k. flat_map (block_text bench.table) report.blocks ++ end_text k) (sym as_many);
+      text = append_cancel_left header_text (drop place bytes) (flat_map (block_text bench.table) report.blocks ++ end_text (length report.blocks)) (sym is.1 ∙ report.text) ∙ ap (λ k. flat_map (block_text bench.table) report.blocks ++ end_text k) (sym count);
       printable = report.printable;
       proved = report.proved;
       counted = report.counted;

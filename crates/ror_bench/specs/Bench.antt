@@ -1,5 +1,5 @@
 -- A workbench: a table, and what each desk holds.
-use Rattle.std.specs.Prelude.{◌≡◌, ℕ, ◌+◌, ◌<◌, ◌^◌, ◌-◌, List, [], ◌++◌, replicate, slice_index_or}
+use Rattle.std.specs.Prelude.{◌≡◌, ℕ, ◌+◌, ◌<◌, ◌^◌, List, [], ◌++◌, replicate, slice_index_or}
 use Rattle.std.specs.List.{AllByRecursion}
 use Rattle.ror_table.specs.Table.{DecisionTable}
 use Rattle.ror_value.specs.declared.input.Input.{Input}

@@ -1,5 +1,6 @@
 pub mod Bench
 pub mod Blocks
+pub mod Desks
 pub mod Faults
 pub mod Laws
 pub mod Lines

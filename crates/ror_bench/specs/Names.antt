@@ -1,5 +1,5 @@
 -- The statement, or the questions, of a line's names: each has its place in the table, or the line is refused.
-use Rattle.std.specs.Prelude.{ℕ, List, [], ◌∷◌, length, Option, Some, None, Result, Ok, nat_lt, if◌then◌else◌}
+use Rattle.std.specs.Prelude.{ℕ, List, [], ◌∷◌, length, Option, Some, None, Result, Ok, nat_lt}
 use Rattle.ror_text.specs.Reading.{◌>>=◌, refuse, need}
 use Rattle.ror_table.specs.Table.{DecisionTable, alternative_named, criterion_named}
 use Rattle.ror_statement.specs.declared.comparison.Pair.{Pair}

@@ -1,5 +1,5 @@
 -- What each step of a line and of a check leaves to the next, and the error that a fault is.
-use Rattle.std.specs.Prelude.{◌≡◌, ◌≢◌, ◌⊎◌, ℕ, ◌+◌, false, List, [], ◌++◌, drop, map, Option, Some, None, Result, Ok, Err}
+use Rattle.std.specs.Prelude.{◌≡◌, ◌≢◌, ◌⊎◌, ℕ, ◌+◌, false, List, ◌++◌, drop, map, Option, Some, None, Result, Ok, Err}
 use Rattle.std.specs.List.{AllByRecursion, flat_map}
 use Rattle.ror_text.specs.FirstFault.{IsFirst}
 use Rattle.ror_statement.specs.declared.statement.Statement.{Statement}

@@ -1,6 +1,7 @@
 //! Each function here states one law, for all benches, lines, blocks and reports, and does nothing.
 
 ghost use Rattle.ror_bench.specs.Laws.{ProvedBlocksAreTrue, ProvedReportsAreTrue, RejectedIsNotProved};
+ghost use Rattle.ror_bench.specs.Desks.{DesksStandApart, ProvedDeskByDesk, GivenDeskByDesk, DesksAgree, NarrowConcludes};
 
 /// The answers of a proved block are true of all value functions that are compatible with what stands at its desk.
 pub fn proved_blocks_are_true()
@@ -15,4 +16,15 @@ pub fn proved_reports_are_true()
 /// What is rejected for a first fault is not the text of a proved report.
 pub fn rejected_is_not_proved()
     ensures { RejectedIsNotProved }
+{}
+
+/// What a desk holds at each of its turns goes by what is said there, in whatever interleaving with other desks. Blocks are
+/// proved, or may be given at a width, exactly where those of each desk are; what is said at a desk then goes by the commands
+/// there, but for proofs and for which answers are too wide: none that is given is where no number on a path is.
+pub fn desks_apart()
+    ensures apart { DesksStandApart }
+    ensures desk_by_desk { ProvedDeskByDesk }
+    ensures given { GivenDeskByDesk }
+    ensures agree { DesksAgree }
+    ensures narrow { NarrowConcludes }
 {}

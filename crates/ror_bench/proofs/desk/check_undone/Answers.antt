@@ -1,4 +1,4 @@
-use Rattle.std.proofs.Common.{[], Err}
+use Rattle.std.proofs.Common.{Err}
 use Rattle.ror_session.specs.declared.session.Command.TheVariants.{Undo}
 use Rattle.ror_report.specs.declared.block.LineFault.TheVariants as lines
 use Rattle.ror_bench.specs.declared.stop.LineStop.TheVariants as stops

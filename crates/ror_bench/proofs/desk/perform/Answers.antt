@@ -5,7 +5,7 @@ use Rattle.ror_session.specs.declared.session.Command.{Command}
 use Rattle.ror_session.specs.declared.session.Command.TheVariants.{State, Withdraw, Replace, Undo, Ask}
 use Rattle.ror_relation.specs.Answers.{IsGiven}
 use Rattle.ror_report.specs.declared.block.Body.TheVariants as bodies
-use Rattle.ror_bench.specs.Blocks.{IsBodyOf, refused}
+use Rattle.ror_bench.specs.Blocks.{IsBodyOf}
 use Rattle.ror_bench.proofs.BodyLemmas.{given_body}
 use Rattle.ror_bench.proofs.AnswerLemmas.{answers_body, stop_refused}
 use Rattle.ror_bench.proofs.desk.perform.Goals as goal

@@ -1,0 +1,183 @@
+-- That bodies which are proved over the same commands agree, whatever proofs they have.
+use Rattle.std.proofs.Common.{inl, inr, zero, suc, ◌≡◌, ℕ, Bool, true, false, List, [], ◌∷◌, length, map, get_or, Some, refl, sym, ap, ◌∙◌, subst, arith}
+use Rattle.std.specs.Prelude.{cond, ◌==◌}
+use Rattle.std.specs.List.{AllByRecursion, AllZip, filter}
+use Rattle.ror_text.proofs.FirstFaultLemmas.{first_at}
+use Rattle.ror_statement.specs.declared.statement.Statement.{Statement}
+use Rattle.ror_statement.specs.declared.question.Question.{Question}
+use Rattle.ror_statement.specs.declared.question.Conclusion.{Conclusion}
+use Rattle.ror_statement.specs.declared.question.Conclusion.TheVariants as conclusions
+use Rattle.ror_table.specs.Table.{DecisionTable}
+use Rattle.ror_value.specs.Meaning.{Answers}
+use Rattle.ror_value.specs.Over.{IsLawfulIn, IsAskedIn}
+use Rattle.ror_value.proofs.Conclusions.{one_conclusion}
+use Rattle.ror_session.specs.declared.session.Line.{Line}
+use Rattle.ror_session.specs.declared.session.Command.{Command}
+use Rattle.ror_session.specs.declared.session.Command.TheVariants.{State, Withdraw, Replace, Undo, Ask}
+use Rattle.ror_proof.specs.declared.answer.Answer.{Answer}
+use Rattle.ror_proof.specs.declared.answer.Verdict.{Verdict}
+use Rattle.ror_proof.specs.declared.answer.Verdict.TheVariants as verdicts
+use Rattle.ror_system.specs.System.{LinearSystem}
+use Rattle.ror_proof.specs.declared.answer.WideText.{WideText}
+use Rattle.ror_check.specs.Proof.{IsWideOrTrue, IsAllowedVerdict, base_system}
+use Rattle.ror_relation.specs.Wide.{HasNoteAt}
+use Rattle.ror_check.proofs.ManyAnswers.{wide_or_true}
+use Rattle.ror_report.specs.declared.block.Block.{Block}
+use Rattle.ror_report.specs.declared.block.Body.{Body}
+use Rattle.ror_report.specs.declared.block.Body.TheVariants as bodies
+use Rattle.ror_report.specs.declared.block.LineFault.{LineFault}
+use Rattle.ror_report.specs.declared.block.LineFault.TheVariants as faults
+use Rattle.ror_report.specs.Text.{answers_of}
+use Rattle.ror_history.specs.History.{Revisions, next_number, statements_of}
+use Rattle.ror_bench.specs.Bench.{Workbench, revisions_at, IsLawfulThroughout}
+use Rattle.ror_bench.specs.Lines.{FailsLine, line_stage, IsRefusedFor}
+use Rattle.ror_bench.specs.Blocks.{IsBodyOf, refused, taken, IsProvedUnlessWide, IsProvedBlock, revisions_with}
+use Rattle.ror_bench.specs.Reports.{EachHolds, at_desk}
+use Rattle.ror_bench.specs.Desks.{with_blocks, said_at, IsTurnOf, turns_at, commands_at, bodies_at, conclusion_of, ConcludesAs, AgreesWith, DesksAgree, IsSystemFor, NarrowConcludes}
+use Rattle.ror_bench.proofs.NameLemmas.{questions_valid}
+use Rattle.ror_bench.proofs.AnswerLemmas.{one_list}
+use Rattle.ror_bench.proofs.LawfulLemmas.{lawful_now, moved_lawful}
+use Rattle.ror_bench.proofs.ReportProofs.{as_many}
+use Rattle.ror_bench.proofs.ApartLemmas.{turns_along, what_is_said, turns_are, turns_of_blocks}
+
+-- ---- a line is refused for one fault
+
+-- each fault is the one of its stage
+abbrev fault_at : ℕ → LineFault
+fault_at n = get_or (faults.UnknownAlternative ∷ faults.UnknownCriterion ∷ faults.UnknownClass ∷ faults.BadInterval ∷ faults.NoSuchStatement ∷ faults.NothingToUndo ∷ faults.TooManyStatements ∷ faults.TooManyRows ∷ faults.TooManyPairs ∷ []) n faults.TooManyPairs
+
+fault_again : (fault : LineFault) → fault_at (line_stage fault) ≡ fault
+fault_again faults.UnknownAlternative = refl
+fault_again faults.UnknownCriterion = refl
+fault_again faults.UnknownClass = refl
+fault_again faults.BadInterval = refl
+fault_again faults.NoSuchStatement = refl
+fault_again faults.NothingToUndo = refl
+fault_again faults.TooManyStatements = refl
+fault_again faults.TooManyRows = refl
+fault_again faults.TooManyPairs = refl
+
+one_refusal : (t : DecisionTable) (r : Revisions) (command : Command) (f g : LineFault) → IsRefusedFor t r command f → IsRefusedFor t r command g → f ≡ g
+one_refusal t r command f g first second =
+    let at = first_at (FailsLine t r command) line_stage (λ _. 0) f g first second in
+    sym (fault_again f) ∙ ap fault_at at.0 ∙ fault_again g
+
+-- ---- true answers conclude the same
+
+concluded_true : (t : DecisionTable) (list : List Statement) (q : Question) (v : Verdict) (c : Conclusion) → conclusion_of v ≡ Some c → IsWideOrTrue t list q v → Answers t list q c
+concluded_true t list q (verdicts.Yes proof) c is h = subst (Answers t list q) (let same : conclusions.Yes ≡ c = cc in same) h
+concluded_true t list q (verdicts.No proof) c is h = subst (Answers t list q) (let same : conclusions.No ≡ c = cc in same) h
+concluded_true t list q (verdicts.Contradiction proof) c is h = subst (Answers t list q) (let same : conclusions.Contradiction ≡ c = cc in same) h
+concluded_true t list q (verdicts.Wide system note) c is h = absurd (let none = is in cc)
+
+concludes_as : (t : DecisionTable) (list : List Statement) (q : Question) (x y : Answer) → IsLawfulIn t list → IsAskedIn t q → IsProvedUnlessWide t list q x → IsProvedUnlessWide t list q y → ConcludesAs x y
+concludes_as t list q x y lawful asked first second = record {
+  question = first.question ∙ sym second.question;
+  conclusion = λ c d of_x of_y. one_conclusion t list q c d
+      (concluded_true t list q x.verdict c of_x (wide_or_true t list q x.verdict lawful asked first.proof))
+      (concluded_true t list q y.verdict d of_y (wide_or_true t list q y.verdict lawful asked second.proof));
+}
+
+answers_agree : (t : DecisionTable) (list : List Statement) (qs : List Question) (xs ys : List Answer) → IsLawfulIn t list → AllByRecursion (IsAskedIn t) qs → AllZip (IsProvedUnlessWide t list) qs xs → AllZip (IsProvedUnlessWide t list) qs ys → AllZip ConcludesAs xs ys
+answers_agree t list [] [] [] lawful asked first second = tt
+answers_agree t list [] [] (y ∷ ys) lawful asked first second = absurd second
+answers_agree t list [] (x ∷ xs) ys lawful asked first second = absurd first
+answers_agree t list (q ∷ qs) [] ys lawful asked first second = absurd first
+answers_agree t list (q ∷ qs) (x ∷ xs) [] lawful asked first second = absurd second
+answers_agree t list (q ∷ qs) (x ∷ xs) (y ∷ ys) lawful asked first second = (concludes_as t list q x y lawful asked.0 first.0 second.0, answers_agree t list qs xs ys lawful asked.1 first.1 second.1)
+
+-- ---- a command has one body, but for proofs
+
+module _ (t : DecisionTable) (r : Revisions) where
+  -- the bodies agree, and the desk has the same revisions after both
+  abbrev IsAlike : Command → Body → Body → Type 0
+  IsAlike command a b = AgreesWith a b × (revisions_with t r command a ≡ revisions_with t r command b)
+
+  alike_at : (command : Command) (body a b : Body) → AgreesWith body body → a ≡ body → b ≡ body → IsAlike command a b
+  alike_at command body a b same of_a of_b = subst (λ (x : Body). IsAlike command x b) (sym of_a) (subst (IsAlike command body) (sym of_b) (same, refl))
+
+  asked_alike : (command : Command) (a b : Body) → a ≡ bodies.Answers (answers_of a) → b ≡ bodies.Answers (answers_of b) → AllZip ConcludesAs (answers_of a) (answers_of b) → IsAlike command a b
+  asked_alike command a b of_a of_b same = (subst (λ (x : Body). AgreesWith x b) (sym of_a) (subst (AgreesWith (bodies.Answers (answers_of a))) (sym of_b) same), ap (revisions_with t r command) of_a ∙ sym (ap (revisions_with t r command) of_b))
+
+  one_body : (command : Command) (a b : Body) → IsLawfulIn t (statements_of r) → IsBodyOf IsProvedUnlessWide t r command a → IsBodyOf IsProvedUnlessWide t r command b → IsAlike command a b
+  one_body command a b lawful (refused f first of_a) (refused g second of_b) = alike_at command (bodies.Refused f) a b refl of_a (of_b ∙ ap (λ (x : LineFault). bodies.Refused x) (one_refusal t r command g f second first))
+  one_body command a b lawful (refused f first of_a) (taken passes of_b) = absurd (passes f first.fails)
+  one_body command a b lawful (taken passes of_a) (refused g second of_b) = absurd (passes g second.fails)
+  one_body (State named) a b lawful (taken passes of_a) (taken likewise of_b) = alike_at (State named) (bodies.Added (next_number r)) a b refl of_a of_b
+  one_body (Withdraw n) a b lawful (taken passes of_a) (taken likewise of_b) = alike_at (Withdraw n) (bodies.Withdrawn n) a b refl of_a of_b
+  one_body (Replace n named) a b lawful (taken passes of_a) (taken likewise of_b) = alike_at (Replace n named) (bodies.Replaced n) a b refl of_a of_b
+  one_body Undo a b lawful (taken passes of_a) (taken likewise of_b) = alike_at Undo bodies.Undone a b refl of_a of_b
+  one_body (Ask asked) a b lawful (taken passes of_a) (taken likewise of_b) =
+      let one = of_a.1 in
+      let other = of_b.1 in
+      let same : other.asked ≡ one.asked = one_list _ one.asked other.asked one.named other.named in
+      let each = subst (λ (qs : List Question). AllZip (IsProvedUnlessWide t (statements_of r)) qs (answers_of b)) same other.each in
+      asked_alike (Ask asked) a b of_a.0 of_b.0 (answers_agree t (statements_of r) one.asked (answers_of a) (answers_of b) lawful (questions_valid t asked one.asked one.named) one.each each)
+
+-- ---- along a desk
+
+agree_along : (t : DecisionTable) (r : Revisions) (xs ys : List (Command × Body)) → IsLawfulThroughout t r → AllByRecursion (IsTurnOf IsProvedUnlessWide t) (turns_along t r xs) → AllByRecursion (IsTurnOf IsProvedUnlessWide t) (turns_along t r ys) → map (λ (x : Command × Body). x.0) xs ≡ map (λ (y : Command × Body). y.0) ys
+    → AllZip AgreesWith (map (λ (x : Command × Body). x.1) xs) (map (λ (y : Command × Body). y.1) ys)
+agree_along t r [] [] lawful one other same = tt
+agree_along t r [] (y ∷ ys) lawful one other same = absurd cc
+agree_along t r (x ∷ xs) [] lawful one other same = absurd cc
+agree_along t r (x ∷ xs) (y ∷ ys) lawful one other same =
+    let command : y.0 ≡ x.0 = cc in
+    let others : map (λ (x : Command × Body). x.0) xs ≡ map (λ (y : Command × Body). y.0) ys = cc in
+    let here : IsBodyOf IsProvedUnlessWide t r x.0 y.1 = subst (λ (c : Command). IsBodyOf IsProvedUnlessWide t r c y.1) command other.0 in
+    let alike = one_body t r x.0 x.1 y.1 (lawful_now t r lawful) one.0 here in
+    let moved : revisions_with t r y.0 y.1 ≡ revisions_with t r x.0 x.1 = ap (λ (c : Command). revisions_with t r c y.1) command ∙ sym alike.1 in (
+      alike.0,
+      agree_along t (revisions_with t r x.0 x.1) xs ys (moved_lawful IsProvedUnlessWide t r x.0 x.1 lawful one.0) one.1
+          (subst (λ (s : Revisions). AllByRecursion (IsTurnOf IsProvedUnlessWide t) (turns_along t s ys)) moved other.1) others,
+    )
+
+-- ---- what is said at a desk
+
+said_bodies : (xs : List (Line × Block)) → map (λ (y : Command × Body). y.1) (map what_is_said xs) ≡ map (λ (x : Line × Block). x.1.body) xs
+said_bodies [] = refl
+said_bodies (x ∷ xs) = ap (λ (l : List Body). x.1.body ∷ l) (said_bodies xs)
+
+said_commands : (desk : ℕ) (lines : List Line) (blocks : List Block) → length lines ≡ length blocks → map (λ (y : Command × Body). y.0) (said_at desk lines blocks) ≡ commands_at desk lines
+said_commands desk [] blocks long = refl
+said_commands desk (line ∷ lines) [] long = absurd (omega arith)
+said_commands desk (line ∷ lines) (block ∷ blocks) long = by (line.desk == desk) (said_commands desk lines blocks (omega arith))
+  where
+    by : (own : Bool) → map (λ (y : Command × Body). y.0) (said_at desk lines blocks) ≡ commands_at desk lines
+        → map (λ (y : Command × Body). y.0) (map what_is_said (cond own ((line, block) ∷ at_desk desk (with_blocks lines blocks)) (at_desk desk (with_blocks lines blocks))))
+        ≡ map (λ (l : Line). l.command) (cond own (line ∷ filter (λ (l : Line). l.desk == desk) lines) (filter (λ (l : Line). l.desk == desk) lines))
+    by true rest = ap (λ (l : List Command). line.command ∷ l) rest
+    by false rest = rest
+
+-- what the commands are where each line has its block
+commands_said : (bench : Workbench) (desk : ℕ) (lines : List Line) (blocks : List Block) → EachHolds (IsProvedBlock bench.table) bench [] lines blocks → map (λ (y : Command × Body). y.0) (said_at desk lines blocks) ≡ commands_at desk lines
+commands_said bench desk lines blocks each = said_commands desk lines blocks (as_many (IsProvedBlock bench.table) bench [] lines blocks each)
+
+pub agree : DesksAgree
+agree one other desk_one desk_other lines_one lines_other blocks_one blocks_other lawful table begins commands proved_one proved_other =
+    let said_one : List (Command × Body) = said_at desk_one lines_one blocks_one in
+    let said_other : List (Command × Body) = said_at desk_other lines_other blocks_other in
+    let turns : turns_along other.table (revisions_at other desk_other) said_other ≡ turns_along one.table (revisions_at one desk_one) said_other =
+    ap (λ (t : DecisionTable). turns_along t (revisions_at other desk_other) said_other) (sym table) ∙ ap (λ (r : Revisions). turns_along one.table r said_other) (sym begins) in
+    let first : AllByRecursion (IsTurnOf IsProvedUnlessWide one.table) (turns_along one.table (revisions_at one desk_one) said_one) =
+    subst (AllByRecursion (IsTurnOf IsProvedUnlessWide one.table)) (turns_are one desk_one [] lines_one blocks_one) (turns_of_blocks IsProvedUnlessWide one desk_one [] lines_one blocks_one proved_one) in
+    let second : AllByRecursion (IsTurnOf IsProvedUnlessWide other.table) (turns_at other desk_other [] lines_other blocks_other) = turns_of_blocks IsProvedUnlessWide other desk_other [] lines_other blocks_other proved_other in
+    let over_one : AllByRecursion (IsTurnOf IsProvedUnlessWide one.table) (turns_along one.table (revisions_at one desk_one) said_other) =
+    subst (AllByRecursion (IsTurnOf IsProvedUnlessWide one.table)) (turns_are other desk_other [] lines_other blocks_other ∙ turns)
+    (subst (λ (t : DecisionTable). AllByRecursion (IsTurnOf IsProvedUnlessWide t) (turns_at other desk_other [] lines_other blocks_other)) (sym table) second) in
+    let same = commands_said one desk_one lines_one blocks_one proved_one ∙ commands ∙ sym (commands_said other desk_other lines_other blocks_other proved_other) in
+    let agrees = agree_along one.table (revisions_at one desk_one) said_one said_other lawful first over_one same in
+    subst (λ (l : List Body). AllZip AgreesWith l (bodies_at desk_other lines_other blocks_other)) (said_bodies (at_desk desk_one (with_blocks lines_one blocks_one)))
+    (subst (AllZip AgreesWith (map (λ (x : Command × Body). x.1) said_one)) (said_bodies (at_desk desk_other (with_blocks lines_other blocks_other))) agrees)
+
+-- ---- where no number is too wide
+
+concluded : (most : ℕ) (t : DecisionTable) (list : List Statement) (q : Question) (v : Verdict) → IsAllowedVerdict (HasNoteAt most) t list q v → ((s : LinearSystem) (note : WideText) → IsSystemFor t list q s → HasNoteAt most s note → ⊥) → (c : Conclusion) × (conclusion_of v ≡ Some c)
+concluded most t list q (verdicts.Yes proof) allowed narrow = (conclusions.Yes, refl)
+concluded most t list q (verdicts.No proof) allowed narrow = (conclusions.No, refl)
+concluded most t list q (verdicts.Contradiction proof) allowed narrow = (conclusions.Contradiction, refl)
+concluded most t list q (verdicts.Wide zero note) allowed narrow = absurd (narrow (base_system t list) note (inl refl) allowed)
+concluded most t list q (verdicts.Wide (suc before) note) allowed narrow = absurd (narrow allowed.system note (inr (before, allowed.there)) allowed.noted)
+
+pub narrow_concludes : NarrowConcludes
+narrow_concludes most t list q x given narrow = concluded most t list q x.verdict given.allowed.verdict narrow

@@ -1,0 +1,130 @@
+-- What a desk's blocks depend on: the desk's own lines with their blocks, and nothing of other desks.
+use Rattle.std.specs.Prelude.{◌≡◌, ℕ, ◌↔◌, ◌⊎◌, ◌==◌, slice_get, if◌then◌else◌, List, [], ◌∷◌, ◌++◌, map, Option, Some, None}
+use Rattle.std.specs.List.{AllByRecursion, AllZip, filter}
+use Rattle.ror_statement.specs.declared.statement.Statement.{Statement}
+use Rattle.ror_statement.specs.declared.question.Question.{Question}
+use Rattle.ror_statement.specs.declared.question.Conclusion.{Conclusion}
+use Rattle.ror_statement.specs.declared.question.Conclusion.TheVariants as conclusions
+use Rattle.ror_table.specs.Table.{DecisionTable}
+use Rattle.ror_session.specs.declared.session.Line.{Line}
+use Rattle.ror_session.specs.declared.session.Command.{Command}
+use Rattle.ror_system.specs.System.{LinearSystem}
+use Rattle.ror_proof.specs.declared.answer.WideText.{WideText}
+use Rattle.ror_proof.specs.declared.answer.Verdict.{Verdict}
+use Rattle.ror_proof.specs.declared.answer.Verdict.TheVariants as verdicts
+use Rattle.ror_proof.specs.declared.answer.Answer.{Answer}
+use Rattle.ror_check.specs.Proof.{base_system, question_systems_of}
+use Rattle.ror_relation.specs.Wide.{HasNoteAt}
+use Rattle.ror_relation.specs.Answers.{IsGiven}
+use Rattle.ror_report.specs.declared.block.Block.{Block}
+use Rattle.ror_report.specs.declared.block.Body.{Body}
+use Rattle.ror_report.specs.declared.block.Body.TheVariants as bodies
+use Rattle.ror_history.specs.History.{Revisions}
+use Rattle.ror_bench.specs.Bench.{Workbench, revisions_at, IsLawfulThroughout}
+use Rattle.ror_bench.specs.Blocks.{Answering, IsBodyOf, IsBlockOf, IsProvedUnlessWide, IsProvedBlock}
+use Rattle.ror_bench.specs.Reports.{EachHolds, at_desk, revisions_then}
+
+-- a block for each line, in order
+abbrev pub with_blocks : List Line → List Block → List (Line × Block)
+with_blocks [] blocks = []
+with_blocks (line ∷ lines) [] = []
+with_blocks (line ∷ lines) (block ∷ blocks) = (line, block) ∷ with_blocks lines blocks
+
+-- the commands at a desk with the bodies of their blocks, in order
+abbrev pub said_at : ℕ → List Line → List Block → List (Command × Body)
+said_at desk lines blocks =
+    map (λ x. (x.0.command, x.1.body)) (at_desk desk (with_blocks lines blocks))
+
+-- each turn of a desk, in order: what the desk holds then, the command, and the body of its block
+abbrev pub turns_at : Workbench → ℕ → List (Line × Block) → List Line → List Block
+    → List (Revisions × Command × Body)
+turns_at bench desk before (line ∷ lines) (block ∷ blocks) =
+    if line.desk == desk
+    then (revisions_then bench before desk, line.command, block.body)
+    ∷ turns_at bench desk (before ++ (line, block) ∷ []) lines blocks
+    else turns_at bench desk (before ++ (line, block) ∷ []) lines blocks
+turns_at bench desk before _ _ = []
+
+-- Two sessions in which the same is said at a desk of the one and at a desk of the other, in whatever interleaving, over desks
+-- that begin alike: the turns there are the same, so what is to be asked of a block there is the same.
+abbrev pub DesksStandApart : Type 0
+DesksStandApart = (one other : Workbench) (desk_one desk_other : ℕ)
+    (lines_one lines_other : List Line) (blocks_one blocks_other : List Block)
+    → one.table ≡ other.table → revisions_at one desk_one ≡ revisions_at other desk_other
+    → said_at desk_one lines_one blocks_one ≡ said_at desk_other lines_other blocks_other
+    → turns_at one desk_one [] lines_one blocks_one
+    ≡ turns_at other desk_other [] lines_other blocks_other
+
+-- the body at a turn is the one of its command, with answers that may be given
+abbrev pub IsTurnOf : Answering → DecisionTable → Revisions × Command × Body → Type 0
+IsTurnOf HasAnswer t turn = IsBodyOf HasAnswer t turn.0 turn.1 turn.2
+
+-- blocks are those of the lines exactly where there is one for each line, with the line's number, and each turn of each desk
+-- has the body of its command
+abbrev pub AreDeskByDesk : Answering → Type 0
+AreDeskByDesk HasAnswer = (bench : Workbench) (lines : List Line) (blocks : List Block)
+    → EachHolds (IsBlockOf HasAnswer bench.table) bench [] lines blocks
+    ↔ (AllZip (λ line block. block.line ≡ line.number) lines blocks × ((desk : ℕ)
+    → AllByRecursion (IsTurnOf HasAnswer bench.table) (turns_at bench desk [] lines blocks)))
+
+-- so are blocks that are proved but for answers that are too wide, and blocks that a replay may give at a width
+abbrev pub ProvedDeskByDesk : Type 0
+ProvedDeskByDesk = AreDeskByDesk IsProvedUnlessWide
+
+abbrev pub GivenDeskByDesk : Type 0
+GivenDeskByDesk = (most : ℕ) → AreDeskByDesk (IsGiven most)
+
+-- ---- what the commands alone settle
+
+-- the commands of the lines at a desk, in order
+abbrev pub commands_at : ℕ → List Line → List Command
+commands_at desk lines = map (λ line. line.command) (filter (λ line. line.desk == desk) lines)
+
+-- the bodies of the blocks of the lines at a desk, in order
+abbrev pub bodies_at : ℕ → List Line → List Block → List Body
+bodies_at desk lines blocks = map (λ x. x.1.body) (at_desk desk (with_blocks lines blocks))
+
+-- what a verdict concludes: nothing if it is too wide
+abbrev pub conclusion_of : Verdict → Option Conclusion
+conclusion_of (verdicts.Yes proof) = Some conclusions.Yes
+conclusion_of (verdicts.No proof) = Some conclusions.No
+conclusion_of (verdicts.Contradiction proof) = Some conclusions.Contradiction
+conclusion_of (verdicts.Wide system note) = None
+
+-- two answers are to one question, and where neither is too wide they conclude the same; their proofs may differ
+pub record ConcludesAs (x y : Answer) : Type 0 where
+  pub question : x.question ≡ y.question
+  pub conclusion : (c d : Conclusion) → conclusion_of x.verdict ≡ Some c
+      → conclusion_of y.verdict ≡ Some d → c ≡ d
+
+-- answers agree one by one, and any other body only with itself: the same number, or the same refusal
+abbrev pub AgreesWith : Body → Body → Type 0
+AgreesWith (bodies.Answers xs) (bodies.Answers ys) = AllZip ConcludesAs xs ys
+AgreesWith body other = body ≡ other
+
+-- Two sessions with the same commands at a desk of the one and at a desk of the other, in whatever interleaving, over desks
+-- that begin alike and lawfully: where all blocks are proved but for answers that are too wide, the bodies there are as many
+-- and agree one by one.
+abbrev pub DesksAgree : Type 0
+DesksAgree = (one other : Workbench) (desk_one desk_other : ℕ) (lines_one lines_other : List Line)
+    (blocks_one blocks_other : List Block)
+    → IsLawfulThroughout one.table (revisions_at one desk_one) → one.table ≡ other.table
+    → revisions_at one desk_one ≡ revisions_at other desk_other
+    → commands_at desk_one lines_one ≡ commands_at desk_other lines_other
+    → EachHolds (IsProvedBlock one.table) one [] lines_one blocks_one
+    → EachHolds (IsProvedBlock other.table) other [] lines_other blocks_other
+    → AllZip AgreesWith (bodies_at desk_one lines_one blocks_one)
+    (bodies_at desk_other lines_other blocks_other)
+
+-- the system of the statements alone, or one of the question's
+abbrev pub IsSystemFor : DecisionTable → List Statement → Question → LinearSystem → Type 0
+IsSystemFor t list q s = (s ≡ base_system t list)
+    ⊎ ((place : ℕ) × (slice_get (question_systems_of t list q) place ≡ Some s))
+
+-- An answer that may be given at a width concludes something where no number on the path of any such system passes it. So
+-- desks that agree then agree in every conclusion.
+abbrev pub NarrowConcludes : Type 0
+NarrowConcludes = (most : ℕ) (t : DecisionTable) (list : List Statement) (q : Question) (x : Answer)
+    → IsGiven most t list q x
+    → ((s : LinearSystem) (note : WideText) → IsSystemFor t list q s → HasNoteAt most s note → ⊥)
+    → (c : Conclusion) × (conclusion_of x.verdict ≡ Some c)
