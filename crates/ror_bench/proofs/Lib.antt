@@ -8,5 +8,7 @@ pub mod Utf8Proofs
 pub mod ReportProofs
 pub mod Truth
 pub mod PrintableLemmas
+pub mod ReplayLemmas
+pub mod MakingLemmas
 pub mod ApartLemmas
 pub mod AgreeLemmas

@@ -1,11 +1,12 @@
 -- Laws of blocks and reports: what is proved is true.
-use Rattle.std.specs.Prelude.{ℕ, ◌≤◌, List, length}
+use Rattle.std.specs.Prelude.{◌≡◌, ℕ, ◌≤◌, List, length}
 use Rattle.ror_table.specs.Table.{DecisionTable, IsTable}
 use Rattle.ror_value.specs.Over.{IsLawfulIn}
 use Rattle.ror_session.specs.declared.session.Line.{Line}
 use Rattle.ror_report.specs.declared.block.Block.{Block}
 use Rattle.ror_history.specs.History.{Revisions, statements_of}
 use Rattle.ror_bench.specs.Bench.{Workbench, IsLawfulBench}
+use Rattle.ror_bench.specs.Replays.{IsReplayedReport}
 use Rattle.ror_bench.specs.declared.report.Accepted.{Accepted}
 use Rattle.ror_bench.specs.declared.report.Rejection.{Rejection}
 use Rattle.ror_bench.specs.declared.report.TheConstants.{MOST_REPORT_BYTES}
@@ -30,3 +31,9 @@ RejectedIsNotProved = (bench : Workbench) (lines : List Line) (bytes : List ℕ)
     (rejection : Rejection) (accepted : Accepted) → IsTable bench.table
     → length bytes ≤ MOST_REPORT_BYTES → IsRejectedFor bench lines bytes rejection
     → IsProvedReport bench lines bytes accepted → ⊥
+
+-- what a replay writes at a width is proved but for its answers that are too wide, with as many answers of each sort
+abbrev pub ReplayedIsProved : Type 0
+ReplayedIsProved = (most : ℕ) (bench : Workbench) (lines : List Line) (bytes : List ℕ)
+    (accepted : Accepted) → IsReplayedReport most bench lines bytes accepted
+    → IsProvedReport bench lines bytes accepted

@@ -5,5 +5,6 @@ pub mod Faults
 pub mod Laws
 pub mod Lines
 pub mod Names
+pub mod Replays
 pub mod Reports
 pub mod Steps

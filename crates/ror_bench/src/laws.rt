@@ -1,6 +1,6 @@
 //! Each function here states one law, for all benches, lines, blocks and reports, and does nothing.
 
-ghost use Rattle.ror_bench.specs.Laws.{ProvedBlocksAreTrue, ProvedReportsAreTrue, RejectedIsNotProved};
+ghost use Rattle.ror_bench.specs.Laws.{ProvedBlocksAreTrue, ProvedReportsAreTrue, RejectedIsNotProved, ReplayedIsProved};
 ghost use Rattle.ror_bench.specs.Desks.{DesksStandApart, ProvedDeskByDesk, GivenDeskByDesk, DesksAgree, NarrowConcludes};
 
 /// The answers of a proved block are true of all value functions that are compatible with what stands at its desk.
@@ -16,6 +16,11 @@ pub fn proved_reports_are_true()
 /// What is rejected for a first fault is not the text of a proved report.
 pub fn rejected_is_not_proved()
     ensures { RejectedIsNotProved }
+{}
+
+/// What a replay writes at a width is a report that is proved but for its answers that are too wide.
+pub fn replayed_is_proved()
+    ensures { ReplayedIsProved }
 {}
 
 /// What a desk holds at each of its turns goes by what is said there, in whatever interleaving with other desks. Blocks are
