@@ -7,8 +7,9 @@ pub mod AnswerLemmas
 pub mod Utf8Proofs
 pub mod ReportProofs
 pub mod Truth
-pub mod PrintableLemmas
 pub mod ReplayLemmas
 pub mod MakingLemmas
+pub mod PrintableLemmas
 pub mod ApartLemmas
 pub mod AgreeLemmas
+pub mod UniqueLemmas

@@ -37,3 +37,15 @@ abbrev pub ReplayedIsProved : Type 0
 ReplayedIsProved = (most : ℕ) (bench : Workbench) (lines : List Line) (bytes : List ℕ)
     (accepted : Accepted) → IsReplayedReport most bench lines bytes accepted
     → IsProvedReport bench lines bytes accepted
+
+-- how many answers of a proved report have a proof, and how many are too wide, goes by its bytes
+abbrev pub OneCount : Type 0
+OneCount = (bench : Workbench) (lines : List Line) (bytes : List ℕ) (x y : Accepted)
+    → IsTable bench.table → IsProvedReport bench lines bytes x → IsProvedReport bench lines bytes y
+    → x ≡ y
+
+-- two first faults of the same bytes are equal, in their block and in their reason
+abbrev pub OneRejection : Type 0
+OneRejection = (bench : Workbench) (lines : List Line) (bytes : List ℕ) (first second : Rejection)
+    → IsRejectedFor bench lines bytes first → IsRejectedFor bench lines bytes second
+    → first ≡ second

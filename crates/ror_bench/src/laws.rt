@@ -1,6 +1,6 @@
 //! Each function here states one law, for all benches, lines, blocks and reports, and does nothing.
 
-ghost use Rattle.ror_bench.specs.Laws.{ProvedBlocksAreTrue, ProvedReportsAreTrue, RejectedIsNotProved, ReplayedIsProved};
+ghost use Rattle.ror_bench.specs.Laws.{ProvedBlocksAreTrue, ProvedReportsAreTrue, RejectedIsNotProved, ReplayedIsProved, OneCount, OneRejection};
 ghost use Rattle.ror_bench.specs.Desks.{DesksStandApart, ProvedDeskByDesk, GivenDeskByDesk, DesksAgree, NarrowConcludes};
 
 /// The answers of a proved block are true of all value functions that are compatible with what stands at its desk.
@@ -32,4 +32,14 @@ pub fn desks_apart()
     ensures given { GivenDeskByDesk }
     ensures agree { DesksAgree }
     ensures narrow { NarrowConcludes }
+{}
+
+/// A proved report has one count of answers that have a proof, and one of those that are too wide.
+pub fn one_count()
+    ensures { OneCount }
+{}
+
+/// Bytes that are rejected have one first fault.
+pub fn one_rejection()
+    ensures { OneRejection }
 {}
