@@ -1,7 +1,6 @@
--- What three files lead to is one thing: where a status shows it, the files decide the status.
+-- What files lead to is one thing: where a status shows it, the files decide the status.
 use Rattle.ror_bench.specs.declared.report.TheConstants.{MOST_REPORT_BYTES}
-use Rattle.std.proofs.Common.{◌≡◌, ◌≢◌, ℕ, ◌<◌, ◌≤◌, ◌⊎◌, List, length, Some, Ok, Err, refl, sym, ap, subst, ◌∙◌, inl, inr, arith}
-use Rattle.std.specs.List.{AllByRecursion}
+use Rattle.std.proofs.Common.{◌≡◌, ◌≢◌, ℕ, ◌≤◌, ◌⊎◌, List, length, Some, Ok, Err, refl, sym, ap, subst, ◌∙◌, inl, inr, arith}
 use Rattle.ror_io.specs.Files.{Files, file}
 use Rattle.ror_table.specs.Table.{DecisionTable, IsTable}
 use Rattle.ror_table.specs.Plain.{plain_table}
@@ -10,36 +9,36 @@ use Rattle.ror_table.proofs.GrammarLemmas.{read_plain_text}
 use Rattle.ror_session.specs.declared.session.Session.{Session}
 use Rattle.ror_session.specs.declared.session.SessionFault.{SessionFault}
 use Rattle.ror_session.specs.Session.{session_of}
-use Rattle.ror_report.specs.Text.{report_text, IsPrintableBlock}
-use Rattle.ror_report.proofs.ReportLemmas.{one_spelling}
 use Rattle.ror_bench.specs.declared.report.Accepted.{Accepted}
-use Rattle.ror_bench.specs.Reports.{IsProvedReport, accepted_of}
+use Rattle.ror_bench.specs.Reports.{IsProvedReport}
+use Rattle.ror_bench.proofs.ReportProofs.{rejected_not_proved}
+use Rattle.ror_bench.proofs.UniqueLemmas.{one_count, one_rejection}
 use Rattle.ror_bench.specs.Bench.{Workbench}
 use Rattle.ror_bench.specs.declared.report.Rejection.{Rejection}
 use Rattle.ror_bench.specs.declared.report.Reason.TheVariants.{TooLong}
 use Rattle.ror_session.specs.declared.session.Line.{Line}
 use Rattle.ror.specs.declared.status.Status.{Status}
 use Rattle.ror.specs.declared.status.Status.TheVariants as statuses
-use Rattle.ror.specs.Words.{CheckNames}
-use Rattle.ror.specs.Work.{bench_for, ReadsTable, RefusesTable, ReadsSession, RefusesSession, ProvesReport, ProvesAll, ProvesTheRest, IsNotProved, IsLongReport, IsRejectionOf, too_long, at_fault, RejectsReport, Misses, no_table, no_session, no_report}
-use Rattle.ror.specs.Running.{ShowsStatus, Decides}
+use Rattle.ror.specs.Words.{InputNames, CheckNames, Task, Replay, Check}
+use Rattle.ror.specs.Work.{bench_for, ReadsTable, RefusesTable, ReadsSession, RefusesSession, ProvesReport, ProvesAll, ProvesTheRest, IsNotProved, IsLongReport, IsRejectionOf, too_long, at_fault, RejectsReport, MissesInput, no_table, no_session, Misses, no_input, no_report, ReadsInputs}
+use Rattle.ror.specs.Running.{IsDone, ShowsChecked, ShowsReplayed, ShowsStatus, DecidesInputs, DecidesCheck, DecidesReplay, Decides}
 
 -- one table is read, or none
-one_table : (files : Files) (names : CheckNames) (t u : DecisionTable) → ReadsTable files names t → ReadsTable files names u → t ≡ u
+one_table : (files : Files) (names : InputNames) (t u : DecisionTable) → ReadsTable files names t → ReadsTable files names u → t ≡ u
 one_table files names t u a b =
     let p = a.there in let q = b.there in
     let same : a.bytes ≡ b.bytes = cc in
     let r : plain_table b.bytes ≡ Ok t = subst (λ (xs : List ℕ). plain_table xs ≡ Ok t) same a.read in
     let s = b.read in cc
 
-table_or_fault : (files : Files) (names : CheckNames) (t : DecisionTable) (f : TableFault) → ReadsTable files names t → RefusesTable files names f → ⊥
+table_or_fault : (files : Files) (names : InputNames) (t : DecisionTable) (f : TableFault) → ReadsTable files names t → RefusesTable files names f → ⊥
 table_or_fault files names t f a b =
     let p = a.there in let q = b.there in
     let same : a.bytes ≡ b.bytes = cc in
     let r : plain_table b.bytes ≡ Ok t = subst (λ (xs : List ℕ). plain_table xs ≡ Ok t) same a.read in
     let s = b.refused in cc
 
-one_table_fault : (files : Files) (names : CheckNames) (f g : TableFault) → RefusesTable files names f → RefusesTable files names g → f ≡ g
+one_table_fault : (files : Files) (names : InputNames) (f g : TableFault) → RefusesTable files names f → RefusesTable files names g → f ≡ g
 one_table_fault files names f g a b =
     let p = a.there in let q = b.there in
     let same : a.bytes ≡ b.bytes = cc in
@@ -47,54 +46,57 @@ one_table_fault files names f g a b =
     let s = b.refused in cc
 
 -- one session is read, or none
-one_session : (files : Files) (names : CheckNames) (t v : DecisionTable) (s u : Session) → ReadsSession files names t s → ReadsSession files names v u → s ≡ u
+one_session : (files : Files) (names : InputNames) (t v : DecisionTable) (s u : Session) → ReadsSession files names t s → ReadsSession files names v u → s ≡ u
 one_session files names t v s u a b =
     let p = a.there in let q = b.there in
     let same : a.bytes ≡ b.bytes = cc in
     let r : session_of b.bytes ≡ Ok s = subst (λ (xs : List ℕ). session_of xs ≡ Ok s) same a.read in
     let w = b.read in cc
 
-session_or_fault : (files : Files) (names : CheckNames) (t : DecisionTable) (s : Session) (f : SessionFault) → ReadsSession files names t s → RefusesSession files names f → ⊥
+session_or_fault : (files : Files) (names : InputNames) (t : DecisionTable) (s : Session) (f : SessionFault) → ReadsSession files names t s → RefusesSession files names f → ⊥
 session_or_fault files names t s f a b =
     let p = a.there in let q = b.there in
     let same : a.bytes ≡ b.bytes = cc in
     let r : session_of b.bytes ≡ Ok s = subst (λ (xs : List ℕ). session_of xs ≡ Ok s) same a.read in
     let v = b.refused in cc
 
-one_session_fault : (files : Files) (names : CheckNames) (f g : SessionFault) → RefusesSession files names f → RefusesSession files names g → f ≡ g
+one_session_fault : (files : Files) (names : InputNames) (f g : SessionFault) → RefusesSession files names f → RefusesSession files names g → f ≡ g
 one_session_fault files names f g a b =
     let p = a.there in let q = b.there in
     let same : a.bytes ≡ b.bytes = cc in
     let r : session_of b.bytes ≡ Err f = subst (λ (xs : List ℕ). session_of xs ≡ Err f) same a.refused in
     let v = b.refused in cc
 
+-- a proof of the report, over a table and a session that were read
+proof_over : (files : Files) (names : CheckNames) (x : Accepted) (t : DecisionTable) (s : Session) (bytes : List ℕ) → ReadsSession files names.inputs t s → file files names.report ≡ Some bytes → ProvesReport files names x → (length bytes ≤ MOST_REPORT_BYTES) × IsProvedReport (bench_for t s) s.lines bytes x
+proof_over files names x t s bytes read there proves =
+    let p = proves.there in
+    let same : proves.bytes ≡ bytes = cc in
+    let tables : proves.table ≡ t = one_table files names.inputs proves.table t proves.session_read.table read.table in
+    let sessions : proves.session ≡ s = one_session files names.inputs proves.table t proves.session s proves.session_read read in
+    let moved : IsProvedReport (bench_for t proves.session) proves.session.lines proves.bytes x = subst (λ (u : DecisionTable). IsProvedReport (bench_for u proves.session) proves.session.lines proves.bytes x) tables proves.proved in
+    let again : IsProvedReport (bench_for t s) s.lines proves.bytes x = subst (λ (u : Session). IsProvedReport (bench_for t u) u.lines proves.bytes x) sessions moved in
+    (subst (λ (xs : List ℕ). length xs ≤ MOST_REPORT_BYTES) same proves.short, subst (λ (xs : List ℕ). IsProvedReport (bench_for t s) s.lines xs x) same again)
+
+is_table : (files : Files) (names : InputNames) (t : DecisionTable) → ReadsTable files names t → IsTable t
+is_table files names t read = (read_plain_text read.bytes t read.read).table
+
 -- a report is proved, or not
 proved_or_not : (files : Files) (names : CheckNames) (x : Accepted) → ProvesReport files names x → IsNotProved files names → ⊥
-proved_or_not files names x a b =
-    let p = a.there in let q = b.there in
-    let same : a.bytes ≡ b.bytes = cc in
-    let tables : a.table ≡ b.table = one_table files names a.table b.table a.session_read.table b.session_read.table in
-    let sessions : a.session ≡ b.session = one_session files names a.table b.table a.session b.session a.session_read b.session_read in
-    let moved : IsProvedReport (bench_for b.table a.session) a.session.lines a.bytes x = subst (λ (t : DecisionTable). IsProvedReport (bench_for t a.session) a.session.lines a.bytes x) tables a.proved in
-    let again : IsProvedReport (bench_for b.table b.session) b.session.lines a.bytes x = subst (λ (s : Session). IsProvedReport (bench_for b.table s) s.lines a.bytes x) sessions moved in
-    b.not_proved x (subst (λ (xs : List ℕ). length xs ≤ MOST_REPORT_BYTES) same a.short) (subst (λ (xs : List ℕ). IsProvedReport (bench_for b.table b.session) b.session.lines xs x) same again)
+proved_or_not files names x proves not =
+    let proof = proof_over files names x not.table not.session not.bytes not.session_read not.there proves in
+    not.not_proved x proof.0 proof.1
 
--- and its answers are counted in one way, since its text has one reading
-one_count : (files : Files) (names : CheckNames) (x y : Accepted) → ProvesReport files names x → ProvesReport files names y → x ≡ y
-one_count files names x y a b =
-    let p = a.there in let q = b.there in
-    let same : a.bytes ≡ b.bytes = cc in
-    let tables : a.table ≡ b.table = one_table files names a.table b.table a.session_read.table b.session_read.table in
-    let table : IsTable b.table = (read_plain_text b.session_read.table.bytes b.table b.session_read.table.read).table in
-    let printable : AllByRecursion (IsPrintableBlock b.table) a.proved.blocks = subst (λ (t : DecisionTable). AllByRecursion (IsPrintableBlock t) a.proved.blocks) tables a.proved.printable in
-    let text : a.bytes ≡ report_text b.table a.proved.blocks = subst (λ (t : DecisionTable). a.bytes ≡ report_text t a.proved.blocks) tables a.proved.text in
-    let blocks : a.proved.blocks ≡ b.proved.blocks = one_spelling b.table a.proved.blocks b.proved.blocks table printable b.proved.printable (sym text ∙ same ∙ b.proved.text) in
-    a.proved.counted ∙ ap accepted_of blocks ∙ sym b.proved.counted
+-- and its answers are counted in one way
+one_count_of : (files : Files) (names : CheckNames) (x y : Accepted) → ProvesReport files names x → ProvesReport files names y → x ≡ y
+one_count_of files names x y a b =
+    let proof = proof_over files names x b.table b.session b.bytes b.session_read b.there a in
+    one_count (bench_for b.table b.session) b.session.lines b.bytes x y (is_table files names.inputs b.table b.session_read.table) proof.1 b.proved
 
 -- all answers have a proof, or one is too wide
 all_or_rest : (files : Files) (names : CheckNames) (x y : Accepted) → ProvesAll files names x → ProvesTheRest files names y → ⊥
 all_or_rest files names x y a b =
-    let same : x ≡ y = one_count files names x y a.0 b.0 in
+    let same : x ≡ y = one_count_of files names x y a.0 b.0 in
     let none : y.wide ≡ 0 = subst (λ (z : Accepted). z.wide ≡ 0) same a.1 in
     absurd (omega (arith, none, b.1))
 
@@ -103,94 +105,196 @@ long_is_not_proved files names long =
     record { table = long.table; session = long.session; session_read = long.session_read; bytes = long.bytes; there = long.there; not_proved = λ n short proved. absurd (omega (arith, long.long, short)) }
 
 -- what is missing was not refused
-missed_or_bad_table : (files : Files) (names : CheckNames) (f : TableFault) → Misses files names → RefusesTable files names f → ⊥
+missed_or_bad_table : (files : Files) (names : InputNames) (f : TableFault) → MissesInput files names → RefusesTable files names f → ⊥
 missed_or_bad_table files names f (no_table gone) b = let p = b.there in cc
 missed_or_bad_table files names f (no_session t read gone) b = table_or_fault files names t f read b
-missed_or_bad_table files names f (no_report t s read gone) b = table_or_fault files names t f read.table b
 
-missed_or_bad_session : (files : Files) (names : CheckNames) (f : SessionFault) → Misses files names → RefusesSession files names f → ⊥
+missed_or_bad_session : (files : Files) (names : InputNames) (f : SessionFault) → MissesInput files names → RefusesSession files names f → ⊥
 missed_or_bad_session files names f (no_table gone) b = let p = b.table_read.there in cc
 missed_or_bad_session files names f (no_session t read gone) b = let p = b.there in cc
-missed_or_bad_session files names f (no_report t s read gone) b = session_or_fault files names t s f read b
 
-missed_or_read : (files : Files) (names : CheckNames) (t : DecisionTable) (s : Session) (bytes : List ℕ) → Misses files names → ReadsSession files names t s → file files names.report ≡ Some bytes → ⊥
-missed_or_read files names t s bytes (no_table gone) read found = let p = read.table.there in cc
-missed_or_read files names t s bytes (no_session u other gone) read found = let p = read.there in cc
-missed_or_read files names t s bytes (no_report u v other gone) read found = cc
+missed_or_read : (files : Files) (names : InputNames) (t : DecisionTable) (s : Session) → MissesInput files names → ReadsSession files names t s → ⊥
+missed_or_read files names t s (no_table gone) read = let p = read.table.there in cc
+missed_or_read files names t s (no_session u other gone) read = let p = read.there in cc
+
+missed_or_there : (files : Files) (names : CheckNames) (t : DecisionTable) (s : Session) (bytes : List ℕ) → Misses files names → ReadsSession files names.inputs t s → file files names.report ≡ Some bytes → ⊥
+missed_or_there files names t s bytes (no_input missed) read found = missed_or_read files names.inputs t s missed read
+missed_or_there files names t s bytes (no_report u v other gone) read found = cc
+
+-- ---- table and session
+
+-- a table that is refused decides the status
+bad_table_decides : (files : Files) (names : InputNames) (fault : TableFault) → RefusesTable files names fault → DecidesInputs files names (statuses.BadTable fault)
+bad_table_decides files names fault shows =
+    record {
+      bad_table = λ f refused. ap statuses.BadTable (one_table_fault files names fault f shows refused);
+      bad_session = λ f refused. absurd (table_or_fault files names _ fault refused.table_read shows);
+      missing = λ missed. absurd (missed_or_bad_table files names fault missed shows);
+    }
+
+bad_session_decides : (files : Files) (names : InputNames) (fault : SessionFault) → RefusesSession files names fault → DecidesInputs files names (statuses.BadSession fault)
+bad_session_decides files names fault shows =
+    record {
+      bad_table = λ f refused. absurd (table_or_fault files names _ f shows.table_read refused);
+      bad_session = λ f refused. ap statuses.BadSession (one_session_fault files names fault f shows refused);
+      missing = λ missed. absurd (missed_or_bad_session files names fault missed shows);
+    }
+
+missing_decides : (files : Files) (names : InputNames) → MissesInput files names → DecidesInputs files names statuses.ReadFault
+missing_decides files names shows =
+    record {
+      bad_table = λ f refused. absurd (missed_or_bad_table files names f shows refused);
+      bad_session = λ f refused. absurd (missed_or_bad_session files names f shows refused);
+      missing = λ missed. refl;
+    }
+
+-- where both were read they decide nothing more
+read_decides : (files : Files) (names : InputNames) (status : Status) (t : DecisionTable) (s : Session) → ReadsSession files names t s → DecidesInputs files names status
+read_decides files names status t s read =
+    record {
+      bad_table = λ f refused. absurd (table_or_fault files names t f read.table refused);
+      bad_session = λ f refused. absurd (session_or_fault files names t s f read refused);
+      missing = λ missed. absurd (missed_or_read files names t s missed read);
+    }
+
+-- ---- a check
+
+-- bytes that are rejected are no proved report
+rejection_or_proof : (bench : Workbench) (lines : List Line) (bytes : List ℕ) (r : Rejection) (x : Accepted) → IsTable bench.table → IsRejectionOf bench lines bytes r → length bytes ≤ MOST_REPORT_BYTES → IsProvedReport bench lines bytes x → ⊥
+rejection_or_proof bench lines bytes r x table (too_long many is) short proved = omega (arith, many, short)
+rejection_or_proof bench lines bytes r x table (at_fault few fault) short proved = rejected_not_proved bench lines bytes r x table short fault proved
+
+-- and are rejected for one thing
+one_rejection_of : (bench : Workbench) (lines : List Line) (bytes : List ℕ) (q r : Rejection) → IsRejectionOf bench lines bytes q → IsRejectionOf bench lines bytes r → q ≡ r
+one_rejection_of bench lines bytes q r (too_long many is) (too_long more and) = is ∙ sym and
+one_rejection_of bench lines bytes q r (too_long many is) (at_fault few fault) = absurd (omega (arith, many, few))
+one_rejection_of bench lines bytes q r (at_fault few fault) (too_long many is) = absurd (omega (arith, many, few))
+one_rejection_of bench lines bytes q r (at_fault few fault) (at_fault less other) = one_rejection bench lines bytes q r fault other
+
+-- a rejection of the report, over a table and a session that were read
+rejection_over : (files : Files) (names : CheckNames) (r : Rejection) (t : DecisionTable) (s : Session) (bytes : List ℕ) → ReadsSession files names.inputs t s → file files names.report ≡ Some bytes → RejectsReport files names r → IsRejectionOf (bench_for t s) s.lines bytes r
+rejection_over files names r t s bytes read there rejects =
+    let p = rejects.there in
+    let same : rejects.bytes ≡ bytes = cc in
+    let tables : rejects.table ≡ t = one_table files names.inputs rejects.table t rejects.session_read.table read.table in
+    let sessions : rejects.session ≡ s = one_session files names.inputs rejects.table t rejects.session s rejects.session_read read in
+    let moved : IsRejectionOf (bench_for t rejects.session) rejects.session.lines rejects.bytes r = subst (λ (u : DecisionTable). IsRejectionOf (bench_for u rejects.session) rejects.session.lines rejects.bytes r) tables rejects.rejected in
+    let again : IsRejectionOf (bench_for t s) s.lines rejects.bytes r = subst (λ (u : Session). IsRejectionOf (bench_for t u) u.lines rejects.bytes r) sessions moved in
+    subst (λ (xs : List ℕ). IsRejectionOf (bench_for t s) s.lines xs r) same again
+
+proved_or_rejected : (files : Files) (names : CheckNames) (x : Accepted) (r : Rejection) → ProvesReport files names x → RejectsReport files names r → ⊥
+proved_or_rejected files names x r proved rejects =
+    rejection_or_proof (bench_for proved.table proved.session) proved.session.lines proved.bytes r x (is_table files names.inputs proved.table proved.session_read.table) (rejection_over files names r proved.table proved.session proved.bytes proved.session_read proved.there rejects) proved.short proved.proved
+
+one_first_fault : (files : Files) (names : CheckNames) (q r : Rejection) → RejectsReport files names q → RejectsReport files names r → q ≡ r
+one_first_fault files names q r rejects other =
+    one_rejection_of (bench_for rejects.table rejects.session) rejects.session.lines rejects.bytes q r rejects.rejected (rejection_over files names r rejects.table rejects.session rejects.bytes rejects.session_read rejects.there other)
+
+-- bytes that are too many are rejected for that
+long_rejects : (files : Files) (names : CheckNames) → IsLongReport files names → RejectsReport files names (record { block = 0; reason = TooLong })
+long_rejects files names long =
+    record { table = long.table; session = long.session; session_read = long.session_read; bytes = long.bytes; there = long.there; rejected = too_long long.long refl }
 
 -- where a report is proved but for its answers that are too wide, the files decide as its answers are
-decides_proved : (files : Files) (names : CheckNames) (status : Status) (x : Accepted) → ProvesReport files names x → ((y : Accepted) → ProvesAll files names y → (status ≡ statuses.Done) ⊎ (status ≡ statuses.WriteFault)) → ((y : Accepted) → ProvesTheRest files names y → (status ≡ statuses.DoneWide) ⊎ (status ≡ statuses.WriteFault)) → Decides files names status
+decides_proved : (files : Files) (names : CheckNames) (status : Status) (x : Accepted) → ProvesReport files names x → ((y : Accepted) → ProvesAll files names y → (status ≡ statuses.Done) ⊎ (status ≡ statuses.WriteFault)) → ((y : Accepted) → ProvesTheRest files names y → (status ≡ statuses.DoneWide) ⊎ (status ≡ statuses.WriteFault)) → DecidesCheck files names status
 decides_proved files names status x proved all rest =
     record {
-      bad_table = λ f refused. absurd (table_or_fault files names _ f proved.session_read.table refused);
-      bad_session = λ f refused. absurd (session_or_fault files names _ _ f proved.session_read refused);
-      missing = λ missed. absurd (missed_or_read files names _ _ _ missed proved.session_read proved.there);
+      inputs = read_decides files names.inputs status _ _ proved.session_read;
+      missing = λ missed. absurd (missed_or_there files names _ _ _ missed proved.session_read proved.there);
       rejected = λ refuted. absurd (proved_or_not files names x proved refuted);
+      first_fault = λ r rejects. absurd (proved_or_rejected files names x r proved rejects);
       too_long = λ long. absurd (proved_or_not files names x proved (long_is_not_proved files names long));
       done = all;
       done_wide = rest;
     }
 
--- where bytes that are too many are rejected, that is the reason
-long_is_rejected : (files : Files) (names : CheckNames) (r : Rejection) → RejectsReport files names r → IsLongReport files names → r ≡ record { block = 0; reason = TooLong }
-long_is_rejected files names r rejects long =
-    let p = rejects.there in let q = long.there in
-    let same : rejects.bytes ≡ long.bytes = cc in
-    let many : MOST_REPORT_BYTES < length rejects.bytes = subst (λ (xs : List ℕ). MOST_REPORT_BYTES < length xs) (sym same) long.long in
-    why _ _ _ r many rejects.rejected
-  where
-    why : (bench : Workbench) (lines : List Line) (bytes : List ℕ) (r : Rejection) → MOST_REPORT_BYTES < length bytes → IsRejectionOf bench lines bytes r → r ≡ record { block = 0; reason = TooLong }
-    why bench lines bytes r many (too_long more is) = is
-    why bench lines bytes r many (at_fault few fault) = absurd (omega (arith, many, few))
+-- where table or session were not read, nothing is said of a report
+decides_unread : (files : Files) (names : CheckNames) (status : Status) → DecidesInputs files names.inputs status → (Misses files names → status ≡ statuses.ReadFault) → ((t : DecisionTable) (s : Session) → ReadsSession files names.inputs t s → ⊥) → DecidesCheck files names status
+decides_unread files names status inputs missing unread =
+    record {
+      inputs = inputs;
+      missing = missing;
+      rejected = λ refuted. absurd (unread _ _ refuted.session_read);
+      first_fault = λ r rejects. absurd (unread _ _ rejects.session_read);
+      too_long = λ long. absurd (unread _ _ long.session_read);
+      done = λ x all. let proved = all.0 in absurd (unread _ _ proved.session_read);
+      done_wide = λ x rest. let proved = rest.0 in absurd (unread _ _ proved.session_read);
+    }
 
--- where a status other than want of memory shows what the files are like, they decide it
-pub Decides-from_Shows : (files : Files) (names : CheckNames) (status : Status) → ShowsStatus files names status → status ≢ statuses.Memory → Decides files names status
-Decides-from_Shows files names statuses.Done shows other =
+refused_table_missing : (files : Files) (names : CheckNames) (fault : TableFault) → RefusesTable files names.inputs fault → Misses files names → ⊥
+refused_table_missing files names fault shows (no_input missed) = missed_or_bad_table files names.inputs fault missed shows
+refused_table_missing files names fault shows (no_report t s read gone) = table_or_fault files names.inputs t fault read.table shows
+
+refused_session_missing : (files : Files) (names : CheckNames) (fault : SessionFault) → RefusesSession files names.inputs fault → Misses files names → ⊥
+refused_session_missing files names fault shows (no_input missed) = missed_or_bad_session files names.inputs fault missed shows
+refused_session_missing files names fault shows (no_report t s read gone) = session_or_fault files names.inputs t s fault read shows
+
+missing_checked : (files : Files) (names : CheckNames) → Misses files names → DecidesCheck files names statuses.ReadFault
+missing_checked files names (no_input missed) =
+    decides_unread files names statuses.ReadFault (missing_decides files names.inputs missed) (λ again. refl) (λ t s read. missed_or_read files names.inputs t s missed read)
+missing_checked files names (no_report t s read gone) =
+    record {
+      inputs = read_decides files names.inputs statuses.ReadFault t s read;
+      missing = λ again. refl;
+      rejected = λ refuted. let p = refuted.there in absurd cc;
+      first_fault = λ r rejects. let p = rejects.there in absurd cc;
+      too_long = λ long. let p = long.there in absurd cc;
+      done = λ x all. let proved = all.0 in let p = proved.there in absurd cc;
+      done_wide = λ x rest. let proved = rest.0 in let p = proved.there in absurd cc;
+    }
+
+-- where a status other than want of memory shows what the files of a check are like, they decide it
+decides_checked : (files : Files) (names : CheckNames) (status : Status) → ShowsChecked files names status → status ≢ statuses.Memory → DecidesCheck files names status
+decides_checked files names statuses.Done shows other =
     decides_proved files names statuses.Done shows.0.0 shows.0.1.0 (λ y all. inl refl) (λ y rest. absurd (all_or_rest files names shows.0.0 y shows.0.1 rest))
-Decides-from_Shows files names statuses.DoneWide shows other =
+decides_checked files names statuses.DoneWide shows other =
     decides_proved files names statuses.DoneWide shows.0.0 shows.0.1.0 (λ y all. absurd (all_or_rest files names y shows.0.0 all shows.0.1)) (λ y rest. inl refl)
-Decides-from_Shows files names statuses.Usage shows other = absurd shows
-Decides-from_Shows files names (statuses.BadTable fault) shows other =
-    record {
-      bad_table = λ f refused. ap statuses.BadTable (one_table_fault files names fault f shows refused);
-      bad_session = λ f refused. absurd (table_or_fault files names _ fault refused.table_read shows);
-      missing = λ missed. absurd (missed_or_bad_table files names fault missed shows);
-      rejected = λ refuted. absurd (table_or_fault files names _ fault refuted.session_read.table shows);
-      too_long = λ long. absurd (table_or_fault files names _ fault long.session_read.table shows);
-      done = λ x all. let proved = all.0 in absurd (table_or_fault files names _ fault proved.session_read.table shows);
-      done_wide = λ x rest. let proved = rest.0 in absurd (table_or_fault files names _ fault proved.session_read.table shows);
-    }
-Decides-from_Shows files names (statuses.BadSession fault) shows other =
-    record {
-      bad_table = λ f refused. absurd (table_or_fault files names _ f shows.table_read refused);
-      bad_session = λ f refused. ap statuses.BadSession (one_session_fault files names fault f shows refused);
-      missing = λ missed. absurd (missed_or_bad_session files names fault missed shows);
-      rejected = λ refuted. absurd (session_or_fault files names _ _ fault refuted.session_read shows);
-      too_long = λ long. absurd (session_or_fault files names _ _ fault long.session_read shows);
-      done = λ x all. let proved = all.0 in absurd (session_or_fault files names _ _ fault proved.session_read shows);
-      done_wide = λ x rest. let proved = rest.0 in absurd (session_or_fault files names _ _ fault proved.session_read shows);
-    }
-Decides-from_Shows files names (statuses.Rejected rejection) shows other =
+decides_checked files names statuses.Usage shows other = absurd shows
+decides_checked files names (statuses.BadTable fault) shows other =
+    decides_unread files names (statuses.BadTable fault) (bad_table_decides files names.inputs fault shows) (λ missed. absurd (refused_table_missing files names fault shows missed)) (λ t s read. table_or_fault files names.inputs t fault read.table shows)
+decides_checked files names (statuses.BadSession fault) shows other =
+    decides_unread files names (statuses.BadSession fault) (bad_session_decides files names.inputs fault shows) (λ missed. absurd (refused_session_missing files names fault shows missed)) (λ t s read. session_or_fault files names.inputs t s fault read shows)
+decides_checked files names (statuses.Rejected rejection) shows other =
     let refuted = shows.not_proved in
     record {
-      bad_table = λ f refused. absurd (table_or_fault files names _ f refuted.session_read.table refused);
-      bad_session = λ f refused. absurd (session_or_fault files names _ _ f refuted.session_read refused);
-      missing = λ missed. absurd (missed_or_read files names _ _ _ missed refuted.session_read refuted.there);
+      inputs = read_decides files names.inputs (statuses.Rejected rejection) _ _ refuted.session_read;
+      missing = λ missed. absurd (missed_or_there files names _ _ _ missed refuted.session_read refuted.there);
       rejected = λ again. tt;
-      too_long = λ long. ap statuses.Rejected (long_is_rejected files names rejection shows.rejected long);
+      first_fault = λ r rejects. ap statuses.Rejected (one_first_fault files names rejection r shows.rejected rejects);
+      too_long = λ long. ap statuses.Rejected (one_first_fault files names rejection _ shows.rejected (long_rejects files names long));
       done = λ x all. let proved = all.0 in absurd (proved_or_not files names x proved refuted);
       done_wide = λ x rest. let proved = rest.0 in absurd (proved_or_not files names x proved refuted);
     }
-Decides-from_Shows files names statuses.ReadFault shows other =
-    record {
-      bad_table = λ f refused. absurd (missed_or_bad_table files names f shows refused);
-      bad_session = λ f refused. absurd (missed_or_bad_session files names f shows refused);
-      missing = λ missed. refl;
-      rejected = λ refuted. absurd (missed_or_read files names _ _ _ shows refuted.session_read refuted.there);
-      too_long = λ long. absurd (missed_or_read files names _ _ _ shows long.session_read long.there);
-      done = λ x all. let proved = all.0 in absurd (missed_or_read files names _ _ _ shows proved.session_read proved.there);
-      done_wide = λ x rest. let proved = rest.0 in absurd (missed_or_read files names _ _ _ shows proved.session_read proved.there);
-    }
-Decides-from_Shows files names statuses.WriteFault shows other =
+decides_checked files names statuses.ReadFault shows other = missing_checked files names shows
+decides_checked files names statuses.WriteFault shows other =
     decides_proved files names statuses.WriteFault shows.0 shows.1 (λ y all. inr refl) (λ y rest. inr refl)
-Decides-from_Shows files names statuses.Memory shows other = absurd (other refl)
+decides_checked files names statuses.Memory shows other = absurd (other refl)
+
+-- ---- a replay
+
+replay_done : (files : Files) (names : InputNames) (status : Status) → ReadsInputs files names → IsDone status ⊎ (status ≡ statuses.WriteFault) → DecidesReplay files names status
+replay_done files names status reads done =
+    record { inputs = read_decides files names status _ _ reads.read; done = λ again. done }
+
+replay_unread : (files : Files) (names : InputNames) (status : Status) → DecidesInputs files names status → ((t : DecisionTable) (s : Session) → ReadsSession files names t s → ⊥) → DecidesReplay files names status
+replay_unread files names status inputs unread =
+    record { inputs = inputs; done = λ reads. absurd (unread _ _ reads.read) }
+
+decides_replayed : (files : Files) (names : InputNames) (status : Status) → ShowsReplayed files names status → status ≢ statuses.Memory → DecidesReplay files names status
+decides_replayed files names statuses.Done shows other = replay_done files names statuses.Done shows (inl (inl refl))
+decides_replayed files names statuses.DoneWide shows other = replay_done files names statuses.DoneWide shows (inl (inr refl))
+decides_replayed files names statuses.Usage shows other = absurd shows
+decides_replayed files names (statuses.BadTable fault) shows other =
+    replay_unread files names (statuses.BadTable fault) (bad_table_decides files names fault shows) (λ t s read. table_or_fault files names t fault read.table shows)
+decides_replayed files names (statuses.BadSession fault) shows other =
+    replay_unread files names (statuses.BadSession fault) (bad_session_decides files names fault shows) (λ t s read. session_or_fault files names t s fault read shows)
+decides_replayed files names (statuses.Rejected rejection) shows other = absurd shows
+decides_replayed files names statuses.ReadFault shows other =
+    replay_unread files names statuses.ReadFault (missing_decides files names shows) (λ t s read. missed_or_read files names t s shows read)
+decides_replayed files names statuses.WriteFault shows other = replay_done files names statuses.WriteFault shows (inr refl)
+decides_replayed files names statuses.Memory shows other = absurd (other refl)
+
+-- where a status other than want of memory shows what the files are like, they decide it
+pub Decides-from_Shows : (files : Files) (task : Task) (status : Status) → ShowsStatus files task status → status ≢ statuses.Memory → Decides files task status
+Decides-from_Shows files (Replay names) status shows other = decides_replayed files names status shows other
+Decides-from_Shows files (Check names) status shows other = decides_checked files names status shows other

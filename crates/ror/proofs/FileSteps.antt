@@ -19,9 +19,10 @@ use Rattle.ror_bench.specs.declared.report.Accepted.{Accepted}
 use Rattle.ror_bench.specs.Reports.{IsProvedReport, IsRejectedFor, IfRejected}
 use Rattle.ror.specs.declared.work.Stop.{Stop}
 use Rattle.ror.specs.declared.work.Stop.TheVariants as stops
-use Rattle.ror.specs.Words.{CheckNames}
-use Rattle.ror.specs.Work.{bench_for, ReadsTable, ReadsSession, Misses, at_fault}
-use Rattle.ror.specs.Stops.{stop_at_shelf, stop_at_report, ShowsStop, ReadsTableAs, ReadsSessionAs, Judges, ShowsTable, ShowsSession, ShowsWork}
+use Rattle.ror.specs.Words.{InputNames, CheckNames}
+use Rattle.ror.specs.Work.{bench_for, ReadsTable, ReadsSession, no_input, at_fault}
+use Rattle.ror.specs.Replaying.{ShowsReplay}
+use Rattle.ror.specs.Stops.{stop_at_shelf, stop_at_report, ShowsStop, ShowsCheckStop, ReadsTableAs, ReadsSessionAs, Judges, ShowsTable, ShowsSession, ShowsWork}
 
 -- what is not missing is there
 found_or : (found : Option (List ℕ)) → (found ≡ None → ⊥) → (bytes : List ℕ) × (found ≡ Some bytes)
@@ -35,31 +36,33 @@ there told files name is kept =
     (found.0, found.1, subst (λ (t : Option Files). HasFile t name found.0) (sym is) found.1)
 
 -- a fetch that brought nothing, of a shelf that tells its files and whose count did not rise
-pub missed : (told : Option Files) (files : Files) (names : CheckNames) (name : List ℕ) (before now : ℕ) (fault : ShelfFault) → told ≡ Some files → DidNotRise before now → OnFailed (Err fault) (Rose before now ⊎ Lacks told name) → (file files name ≡ None → Misses files names) → ShowsStop files names (stop_at_shelf fault)
-missed told files names name before now shelf_faults.Failed is stayed failed misses =
+pub missed : (P : Stop → Type 0) (told : Option Files) (files : Files) (name : List ℕ) (before now : ℕ) (fault : ShelfFault) → told ≡ Some files → DidNotRise before now → OnFailed (Err fault) (Rose before now ⊎ Lacks told name) → (file files name ≡ None → P stops.ReadFault) → P stops.Memory → P (stop_at_shelf fault)
+missed P told files name before now shelf_faults.Failed is stayed failed misses memory =
     elim failed [
       | inl rose ↦ absurd (never_both before now rose stayed)
       | inr lacks ↦ misses (subst (λ (t : Option Files). Lacks t name) is lacks)
     ]
-missed told files names name before now shelf_faults.Memory is stayed failed misses = tt
+missed P told files name before now shelf_faults.Memory is stayed failed misses memory = memory
 
-pub table_shown : (files : Files) (names : CheckNames) (bytes : List ℕ) (result : Result DecisionTable Stop) → file files names.table ≡ Some bytes → ReadsTableAs (plain_table bytes) result → ShowsTable names result files
+pub table_shown : (files : Files) (names : InputNames) (bytes : List ℕ) (result : Result DecisionTable Stop) → file files names.table ≡ Some bytes → ReadsTableAs (plain_table bytes) result → ShowsTable names result files
 table_shown files names bytes (Ok t) found reads = record { bytes = bytes; there = found; read = reads }
 table_shown files names bytes (Err (stops.BadTable fault)) found reads = record { bytes = bytes; there = found; refused = reads }
 table_shown files names bytes (Err (stops.BadSession fault)) found reads = absurd reads
 table_shown files names bytes (Err (stops.Rejected rejection)) found reads = absurd reads
 table_shown files names bytes (Err stops.ReadFault) found reads = absurd reads
+table_shown files names bytes (Err stops.WriteFault) found reads = absurd reads
 table_shown files names bytes (Err stops.Memory) found reads = tt
 
-pub session_shown : (files : Files) (names : CheckNames) (t : DecisionTable) (bytes : List ℕ) (result : Result Session Stop) → ReadsTable files names t → file files names.session ≡ Some bytes → ReadsSessionAs (session_of bytes) result → ShowsSession names t result files
+pub session_shown : (files : Files) (names : InputNames) (t : DecisionTable) (bytes : List ℕ) (result : Result Session Stop) → ReadsTable files names t → file files names.session ≡ Some bytes → ReadsSessionAs (session_of bytes) result → ShowsSession names t result files
 session_shown files names t bytes (Ok s) table found reads = record { table = table; bytes = bytes; there = found; read = reads }
 session_shown files names t bytes (Err (stops.BadTable fault)) table found reads = absurd reads
 session_shown files names t bytes (Err (stops.BadSession fault)) table found reads = record { table = t; table_read = table; bytes = bytes; there = found; refused = reads }
 session_shown files names t bytes (Err (stops.Rejected rejection)) table found reads = absurd reads
 session_shown files names t bytes (Err stops.ReadFault) table found reads = absurd reads
+session_shown files names t bytes (Err stops.WriteFault) table found reads = absurd reads
 session_shown files names t bytes (Err stops.Memory) table found reads = tt
 
-pub work_shown : (files : Files) (names : CheckNames) (t : DecisionTable) (s : Session) (bytes : List ℕ) (result : Result Accepted Stop) → ReadsSession files names t s → file files names.report ≡ Some bytes → Judges t s bytes result → ShowsWork names result files
+pub work_shown : (files : Files) (names : CheckNames) (t : DecisionTable) (s : Session) (bytes : List ℕ) (result : Result Accepted Stop) → ReadsSession files names.inputs t s → file files names.report ≡ Some bytes → Judges t s bytes result → ShowsWork names result files
 work_shown files names t s bytes (Ok x) session found judges =
     (record { table = t; session = s; session_read = session; bytes = bytes; there = found; short = judges.0; proved = judges.1.proved }, record { table = t; session = s; session_read = session; bytes = bytes; there = found; counts = x; accepted = judges.1 })
 work_shown files names t s bytes (Err (stops.BadTable fault)) session found judges = absurd judges
@@ -70,6 +73,7 @@ work_shown files names t s bytes (Err (stops.Rejected rejection)) session found 
       rejected = record { table = t; session = s; session_read = session; bytes = bytes; there = found; rejected = judges.1 };
     }
 work_shown files names t s bytes (Err stops.ReadFault) session found judges = absurd judges
+work_shown files names t s bytes (Err stops.WriteFault) session found judges = absurd judges
 work_shown files names t s bytes (Err stops.Memory) session found judges = tt
 
 -- what is refused of the bytes that were fetched is not proved, and rejected for this
@@ -77,3 +81,20 @@ pub judged : (t : DecisionTable) (s : Session) (bench : Workbench) (lines : List
 judged t s bench lines got bytes (report_errors.Rejected rejection) benches same whole short refuted why =
     (λ x within proved. refuted (λ e. cc) x (subst (λ (b : Workbench). IsProvedReport b lines got x) (sym benches) (subst (λ (ls : List Line). IsProvedReport (bench_for t s) ls got x) (sym same) (subst (λ (bs : List ℕ). IsProvedReport (bench_for t s) s.lines bs x) (sym whole) proved))), at_fault (subst (λ (bs : List ℕ). length bs ≤ MOST_REPORT_BYTES) whole short) (subst (λ (b : Workbench). IsRejectedFor b s.lines bytes rejection) benches (subst (λ (ls : List Line). IsRejectedFor bench ls bytes rejection) same (subst (λ (bs : List ℕ). IsRejectedFor bench lines bs rejection) whole why))))
 judged t s bench lines got bytes report_errors.Memory benches same whole short refuted why = tt
+
+-- a stop at the table or the session is one of a check, and of a replay
+pub stop_in_check : (files : Files) (names : CheckNames) (stop : Stop) → ShowsStop files names.inputs stop → ShowsCheckStop files names stop
+stop_in_check files names (stops.BadTable fault) shows = shows
+stop_in_check files names (stops.BadSession fault) shows = shows
+stop_in_check files names (stops.Rejected rejection) shows = absurd shows
+stop_in_check files names stops.ReadFault shows = no_input shows
+stop_in_check files names stops.WriteFault shows = absurd shows
+stop_in_check files names stops.Memory shows = tt
+
+pub stop_in_replay : (files : Files) (names : InputNames) (stop : Stop) → ShowsStop files names stop → ShowsReplay names (Err stop) files
+stop_in_replay files names (stops.BadTable fault) shows = shows
+stop_in_replay files names (stops.BadSession fault) shows = shows
+stop_in_replay files names (stops.Rejected rejection) shows = absurd shows
+stop_in_replay files names stops.ReadFault shows = shows
+stop_in_replay files names stops.WriteFault shows = absurd shows
+stop_in_replay files names stops.Memory shows = tt

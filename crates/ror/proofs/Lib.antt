@@ -5,3 +5,5 @@ pub mod FileSteps
 pub mod Fetches
 pub mod Deciding
 pub mod Conclusions
+pub mod Replayed
+pub mod Making

@@ -5,4 +5,5 @@ pub mod Printing
 pub mod Statuses
 pub mod Work
 pub mod Stops
+pub mod Replaying
 pub mod Running

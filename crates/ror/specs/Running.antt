@@ -1,28 +1,35 @@
 -- When each status comes, and what a run writes.
-use Rattle.std.specs.Prelude.{◌≡◌, ◌≢◌, ℕ, ◌<◌, ◌≤◌, ◌⊎◌, ◌↔◌, List, Option, Some, None}
+use Rattle.std.specs.Prelude.{◌≡◌, ◌≢◌, ℕ, ◌<◌, ◌≤◌, ◌⊎◌, ◌↔◌, List, take, Option, Some, None}
 use Rattle.ror_io.specs.Files.{Files, Lacks}
-use Rattle.ror_io.specs.Counts.{Rose, DidNotRise, count_after}
+use Rattle.ror_io.specs.Counts.{Rose, DidNotRise, next_count, count_after}
 use Rattle.ror_io.specs.Writing.{Grew, GrewShort}
 use Rattle.ror.specs.declared.status.Status.{Status}
 use Rattle.ror.specs.declared.status.Status.TheVariants as statuses
+use Rattle.ror_table.specs.Table.{DecisionTable}
 use Rattle.ror_table.specs.declared.fault.TableFault.{TableFault}
+use Rattle.ror_session.specs.declared.session.Session.{Session}
 use Rattle.ror_session.specs.declared.session.SessionFault.{SessionFault}
 use Rattle.ror_session.specs.declared.session.SessionFault.TheVariants as session_faults
 use Rattle.ror_bench.specs.declared.report.Accepted.{Accepted}
+use Rattle.ror_bench.specs.declared.report.Rejection.{Rejection}
 use Rattle.ror_bench.specs.declared.report.Reason.TheVariants.{TooLong}
 use Rattle.ror_bench.specs.Reports.{IsFreeOfMemory}
 use Rattle.ror.specs.States.{ShelfState, SinkState}
-use Rattle.ror.specs.Words.{CheckNames, check_of}
+use Rattle.ror.specs.Words.{InputNames, CheckNames, Task, Replay, Check, task_of}
 use Rattle.ror.specs.Statuses.{status_text, accepted_text}
-use Rattle.ror.specs.Work.{RefusesTable, RefusesSession, ProvesReport, ProvesAll, ProvesTheRest, RefutesReport, IsNotProved, IsLongReport, AnswersTrue, Misses, LacksOne}
+use Rattle.ror.specs.Work.{RefusesTable, RefusesSession, ProvesReport, ProvesAll, ProvesTheRest, RejectsReport, RefutesReport, IsNotProved, IsLongReport, AnswersTrue, MissesInput, Misses, ReadsInputs, file_count, inputs_in, LacksOne}
+use Rattle.ror.specs.Replaying.{IsReportOf, IsBeginningOf, AreOfFiles}
 
 -- a told map lacks a file that the words name; lacks the table
 abbrev pub LacksNamed : Option Files → List (List ℕ) → Type 0
-LacksNamed told words = (names : CheckNames) × (check_of words ≡ Some names) × LacksOne told names
+LacksNamed told words = (task : Task) × (task_of words ≡ Some task) × LacksOne told task
 
 abbrev pub LacksTable : Option Files → List (List ℕ) → Type 0
-LacksTable told words =
-    (names : CheckNames) × (check_of words ≡ Some names) × Lacks told names.table
+LacksTable told words = (task : Task) × (task_of words ≡ Some task) × Lacks told (inputs_in task).table
+
+-- the work was done to the last line
+abbrev pub IsDone : Status → Type 0
+IsDone status = (status ≡ statuses.Done) ⊎ (status ≡ statuses.DoneWide)
 
 abbrev pub IsRejected : Status → Type 0
 IsRejected (statuses.Rejected r) = Unit {0}
@@ -34,40 +41,71 @@ HidesNoMemory (statuses.BadSession fault) = fault ≢ session_faults.Memory
 HidesNoMemory (statuses.Rejected rejection) = IsFreeOfMemory rejection.reason
 HidesNoMemory _ = Unit {0}
 
--- The run ends after so many fetches: none where the words name no files, one where the table is refused, two where the
--- session is, and three where the report is read. A file that could not be read ends it after one to three, and want of
--- memory after three at most. Of which files they are this says nothing.
-abbrev pub EndsAfter : Status → ℕ → Type 0
-EndsAfter statuses.Usage n = n ≡ 0
-EndsAfter (statuses.BadTable fault) n = n ≡ 1
-EndsAfter (statuses.BadSession fault) n = n ≡ 2
-EndsAfter statuses.ReadFault n = (1 ≤ n) × (n ≤ 3)
-EndsAfter statuses.Memory n = n ≤ 3
-EndsAfter _ n = n ≡ 3
+-- how many files the words name
+abbrev pub files_named : Option Task → ℕ
+files_named (Some task) = file_count task
+files_named None = 0
 
--- what the files are like where a run ends with the status; want of memory says nothing
-abbrev pub ShowsStatus : Files → CheckNames → Status → Type 0
-ShowsStatus files names statuses.Done =
+-- The run ends after so many fetches, where the words name so many files: one where the table is refused, two where the
+-- session is, and otherwise all of them. A file that could not be read ends it after at least one, and want of memory after
+-- any number. Of which files they are this says nothing.
+abbrev pub EndsAfter : ℕ → Status → ℕ → Type 0
+EndsAfter all (statuses.BadTable fault) n = n ≡ 1
+EndsAfter all (statuses.BadSession fault) n = n ≡ 2
+EndsAfter all statuses.ReadFault n = (1 ≤ n) × (n ≤ all)
+EndsAfter all statuses.Memory n = n ≤ all
+EndsAfter all _ n = n ≡ all
+
+-- ---- what the files are like
+
+-- where a check ends with the status; want of memory says nothing
+abbrev pub ShowsChecked : Files → CheckNames → Status → Type 0
+ShowsChecked files names statuses.Done =
     ((accepted : Accepted) × ProvesAll files names accepted) × AnswersTrue files names
-ShowsStatus files names statuses.DoneWide =
+ShowsChecked files names statuses.DoneWide =
     ((accepted : Accepted) × ProvesTheRest files names accepted) × AnswersTrue files names
-ShowsStatus files names statuses.Usage = ⊥
-ShowsStatus files names (statuses.BadTable fault) = RefusesTable files names fault
-ShowsStatus files names (statuses.BadSession fault) = RefusesSession files names fault
-ShowsStatus files names (statuses.Rejected r) = RefutesReport files names r
-ShowsStatus files names statuses.ReadFault = Misses files names
-ShowsStatus files names statuses.WriteFault =
+ShowsChecked files names statuses.Usage = ⊥
+ShowsChecked files names (statuses.BadTable fault) = RefusesTable files names.inputs fault
+ShowsChecked files names (statuses.BadSession fault) = RefusesSession files names.inputs fault
+ShowsChecked files names (statuses.Rejected r) = RefutesReport files names r
+ShowsChecked files names statuses.ReadFault = Misses files names
+ShowsChecked files names statuses.WriteFault =
     (accepted : Accepted) × ProvesReport files names accepted
-ShowsStatus files names statuses.Memory = Unit {0}
+ShowsChecked files names statuses.Memory = Unit {0}
 
--- which status files of this kind lead to, unless memory runs out
-pub record Decides (files : Files) (names : CheckNames) (status : Status) : Type 0 where
+-- where a replay does
+abbrev pub ShowsReplayed : Files → InputNames → Status → Type 0
+ShowsReplayed files names statuses.Done = ReadsInputs files names
+ShowsReplayed files names statuses.DoneWide = ReadsInputs files names
+ShowsReplayed files names statuses.Usage = ⊥
+ShowsReplayed files names (statuses.BadTable fault) = RefusesTable files names fault
+ShowsReplayed files names (statuses.BadSession fault) = RefusesSession files names fault
+ShowsReplayed files names (statuses.Rejected r) = ⊥
+ShowsReplayed files names statuses.ReadFault = MissesInput files names
+ShowsReplayed files names statuses.WriteFault = ReadsInputs files names
+ShowsReplayed files names statuses.Memory = Unit {0}
+
+abbrev pub ShowsStatus : Files → Task → Status → Type 0
+ShowsStatus files (Replay names) status = ShowsReplayed files names status
+ShowsStatus files (Check names) status = ShowsChecked files names status
+
+-- ---- which status such files lead to
+
+-- in either command, unless memory runs out
+pub record DecidesInputs (files : Files) (names : InputNames) (status : Status) : Type 0 where
   pub bad_table : (fault : TableFault) → RefusesTable files names fault
       → status ≡ statuses.BadTable fault
   pub bad_session : (fault : SessionFault) → RefusesSession files names fault
       → status ≡ statuses.BadSession fault
+  pub missing : MissesInput files names → status ≡ statuses.ReadFault
+
+-- in a check
+pub record DecidesCheck (files : Files) (names : CheckNames) (status : Status) : Type 0 where
+  pub inputs : DecidesInputs files names.inputs status
   pub missing : Misses files names → status ≡ statuses.ReadFault
   pub rejected : IsNotProved files names → IsRejected status
+  pub first_fault : (rejection : Rejection) → RejectsReport files names rejection
+      → status ≡ statuses.Rejected rejection
   pub too_long : IsLongReport files names
       → status ≡ statuses.Rejected (record { block = 0; reason = TooLong })
   pub done : (accepted : Accepted) → ProvesAll files names accepted
@@ -75,37 +113,74 @@ pub record Decides (files : Files) (names : CheckNames) (status : Status) : Type
   pub done_wide : (accepted : Accepted) → ProvesTheRest files names accepted
       → (status ≡ statuses.DoneWide) ⊎ (status ≡ statuses.WriteFault)
 
+-- in a replay: by what it writes the two ways in which it is done are told apart
+pub record DecidesReplay (files : Files) (names : InputNames) (status : Status) : Type 0 where
+  pub inputs : DecidesInputs files names status
+  pub done : ReadsInputs files names → IsDone status ⊎ (status ≡ statuses.WriteFault)
+
+abbrev pub Decides : Files → Task → Status → Type 0
+Decides files (Replay names) status = DecidesReplay files names status
+Decides files (Check names) status = DecidesCheck files names status
+
 -- a shelf that tells its files, and whose count did not rise, is of files that the status shows
 abbrev pub ShowsFiles : Option Files → ℕ → ℕ → List (List ℕ) → Status → Type 0
 ShowsFiles told before now words status =
-    (files : Files) (names : CheckNames) → told ≡ Some files → check_of words ≡ Some names
-    → DidNotRise before now → ShowsStatus files names status
+    (files : Files) (task : Task) → told ≡ Some files → task_of words ≡ Some task
+    → DidNotRise before now → ShowsStatus files task status
 
 -- and those files decide the status
 abbrev pub DecidesStatus : Option Files → ℕ → ℕ → List (List ℕ) → Status → Type 0
 DecidesStatus told before now words status =
-    (files : Files) (names : CheckNames) → told ≡ Some files → check_of words ≡ Some names
-    → DidNotRise before now → status ≢ statuses.Memory → Decides files names status
+    (files : Files) (task : Task) → told ≡ Some files → task_of words ≡ Some task
+    → DidNotRise before now → status ≢ statuses.Memory → Decides files task status
+
+-- ---- what is written on standard output
 
 -- the report that such files prove has so many answers with a proof, and so many that are too wide
-abbrev pub CountsAnswers : Option Files → ℕ → ℕ → List (List ℕ) → Accepted → Type 0
-CountsAnswers told before now words accepted =
-    (files : Files) (names : CheckNames) → told ≡ Some files → check_of words ≡ Some names
-    → DidNotRise before now → ProvesReport files names accepted
+abbrev pub CountsAnswers : Option Files → ℕ → ℕ → CheckNames → Accepted → Type 0
+CountsAnswers told before now names accepted =
+    (files : Files) → told ≡ Some files → DidNotRise before now → ProvesReport files names accepted
 
--- What is written on standard output, where it is told: the line of the accepted report where the work was done, a
--- proper beginning of that line where a write failed, and nothing under every other status.
-abbrev pub Writes : Option Files → ℕ → ℕ → List (List ℕ) → Option (List ℕ) → Option (List ℕ)
+-- By a check, where it is told: the line of the accepted report where the work was done, a proper beginning of that line
+-- where a write failed, and nothing under every other status.
+abbrev pub WritesLine : Option Files → ℕ → ℕ → CheckNames → Option (List ℕ) → Option (List ℕ)
     → Status → Type 0
-Writes told before now words old new statuses.Done = (accepted : Accepted)
-    × CountsAnswers told before now words accepted × (accepted.wide ≡ 0)
+WritesLine told before now names old new statuses.Done = (accepted : Accepted)
+    × CountsAnswers told before now names accepted × (accepted.wide ≡ 0)
     × Grew old new (accepted_text accepted)
-Writes told before now words old new statuses.DoneWide = (accepted : Accepted)
-    × CountsAnswers told before now words accepted × (0 < accepted.wide)
+WritesLine told before now names old new statuses.DoneWide = (accepted : Accepted)
+    × CountsAnswers told before now names accepted × (0 < accepted.wide)
     × Grew old new (accepted_text accepted)
-Writes told before now words old new statuses.WriteFault = (accepted : Accepted)
-    × CountsAnswers told before now words accepted × GrewShort old new (accepted_text accepted)
-Writes told before now words old new _ = new ≡ old
+WritesLine told before now names old new statuses.WriteFault = (accepted : Accepted)
+    × CountsAnswers told before now names accepted × GrewShort old new (accepted_text accepted)
+WritesLine told before now names old new _ = new ≡ old
+
+-- By a replay, where it is told: the report of the session, in which an answer is too wide or none is, a proper front of its
+-- beginning where a write failed, some front where memory ran out, and nothing under every other status.
+abbrev pub WritesBlocks : Option Files → ℕ → ℕ → InputNames → Option (List ℕ) → Option (List ℕ)
+    → Status → Type 0
+WritesBlocks told before now names old new statuses.Done = (t : DecisionTable) × (s : Session)
+    × AreOfFiles told before now names t s × (text : List ℕ) × (accepted : Accepted)
+    × IsReportOf t s text accepted × (accepted.wide ≡ 0) × Grew old new text
+WritesBlocks told before now names old new statuses.DoneWide = (t : DecisionTable) × (s : Session)
+    × AreOfFiles told before now names t s × (text : List ℕ) × (accepted : Accepted)
+    × IsReportOf t s text accepted × (0 < accepted.wide) × Grew old new text
+WritesBlocks told before now names old new statuses.WriteFault = (t : DecisionTable)
+    × (s : Session) × AreOfFiles told before now names t s × (text : List ℕ)
+    × IsBeginningOf t s text × GrewShort old new text
+WritesBlocks told before now names old new statuses.Memory = (new ≡ old)
+    ⊎ ((t : DecisionTable) × (s : Session) × AreOfFiles told before now names t s
+    × (text : List ℕ) × (n : ℕ) × IsBeginningOf t s text × Grew old new (take n text))
+WritesBlocks told before now names old new _ = new ≡ old
+
+-- by what the words ask for
+abbrev pub Writes : Option Files → ℕ → ℕ → Option Task → Option (List ℕ) → Option (List ℕ) → Status
+    → Type 0
+Writes told before now (Some (Replay names)) old new status =
+    WritesBlocks told before now names old new status
+Writes told before now (Some (Check names)) old new status =
+    WritesLine told before now names old new status
+Writes told before now None old new status = new ≡ old
 
 -- What is written on standard error, where it is told: the text of the status, or a proper beginning of it where its
 -- own count rose, which changes no status.
@@ -118,7 +193,7 @@ Says before now old new status =
 pub record IsRun (words : List (List ℕ)) (before now : ShelfState) (old new : SinkState)
     (status : Status) : Type 0 where
   -- the words decide usage, and nothing else does
-  pub usage : (status ≡ statuses.Usage) ↔ (check_of words ≡ None)
+  pub usage : (status ≡ statuses.Usage) ↔ (task_of words ≡ None)
   -- faults of the outside come only with a cause, and a count that rose decides the status
   pub read_fault : status ≡ statuses.ReadFault → Rose before.faults now.faults
       ⊎ LacksNamed before.told words
@@ -128,14 +203,19 @@ pub record IsRun (words : List (List ℕ)) (before now : ShelfState) (old new : 
   pub shelf_never_falls : before.faults ≤ now.faults
   pub out_never_falls : old.faults ≤ new.faults
   pub told_stays : now.told ≡ before.told
-  pub fetched : (n : ℕ) × EndsAfter status n × (now.fetches ≡ count_after n before.fetches)
-  -- Whatever the counts are: the work is not done without one of the files, nor begun without the table. Want of memory
-  -- is a status of its own, and no other one holds it.
+  pub fetched : (n : ℕ) × EndsAfter (files_named (task_of words)) status n
+      × (now.fetches ≡ count_after n before.fetches)
+  -- Whatever the counts are: the work is not done without one of the files, and ends at once without the table. Want of
+  -- memory is a status of its own, and no other one holds it.
   pub lacking : LacksNamed before.told words
       → (status ≢ statuses.Done) × (status ≢ statuses.DoneWide)
-  pub no_table : LacksTable before.told words → status ≡ statuses.ReadFault
+  pub no_table : LacksTable before.told words
+      → (status ≡ statuses.ReadFault) × (now.fetches ≡ next_count before.fetches)
   pub pure : HidesNoMemory status
+  -- only a check rejects
+  pub rejects : IsRejected status → (names : CheckNames) × (task_of words ≡ Some (Check names))
   -- what the files are like under each status, and which status the files lead to
   pub shows : ShowsFiles before.told before.faults now.faults words status
   pub decided : DecidesStatus before.told before.faults now.faults words status
-  pub output : Writes before.told before.faults now.faults words old.written new.written status
+  pub output : Writes before.told before.faults now.faults (task_of words) old.written new.written
+      status

@@ -96,10 +96,16 @@ abbrev pub rejection_line : Rejection → List ℕ
 rejection_line r =
     codes "rejected: block " ++ decimal r.block ++ codes " " ++ reason_text r.reason ++ codes "\n"
 
+-- the commands, each with the options that it takes in the end
+abbrev pub usage_text : List ℕ
+usage_text =
+    codes "usage: ror replay TABLE SESSION [--bits 15|31|63|127] [--best-first]"
+    ++ codes " | ror check TABLE SESSION REPORT [--best-first]\n"
+
 -- the line of a status; nothing where the work was done
 unfoldable pub status_text : Status → List ℕ
 status_text statuses.Done = []
-status_text statuses.Usage = codes "usage: ror check TABLE SESSION REPORT\n"
+status_text statuses.Usage = usage_text
 status_text (statuses.BadTable f) = table_line f
 status_text (statuses.BadSession f) = session_line f
 status_text (statuses.Rejected r) = rejection_line r

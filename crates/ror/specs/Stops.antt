@@ -1,4 +1,4 @@
--- Where the work on the three files stops, and what the files are like there.
+-- Where the work on the files stops, and what the files are like there.
 use Rattle.ror_bench.specs.declared.report.TheConstants.{MOST_REPORT_BYTES}
 use Rattle.std.specs.Prelude.{◌≡◌, ◌≢◌, ℕ, ◌<◌, ◌≤◌, ◌⊎◌, List, length, Option, Some, Result, Ok, Err, IfErr, IsErr, IsErrOf}
 use Rattle.ror_io.specs.Files.{Files, Lacks}
@@ -22,9 +22,9 @@ use Rattle.ror.specs.declared.status.Status.TheVariants as statuses
 use Rattle.ror.specs.declared.work.Stop.{Stop}
 use Rattle.ror.specs.declared.work.Stop.TheVariants as stops
 use Rattle.ror.specs.States.{ShelfState}
-use Rattle.ror.specs.Words.{CheckNames}
+use Rattle.ror.specs.Words.{InputNames, CheckNames, Task, Replay, Check}
 use Rattle.ror.specs.Statuses.{accepted_text, status_of}
-use Rattle.ror.specs.Work.{bench_for, ReadsTable, ReadsSession, RefusesTable, RefusesSession, ProvesReport, IsRejectionOf, RefutesReport, AnswersTrue, Misses, LacksOne}
+use Rattle.ror.specs.Work.{bench_for, ReadsTable, ReadsSession, RefusesTable, RefusesSession, ProvesReport, IsRejectionOf, RefutesReport, AnswersTrue, MissesInput, Misses, file_count, inputs_in, LacksOne}
 
 -- the stop that a fault of the shelf leads to, and those of the readers
 abbrev pub stop_at_shelf : ShelfFault → Stop
@@ -53,15 +53,26 @@ status_at (stops.BadTable fault) = statuses.BadTable fault
 status_at (stops.BadSession fault) = statuses.BadSession fault
 status_at (stops.Rejected rejection) = statuses.Rejected rejection
 status_at stops.ReadFault = statuses.ReadFault
+status_at stops.WriteFault = statuses.WriteFault
 status_at stops.Memory = statuses.Memory
 
--- what the files are like where the work stops
-abbrev pub ShowsStop : Files → CheckNames → Stop → Type 0
+-- what the files are like where the work stops at the table or the session
+abbrev pub ShowsStop : Files → InputNames → Stop → Type 0
 ShowsStop files names (stops.BadTable fault) = RefusesTable files names fault
 ShowsStop files names (stops.BadSession fault) = RefusesSession files names fault
-ShowsStop files names (stops.Rejected rejection) = RefutesReport files names rejection
-ShowsStop files names stops.ReadFault = Misses files names
+ShowsStop files names (stops.Rejected rejection) = ⊥
+ShowsStop files names stops.ReadFault = MissesInput files names
+ShowsStop files names stops.WriteFault = ⊥
 ShowsStop files names stops.Memory = Unit {0}
+
+-- and where it stops at any of the three files of a check
+abbrev pub ShowsCheckStop : Files → CheckNames → Stop → Type 0
+ShowsCheckStop files names (stops.BadTable fault) = RefusesTable files names.inputs fault
+ShowsCheckStop files names (stops.BadSession fault) = RefusesSession files names.inputs fault
+ShowsCheckStop files names (stops.Rejected rejection) = RefutesReport files names rejection
+ShowsCheckStop files names stops.ReadFault = Misses files names
+ShowsCheckStop files names stops.WriteFault = ⊥
+ShowsCheckStop files names stops.Memory = Unit {0}
 
 -- no stop holds a want of memory inside
 abbrev pub IsPure : Stop → Type 0
@@ -69,25 +80,27 @@ IsPure (stops.BadSession fault) = fault ≢ session_faults.Memory
 IsPure (stops.Rejected rejection) = IsFreeOfMemory rejection.reason
 IsPure _ = Unit {0}
 
--- The stop comes after so many fetches: one at the table, two at the session and three at the report. A file that could
--- not be read, and want of memory, may come at each.
+-- The stop comes after so many fetches: one at the table, two at the session and where a report is written, and three at
+-- the report. A file that could not be read may come at each, and want of memory before them too.
 abbrev pub StopsAfter : Stop → ℕ → Type 0
 StopsAfter (stops.BadTable fault) n = n ≡ 1
 StopsAfter (stops.BadSession fault) n = n ≡ 2
 StopsAfter (stops.Rejected rejection) n = n ≡ 3
-StopsAfter stops.ReadFault n = (1 ≤ n) × (n ≤ 3)
-StopsAfter stops.Memory n = n ≤ 3
+StopsAfter stops.ReadFault n = 1 ≤ n
+StopsAfter stops.WriteFault n = n ≡ 2
+StopsAfter stops.Memory n = Unit {0}
 
--- the work is done after three fetches
-abbrev pub WorksAfter : Result Accepted Stop → ℕ → Type 0
-WorksAfter (Ok accepted) n = n ≡ 3
-WorksAfter (Err stop) n = StopsAfter stop n
+-- where the work is done, after so many as the task has files
+abbrev pub WorksAfter : {A : Type 0} → Task → Result A Stop → ℕ → Type 0
+WorksAfter task (Ok done) n = n ≡ file_count task
+WorksAfter task (Err stop) n = (n ≤ file_count task) × StopsAfter stop n
 
 -- a stop at the bytes of a file, after so many fetches: it is none of the shelf
 pub record IsOfBytes (n : ℕ) (stop : Stop) : Type 0 where
   pub pure : IsPure stop
   pub after : StopsAfter stop n
   pub read : stop ≢ stops.ReadFault
+  pub write : stop ≢ stops.WriteFault
 
 -- what a step answered is what the definition reads of the bytes; want of memory says nothing
 abbrev pub ReadsTableAs : Result DecisionTable TableFault → Result DecisionTable Stop → Type 0
@@ -96,6 +109,7 @@ ReadsTableAs reading (Err (stops.BadTable fault)) = reading ≡ Err fault
 ReadsTableAs reading (Err (stops.BadSession fault)) = ⊥
 ReadsTableAs reading (Err (stops.Rejected rejection)) = ⊥
 ReadsTableAs reading (Err stops.ReadFault) = ⊥
+ReadsTableAs reading (Err stops.WriteFault) = ⊥
 ReadsTableAs reading (Err stops.Memory) = Unit {0}
 
 abbrev pub ReadsSessionAs : Result Session SessionFault → Result Session Stop → Type 0
@@ -104,6 +118,7 @@ ReadsSessionAs reading (Err (stops.BadTable fault)) = ⊥
 ReadsSessionAs reading (Err (stops.BadSession fault)) = reading ≡ Err fault
 ReadsSessionAs reading (Err (stops.Rejected rejection)) = ⊥
 ReadsSessionAs reading (Err stops.ReadFault) = ⊥
+ReadsSessionAs reading (Err stops.WriteFault) = ⊥
 ReadsSessionAs reading (Err stops.Memory) = Unit {0}
 
 -- what a step answered of a report's bytes: how many of its answers have a proof, and are true, and how many are too
@@ -118,6 +133,7 @@ Judges t s bytes (Err (stops.Rejected rejection)) =
     → IsProvedReport (bench_for t s) s.lines bytes accepted → ⊥)
     × IsRejectionOf (bench_for t s) s.lines bytes rejection
 Judges t s bytes (Err stops.ReadFault) = ⊥
+Judges t s bytes (Err stops.WriteFault) = ⊥
 Judges t s bytes (Err stops.Memory) = Unit {0}
 
 -- P of the files, where they are told and the count of faults did not rise
@@ -126,17 +142,17 @@ OfToldFiles told before now P =
     (files : Files) → told ≡ Some files → DidNotRise before now → P files
 
 -- what a table, a session, and the counts of a proved report's answers show, or else the stop
-abbrev pub ShowsTable : CheckNames → Result DecisionTable Stop → Files → Type 0
+abbrev pub ShowsTable : InputNames → Result DecisionTable Stop → Files → Type 0
 ShowsTable names (Ok t) files = ReadsTable files names t
 ShowsTable names (Err stop) files = ShowsStop files names stop
 
-abbrev pub ShowsSession : CheckNames → DecisionTable → Result Session Stop → Files → Type 0
+abbrev pub ShowsSession : InputNames → DecisionTable → Result Session Stop → Files → Type 0
 ShowsSession names t (Ok s) files = ReadsSession files names t s
 ShowsSession names t (Err stop) files = ShowsStop files names stop
 
 abbrev pub ShowsWork : CheckNames → Result Accepted Stop → Files → Type 0
 ShowsWork names (Ok accepted) files = ProvesReport files names accepted × AnswersTrue files names
-ShowsWork names (Err stop) files = ShowsStop files names stop
+ShowsWork names (Err stop) files = ShowsCheckStop files names stop
 
 -- Fetching the file with this name, the next after so many that were read, and reading it: what the shelf was and is, and
 -- what came of it.
@@ -151,22 +167,32 @@ pub record IsFetchOf {A : Type 0} (name : List ℕ) (place : ℕ) (before now : 
   pub rose : before.faults < now.faults → IsErrOf result stops.ReadFault
   pub pure : IfErr result IsPure
   pub stop : IfErr result (λ stop. StopsAfter stop place)
+  pub no_write : IsErrOf result stops.WriteFault → ⊥
 
--- the whole work on the files of these names
-pub record IsWorkOn (names : CheckNames) (before now : ShelfState)
-    (result : Result Accepted Stop) : Type 0 where
+-- a replay rejects nothing, and a check writes nothing before it is done
+abbrev pub MayStop : Task → Stop → Type 0
+MayStop (Replay names) (stops.Rejected rejection) = ⊥
+MayStop (Check names) stops.WriteFault = ⊥
+MayStop task stop = Unit {0}
+
+-- The whole work of a task on its files: what the shelf was and is, and what came of it. What the files are like then is
+-- for each task to say.
+pub record IsWorkOn {A : Type 0} (task : Task) (before now : ShelfState)
+    (Shows : Result A Stop → Files → Type 0) (result : Result A Stop) : Type 0 where
   pub never_falls : before.faults ≤ now.faults
   pub told_stays : now.told ≡ before.told
-  pub counted : (n : ℕ) × WorksAfter result n × (now.fetches ≡ count_after n before.fetches)
+  pub counted : (n : ℕ) × WorksAfter task result n × (now.fetches ≡ count_after n before.fetches)
   pub read_fault : IsErrOf result stops.ReadFault → Rose before.faults now.faults
-      ⊎ LacksOne before.told names
+      ⊎ LacksOne before.told task
   pub rose : before.faults < now.faults → IsErrOf result stops.ReadFault
-  pub lacking : LacksOne before.told names → IsErr result
-  pub no_table : Lacks before.told names.table → IsErrOf result stops.ReadFault
+  pub lacking : LacksOne before.told task → IsErr result
+  pub no_table : Lacks before.told (inputs_in task).table
+      → IsErrOf result stops.ReadFault × (now.fetches ≡ next_count before.fetches)
   pub pure : IfErr result IsPure
-  pub shows : OfToldFiles before.told before.faults now.faults (ShowsWork names result)
+  pub may_stop : IfErr result (MayStop task)
+  pub shows : OfToldFiles before.told before.faults now.faults (Shows result)
 
--- How a run ends after the work, and what it writes: the line of the accepted report or a proper front of it where the
+-- How a check ends after the work, and what it writes: the line of the accepted report or a proper front of it where the
 -- work was done, and nothing where it stopped.
 abbrev pub Concludes : ℕ → ℕ → Option (List ℕ) → Option (List ℕ) → Result Accepted Stop → Status
     → Type 0

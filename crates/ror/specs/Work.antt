@@ -1,4 +1,4 @@
--- What the bytes of the three files lead to.
+-- What the bytes of the files lead to.
 use Rattle.ror_bench.specs.declared.report.TheConstants.{MOST_REPORT_BYTES}
 use Rattle.std.specs.Prelude.{◌≡◌, ℕ, ◌<◌, ◌≤◌, ◌⊎◌, List, [], length, Option, Some, None, Ok, Err}
 use Rattle.ror_io.specs.Files.{Files, file, Lacks}
@@ -14,32 +14,34 @@ use Rattle.ror_bench.specs.declared.report.Rejection.{Rejection}
 use Rattle.ror_bench.specs.declared.report.Reason.TheVariants.{TooLong}
 use Rattle.ror_bench.specs.Bench.{Workbench, bench_of}
 use Rattle.ror_bench.specs.Reports.{IsProvedReport, IsAcceptedReport, IsRejectedFor}
-use Rattle.ror.specs.Words.{CheckNames}
+use Rattle.ror.specs.Words.{InputNames, CheckNames, Task, Replay, Check}
+
+-- ---- table and session
 
 -- a workbench over the table at whose desks no statement stands
 abbrev pub bench_for : DecisionTable → Session → Workbench
 bench_for t s = bench_of (record { table = t; opening = [] }) (length s.desks)
 
 -- the table's bytes are a table; are refused
-pub record ReadsTable (files : Files) (names : CheckNames) (t : DecisionTable) : Type 0 where
+pub record ReadsTable (files : Files) (names : InputNames) (t : DecisionTable) : Type 0 where
   pub bytes : List ℕ
   pub there : file files names.table ≡ Some bytes
   pub read : plain_table bytes ≡ Ok t
 
-pub record RefusesTable (files : Files) (names : CheckNames) (fault : TableFault) : Type 0 where
+pub record RefusesTable (files : Files) (names : InputNames) (fault : TableFault) : Type 0 where
   pub bytes : List ℕ
   pub there : file files names.table ≡ Some bytes
   pub refused : plain_table bytes ≡ Err fault
 
 -- the table was read, and the session's bytes are a session; are refused
-pub record ReadsSession (files : Files) (names : CheckNames) (t : DecisionTable)
+pub record ReadsSession (files : Files) (names : InputNames) (t : DecisionTable)
     (s : Session) : Type 0 where
   pub table : ReadsTable files names t
   pub bytes : List ℕ
   pub there : file files names.session ≡ Some bytes
   pub read : session_of bytes ≡ Ok s
 
-pub record RefusesSession (files : Files) (names : CheckNames) (fault : SessionFault) : Type 0 where
+pub record RefusesSession (files : Files) (names : InputNames) (fault : SessionFault) : Type 0 where
   pub table : DecisionTable
   pub table_read : ReadsTable files names table
   pub bytes : List ℕ
@@ -51,7 +53,7 @@ pub record RefusesSession (files : Files) (names : CheckNames) (fault : SessionF
 pub record ProvesReport (files : Files) (names : CheckNames) (accepted : Accepted) : Type 0 where
   pub table : DecisionTable
   pub session : Session
-  pub session_read : ReadsSession files names table session
+  pub session_read : ReadsSession files names.inputs table session
   pub bytes : List ℕ
   pub there : file files names.report ≡ Some bytes
   pub short : length bytes ≤ MOST_REPORT_BYTES
@@ -68,7 +70,7 @@ ProvesTheRest files names accepted = ProvesReport files names accepted × (0 < a
 pub record IsNotProved (files : Files) (names : CheckNames) : Type 0 where
   pub table : DecisionTable
   pub session : Session
-  pub session_read : ReadsSession files names table session
+  pub session_read : ReadsSession files names.inputs table session
   pub bytes : List ℕ
   pub there : file files names.report ≡ Some bytes
   pub not_proved : (accepted : Accepted) → length bytes ≤ MOST_REPORT_BYTES
@@ -78,7 +80,7 @@ pub record IsNotProved (files : Files) (names : CheckNames) : Type 0 where
 pub record IsLongReport (files : Files) (names : CheckNames) : Type 0 where
   pub table : DecisionTable
   pub session : Session
-  pub session_read : ReadsSession files names table session
+  pub session_read : ReadsSession files names.inputs table session
   pub bytes : List ℕ
   pub there : file files names.report ≡ Some bytes
   pub long : MOST_REPORT_BYTES < length bytes
@@ -95,7 +97,7 @@ pub data IsRejectionOf (bench : Workbench) (lines : List Line) (bytes : List ℕ
 pub record RejectsReport (files : Files) (names : CheckNames) (rejection : Rejection) : Type 0 where
   pub table : DecisionTable
   pub session : Session
-  pub session_read : ReadsSession files names table session
+  pub session_read : ReadsSession files names.inputs table session
   pub bytes : List ℕ
   pub there : file files names.report ≡ Some bytes
   pub rejected : IsRejectionOf (bench_for table session) session.lines bytes rejection
@@ -109,20 +111,45 @@ pub record RefutesReport (files : Files) (names : CheckNames) (rejection : Rejec
 pub record AnswersTrue (files : Files) (names : CheckNames) : Type 0 where
   pub table : DecisionTable
   pub session : Session
-  pub session_read : ReadsSession files names table session
+  pub session_read : ReadsSession files names.inputs table session
   pub bytes : List ℕ
   pub there : file files names.report ≡ Some bytes
   pub counts : Accepted
   pub accepted : IsAcceptedReport (bench_for table session) session.lines bytes counts
 
 -- the first file that is due and not there, the files before it having been read
-pub data Misses (files : Files) (names : CheckNames) : Type 0 where
-  no_table : file files names.table ≡ None → Misses files names
+pub data MissesInput (files : Files) (names : InputNames) : Type 0 where
+  no_table : file files names.table ≡ None → MissesInput files names
   no_session : (t : DecisionTable) → ReadsTable files names t → file files names.session ≡ None
-      → Misses files names
-  no_report : (t : DecisionTable) (s : Session) → ReadsSession files names t s
+      → MissesInput files names
+
+pub data Misses (files : Files) (names : CheckNames) : Type 0 where
+  no_input : MissesInput files names.inputs → Misses files names
+  no_report : (t : DecisionTable) (s : Session) → ReadsSession files names.inputs t s
       → file files names.report ≡ None → Misses files names
 
--- a told map lacks one of the three files
-abbrev pub LacksOne : Option Files → CheckNames → Type 0
-LacksOne told names = Lacks told names.table ⊎ Lacks told names.session ⊎ Lacks told names.report
+-- some table and some session were read
+pub record ReadsInputs (files : Files) (names : InputNames) : Type 0 where
+  pub table : DecisionTable
+  pub session : Session
+  pub read : ReadsSession files names table session
+
+-- ---- the files of a task
+
+-- how many there are
+abbrev pub file_count : Task → ℕ
+file_count (Replay names) = 2
+file_count (Check names) = 3
+
+-- those that a session is read from
+abbrev pub inputs_in : Task → InputNames
+inputs_in (Replay names) = names
+inputs_in (Check names) = names.inputs
+
+-- a told map lacks one of them
+abbrev pub LacksInput : Option Files → InputNames → Type 0
+LacksInput told names = Lacks told names.table ⊎ Lacks told names.session
+
+abbrev pub LacksOne : Option Files → Task → Type 0
+LacksOne told (Replay names) = LacksInput told names
+LacksOne told (Check names) = LacksInput told names.inputs ⊎ Lacks told names.report

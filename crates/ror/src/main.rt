@@ -1,7 +1,8 @@
-//! The program: checks a report on a table and a session, bytes to line.
+//! The program: writes the report of a session over a table, and checks one.
 #![tactic(auto)]
 
 mod host;
+mod replay;
 mod running;
 mod status;
 #[cfg(test)]

@@ -8,8 +8,8 @@ ghost use Rattle.ror.specs.Running.{IsRun, Says};
 
 use crate::status::Status;
 use crate::texts::{write_accepted, write_status};
-use crate::words::check_names;
-use crate::work::{Stop, check_files};
+use crate::words::{Command, command_in};
+use crate::work::{Stop, check_files, replay_files};
 use ror_bench::Accepted;
 use ror_io::{Shelf, Sink};
 use std::alloc::Global;
@@ -37,7 +37,7 @@ pub fn run<F: Shelf, O: Sink, E: Sink>(
     status
 }
 
-/// The status of a run, and the line of an accepted report.
+/// The status of a run, whose report or whose line of an accepted report is written.
 fn status_of<F: Shelf, O: Sink>(
     alloc: Global,
     words: &[String],
@@ -50,11 +50,18 @@ fn status_of<F: Shelf, O: Sink>(
         (sink_state (O.written out.old) (O.faults out.old))
         (sink_state (O.written out.new) (O.faults out.new)) result }
 {
-    let Some(names) = check_names(words) else {
-        return Status::Usage;
-    };
-    let outcome = check_files(alloc, &names, shelf);
-    conclude(outcome, out)
+    match command_in(words) {
+        Some(Command::Replay(names)) => match replay_files(alloc, &names, shelf, out) {
+            Ok(false) => Status::Done,
+            Ok(true) => Status::DoneWide,
+            Err(stop) => Status::from(stop),
+        },
+        Some(Command::Check(names, report)) => {
+            let outcome = check_files(alloc, &names, report, shelf);
+            conclude(outcome, out)
+        }
+        None => Status::Usage,
+    }
 }
 
 /// Writes the line of an accepted report, if there is one.

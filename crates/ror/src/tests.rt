@@ -2,7 +2,9 @@
 
 use crate::host::{FileShelf, StreamSink};
 use crate::running::run;
-use ror_io::{Fetched, MemoryShelf, MemorySink, Shelf, ShelfFault, Sink, SinkFault};
+use ror_io::{
+    Fetched, MemoryShelf, MemorySink, Shelf, ShelfFault, Sink, SinkFault, SteadyShelf, SteadySink,
+};
 use std::alloc::{AllocError, Global};
 use std::process::Abort;
 use std::test::Fail;
@@ -40,6 +42,16 @@ fn accepted() -> Case<'static> {
         code: 0,
         out: b"accepted 1 wide 0\n",
         err: b"",
+    }
+}
+
+/// The files of a replay of a contradiction that is taken back, and what is written: a piece for each write.
+fn taken_back() -> Case<'static> {
+    Case {
+        session: b"prefer a b\nprefer b a\nask consistent\nundo\nask consistent\n",
+        report: b"",
+        out: b"ror-report 1\nline 1\nadded 1\nline 2\nadded 2\nline 3\nanswer consistent contradiction\nbase multipliers | 0 1 1\nline 4\nundone\nline 5\nanswer consistent yes\nbase solution 0 1 0 0\nend 5\n",
+        ..accepted()
     }
 }
 
@@ -149,6 +161,59 @@ fn ends_where_a_stream_cannot_be_written(rt: HostRuntime) -> Result<(), Fail> {
     let mut out = MemorySink::new(rt.alloc(), 64)?;
     let mut err = MemorySink::new(rt.alloc(), 8)?;
     expect(&rt, "check t s r", &case, &mut shelf, &mut out, &mut err)
+}
+
+#[test]
+fn replays_a_session(rt: HostRuntime) -> Result<(), Fail> {
+    let case = taken_back();
+    let mut shelf = shelf_of(rt.alloc(), &case)?;
+    let mut out = MemorySink::new(rt.alloc(), 200)?;
+    let mut err = MemorySink::new(rt.alloc(), 0)?;
+    expect(&rt, "replay t s", &case, &mut shelf, &mut out, &mut err)
+}
+
+#[test]
+fn replays_over_files_and_streams_without_faults(rt: HostRuntime) -> Result<(), Fail> {
+    let alloc = rt.alloc();
+    let case = taken_back();
+    let mut shelf = SteadyShelf::new(alloc);
+    shelf.put("t", case.table)?;
+    shelf.put("s", case.session)?;
+    let mut out = SteadySink::new(alloc, 200)?;
+    let mut err = SteadySink::new(alloc, 0)?;
+    let mut words = Vec::new(alloc);
+    for word in ["replay", "t", "s"] {
+        words.push(String::from_str(alloc, word)?)?;
+    }
+    let status = run(alloc, words.as_slice(), &mut shelf, &mut out, &mut err);
+    assert_eq!(rt; (status.code(), out.written()), (0, case.out));
+    Ok(())
+}
+
+#[test]
+fn ends_where_a_block_cannot_be_written(rt: HostRuntime) -> Result<(), Fail> {
+    let whole = taken_back();
+    let fault = refused(whole, 7, b"write fault\n");
+    for (write, front) in [
+        (1u64, 0),
+        (2, 13),
+        (3, 28),
+        (4, 43),
+        (5, 107),
+        (6, 121),
+        (7, 172),
+    ] {
+        let case = Case {
+            out: &whole.out[..front],
+            ..fault
+        };
+        let mut shelf = shelf_of(rt.alloc(), &case)?;
+        let mut out = MemorySink::new(rt.alloc(), 200)?;
+        out.fail_at(write)?;
+        let mut err = MemorySink::new(rt.alloc(), 99)?;
+        expect(&rt, "replay t s", &case, &mut shelf, &mut out, &mut err)?;
+    }
+    Ok(())
 }
 
 fn fetched<S: Shelf>(

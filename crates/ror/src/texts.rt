@@ -2,7 +2,7 @@
 
 ghost use Rattle.std.specs.Prelude.{◌≡◌, ◌++◌};
 ghost use Rattle.ror.specs.Printing.{Prints};
-ghost use Rattle.ror.specs.Statuses.{kind_text, reject_text, fault_text, reason_text, table_line, session_line, rejection_line, status_text, accepted_text};
+ghost use Rattle.ror.specs.Statuses.{kind_text, reject_text, fault_text, reason_text, table_line, session_line, rejection_line, usage_text, status_text, accepted_text};
 
 use crate::status::Status;
 use itoa::{Buffer, Integer};
@@ -21,7 +21,7 @@ pub fn write_status<S: Sink>(sink: &mut S, status: &Status) -> Result<(), SinkFa
 {
     match status {
         Status::Done | Status::DoneWide => Ok(()),
-        Status::Usage => write_text(sink, b"usage: ror check TABLE SESSION REPORT\n"),
+        Status::Usage => write_usage(sink),
         Status::BadTable(fault) => write_table_fault(sink, fault),
         Status::BadSession(fault) => write_session_fault(sink, fault),
         Status::Rejected(rejection) => write_rejection(sink, rejection),
@@ -47,6 +47,20 @@ pub fn write_accepted<S: Sink>(sink: &mut S, accepted: Accepted) -> Result<(), S
             b" wide ",
             wide.format(accepted.wide).as_bytes(),
             b"\n",
+        ],
+    )
+}
+
+/// The commands, each with the options that it takes in the end.
+fn write_usage<S: Sink>(sink: &mut S) -> Result<(), SinkFault>
+    ensures { Prints (S.faults sink.old) (S.faults sink.new)
+        (S.written sink.old) (S.written sink.new) usage_text result }
+{
+    write_pieces(
+        sink,
+        &[
+            b"usage: ror replay TABLE SESSION [--bits 15|31|63|127] [--best-first]",
+            b" | ror check TABLE SESSION REPORT [--best-first]\n",
         ],
     )
 }

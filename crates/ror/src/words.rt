@@ -1,50 +1,105 @@
 //! The words of a command line.
 
-ghost use Rattle.std.specs.Prelude.{◌≡◌, [], ◌∷◌, map};
+ghost use Rattle.std.specs.Prelude.{◌≡◌, ◌↔◌, ◌⊎◌, [], ◌∷◌, map, IfSome, true, Some, None};
 ghost use Rattle.std.specs.Option.{option_map};
 ghost use Rattle.std.specs.String.{string_bytes};
-ghost use Rattle.ror.specs.Words.{check_of, is_name};
-ghost use Rattle.ror.specs.Named.{names_of};
+ghost use Rattle.ror.specs.Words.{task_of, is_name};
+ghost use Rattle.ror.specs.Named.{task_with, names_left, IsBeforeName};
 
-/// The files that a check reads, by name.
+/// The files that a session is read from, by name.
 #[derive(Debug, Drop)]
 pub struct FileNames<'a> {
     pub table: &'a str,
     pub session: &'a str,
-    pub report: &'a str,
 }
 
-/// The files of `check TABLE SESSION REPORT`, or `None` of all other words.
-pub fn check_names(words: &[String]) -> Option<FileNames<'_>>
-    ensures { option_map names_of result ≡ check_of (map string_bytes words.now) }
-{
-    if words.len() != 4 {
-        return None;
-    }
-    names_of_check(&words[0], &words[1], &words[2], &words[3])
+/// What the words ask for.
+#[derive(Debug, Drop)]
+pub enum Command<'a> {
+    /// The report of the session is written.
+    Replay(FileNames<'a>),
+    /// The report with this name is checked.
+    Check(FileNames<'a>, &'a str),
 }
 
-#[tactic(auto, unfolding(crate::specs::Words::check_of))]
-fn names_of_check<'a>(
-    command: &str,
-    table: &'a str,
-    session: &'a str,
-    report: &'a str,
-) -> Option<FileNames<'a>>
-    ensures { option_map names_of result
-        ≡ check_of (command.now ∷ table.now ∷ session.now ∷ report.now ∷ []) }
+/// `replay TABLE SESSION` or `check TABLE SESSION REPORT`, or `None` of all other words. After the command the first `--`
+/// is left out, and every word after it is a name; before it a word of two or more bytes that begins with `-` is none.
+pub fn command_in(words: &[String]) -> Option<Command<'_>>
+    ensures { option_map task_with result ≡ task_of (map string_bytes words.now) }
 {
-    if command != "check" {
+    let (command, rest) = words.split_first()?;
+    let mut names = Names {
+        words: rest,
+        ended: false,
+    };
+    let table = names.next()?;
+    let session = names.next()?;
+    let files = FileNames { table, session };
+    if command.as_str() == "replay" {
+        if !names.are_over() {
+            return None;
+        }
+        return Some(Command::Replay(files));
+    }
+    if command.as_str() != "check" {
         return None;
     }
-    if !is_name(table) || !is_name(session) || !is_name(report) {
+    let report = names.next()?;
+    if !names.are_over() {
         return None;
     }
-    Some(FileNames {
-        table,
-        session,
-        report,
-    })
+    Some(Command::Check(files, report))
+}
+
+/// The words after a command's that are left, and whether the first `--` was among those before them.
+#[derive(Drop)]
+struct Names<'a> {
+    words: &'a [String],
+    ended: bool,
+}
+
+impl<'a> Names<'a> {
+    /// The next name, or `None` where none is left or the next word is no name.
+    fn next(&mut self) -> Option<&'a str>
+        ensures some { IfSome result (λ name. names_left self.old
+            ≡ option_map (λ names. name.now ∷ names) (names_left self.new)) }
+        ensures none { result ≡ None → (names_left self.old ≡ Some []) ⊎ (names_left self.old ≡ None) }
+    {
+        self.pass_over_end();
+        let (word, rest) = self.words.split_first()?;
+        if !self.ended && !is_name(word) {
+            return None;
+        }
+        self.words = rest;
+        Some(word)
+    }
+
+    /// Passes over the first `--`, if it is next.
+    fn pass_over_end(&mut self)
+        ensures left { names_left self.new ≡ names_left self.old }
+        ensures before { IsBeforeName self.new }
+    {
+        if self.ended {
+            return;
+        }
+        if let Some((word, rest)) = self.words.split_first()
+            && word.as_str() == "--"
+        {
+            self.words = rest;
+            self.ended = true;
+        }
+    }
+
+    /// Whether no name is left.
+    fn are_over(&self) -> bool
+        ensures { result ≡ true ↔ names_left self.now ≡ Some [] }
+    {
+        match self.words {
+            [] => true,
+            [word] => !self.ended && word.as_str() == "--",
+            _ => false,
+        }
+    }
 }
 
 /// Whether the word is a name: one of two or more bytes that begins with `-` is none.

@@ -1,4 +1,4 @@
-//! The work of a check on its three files. After a fault of the shelf nothing more is fetched.
+//! The work of a command on its files. After a fault of the shelf nothing more is fetched.
 
 ghost use Rattle.std.specs.Prelude.{◌≡◌, ℕ, List, IfErr, IfOk};
 ghost use Rattle.ror_io.specs.Fetching.{Fetches, IsNoLonger};
@@ -6,15 +6,18 @@ ghost use Rattle.ror_table.specs.Table.{DecisionTable};
 ghost use Rattle.ror_table.specs.Plain.{plain_table};
 ghost use Rattle.ror_session.specs.Session.{session_of};
 ghost use Rattle.ror_session.specs.Sound.{IsSound};
-ghost use Rattle.ror.specs.Named.{names_of};
-ghost use Rattle.ror.specs.States.{shelf_state};
+ghost use Rattle.ror.specs.Words.{Replay, Check};
+ghost use Rattle.ror.specs.Named.{inputs_of, check_of};
+ghost use Rattle.ror.specs.States.{shelf_state, sink_state};
 ghost use Rattle.ror.specs.Work.{ReadsTable, ReadsSession};
 ghost use Rattle.ror.specs.Stops.{IsOfBytes, IsFetchOf, IsWorkOn, ReadsTableAs, ReadsSessionAs, Judges, OfToldFiles, ShowsTable, ShowsSession, ShowsWork};
+ghost use Rattle.ror.specs.Replaying.{WritesOfFiles, ShowsReplay};
 
+use crate::replay::write_report;
 use crate::status::Status;
 use crate::words::FileNames;
 use ror_bench::{Accepted, Bench, MOST_REPORT_BYTES, Reason, Rejection, ReportError, check_report};
-use ror_io::{Fetched, Shelf, ShelfFault};
+use ror_io::{Fetched, Shelf, ShelfFault, Sink};
 use ror_session::{Session, SessionFault, read_session};
 use ror_table::{Table, TableError, TableFault, TableKind, read_plain};
 use ror_text::Items;
@@ -22,7 +25,7 @@ use ror_text::lines::MOST_TEXT_BYTES;
 use ror_value::Input;
 use std::alloc::{AllocError, Global};
 
-/// Why the work came to no accepted report.
+/// Why the work came to no report, or to none that is accepted.
 #[derive(Debug, Drop)]
 pub enum Stop {
     /// The table's bytes are no table.
@@ -33,6 +36,8 @@ pub enum Stop {
     Rejected(Rejection),
     /// A file is not there, or could not be read.
     ReadFault,
+    /// Standard output could not be written.
+    WriteFault,
     /// There was not enough memory.
     Memory,
 }
@@ -110,9 +115,31 @@ impl From<Stop> for Status {
             Stop::BadSession(fault) => Status::BadSession(fault),
             Stop::Rejected(rejection) => Status::Rejected(rejection),
             Stop::ReadFault => Status::ReadFault,
+            Stop::WriteFault => Status::WriteFault,
             Stop::Memory => Status::Memory,
         }
     }
+}
+
+/// Fetches table and session, each once those before it were read, and writes the report of the session: whether an answer
+/// is too wide.
+pub fn replay_files<F: Shelf, O: Sink>(
+    alloc: Global,
+    names: &FileNames<'_>,
+    shelf: &mut F,
+    out: &mut O,
+) -> Result<bool, Stop>
+    ensures work { IsWorkOn (Replay (inputs_of names.now))
+        (shelf_state (F.told shelf.old) (F.faults shelf.old) (F.fetch_count shelf.old))
+        (shelf_state (F.told shelf.new) (F.faults shelf.new) (F.fetch_count shelf.new))
+        (ShowsReplay (inputs_of names.now)) result }
+    ensures written { WritesOfFiles (F.told shelf.old) (F.faults shelf.old) (F.faults shelf.new)
+        (inputs_of names.now) (sink_state (O.written out.old) (O.faults out.old))
+        (sink_state (O.written out.new) (O.faults out.new)) result }
+{
+    let table = fetch_table(alloc, names, shelf)?;
+    let session = fetch_session(alloc, names, shelf)?;
+    write_report(alloc, table, &session, out)
 }
 
 /// Fetches the three files in order, each once those before it were read, and gives how many answers of the report were
@@ -120,15 +147,17 @@ impl From<Stop> for Status {
 pub fn check_files<F: Shelf>(
     alloc: Global,
     names: &FileNames<'_>,
+    report: &str,
     shelf: &mut F,
 ) -> Result<Accepted, Stop>
-    ensures work { IsWorkOn (names_of names.now)
+    ensures work { IsWorkOn (Check (check_of names.now report.now))
         (shelf_state (F.told shelf.old) (F.faults shelf.old) (F.fetch_count shelf.old))
-        (shelf_state (F.told shelf.new) (F.faults shelf.new) (F.fetch_count shelf.new)) result }
+        (shelf_state (F.told shelf.new) (F.faults shelf.new) (F.fetch_count shelf.new))
+        (ShowsWork (check_of names.now report.now)) result }
 {
     let table = fetch_table(alloc, names, shelf)?;
     let session = fetch_session(alloc, names, shelf)?;
-    check_fetched(alloc, names, shelf, table, &session)
+    check_fetched(alloc, names, report, shelf, table, &session)
 }
 
 /// Reads a table that was fetched.
@@ -191,7 +220,7 @@ fn fetch_table<F: Shelf>(alloc: Global, names: &FileNames<'_>, shelf: &mut F) ->
         (shelf_state (F.told shelf.old) (F.faults shelf.old) (F.fetch_count shelf.old))
         (shelf_state (F.told shelf.new) (F.faults shelf.new) (F.fetch_count shelf.new)) result }
     ensures shows { OfToldFiles (F.told shelf.old) (F.faults shelf.old) (F.faults shelf.new)
-        (ShowsTable (names_of names.now) result) }
+        (ShowsTable (inputs_of names.now) result) }
 {
     table_in(alloc, shelf.fetch(alloc, names.table, MOST_TEXT_BYTES)?)
 }
@@ -206,8 +235,8 @@ fn fetch_session<F: Shelf>(
         (shelf_state (F.told shelf.old) (F.faults shelf.old) (F.fetch_count shelf.old))
         (shelf_state (F.told shelf.new) (F.faults shelf.new) (F.fetch_count shelf.new)) result }
     ensures shows { (t : DecisionTable) → OfToldFiles (F.told shelf.old) (F.faults shelf.old)
-        (F.faults shelf.new) (λ files. ReadsTable files (names_of names.now) t
-        → ShowsSession (names_of names.now) t result files) }
+        (F.faults shelf.new) (λ files. ReadsTable files (inputs_of names.now) t
+        → ShowsSession (inputs_of names.now) t result files) }
     ensures sound { IfOk result IsSound }
 {
     session_in(alloc, shelf.fetch(alloc, names.session, MOST_TEXT_BYTES)?)
@@ -217,18 +246,19 @@ fn fetch_session<F: Shelf>(
 fn check_fetched<F: Shelf>(
     alloc: Global,
     names: &FileNames<'_>,
+    report: &str,
     shelf: &mut F,
     table: Table,
     session: &Session,
 ) -> Result<Accepted, Stop>
     requires sound { IsSound session.now }
-    ensures fetch { IsFetchOf names.now.report.now 3
+    ensures fetch { IsFetchOf report.now 3
         (shelf_state (F.told shelf.old) (F.faults shelf.old) (F.fetch_count shelf.old))
         (shelf_state (F.told shelf.new) (F.faults shelf.new) (F.fetch_count shelf.new)) result }
     ensures shows { OfToldFiles (F.told shelf.old) (F.faults shelf.old) (F.faults shelf.new)
-        (λ files. ReadsSession files (names_of names.now) table session.now
-        → ShowsWork (names_of names.now) result files) }
+        (λ files. ReadsSession files (inputs_of names.now) table session.now
+        → ShowsWork (check_of names.now report.now) result files) }
 {
-    let fetched = shelf.fetch(alloc, names.report, MOST_REPORT_BYTES)?;
+    let fetched = shelf.fetch(alloc, report, MOST_REPORT_BYTES)?;
     answers_in(alloc, table, session, fetched)
 }

@@ -1,0 +1,91 @@
+//! The report of a session: its header, the block of each line, each written before the next line is taken, and its end.
+
+ghost use Rattle.std.specs.Prelude.{◌≡◌, ℕ, length, IsErr};
+ghost use Rattle.std.specs.List.{AllByRecursion};
+ghost use Rattle.ror_session.specs.Sound.{IsSound};
+ghost use Rattle.ror_report.specs.Text.{answers_of};
+ghost use Rattle.ror_bench.specs.Bench.{LeavesNumbers};
+ghost use Rattle.ror_bench.specs.Blocks.{passed_of};
+ghost use Rattle.ror_bench.specs.Reports.{NamesADesk};
+ghost use Rattle.ror.specs.States.{sink_state};
+ghost use Rattle.ror.specs.Replaying.{WritesReport, MakesBlocks, has_wide};
+
+use crate::work::Stop;
+use ror_bench::Bench;
+use ror_io::{Sink, SinkFault, write_all};
+use ror_pivot::Bits;
+use ror_proof::Verdict;
+use ror_report::{Block, Body, header, print_block, print_end};
+use ror_session::{Line, Session};
+use ror_table::Table;
+use ror_text::Items;
+use ror_value::Input;
+use std::alloc::Global;
+
+impl From<SinkFault> for Stop {
+    ghost use Rattle.ror.specs.declared.work.Stop.TheVariants.{WriteFault};
+
+    ghost from_gives = { λ _ stop. stop ≡ WriteFault };
+
+    fn from(_fault: SinkFault) -> Stop {
+        Stop::WriteFault
+    }
+}
+
+/// Writes the report of a session over a table, and says whether an answer is too wide. Each block is written before the
+/// next line is taken, and after a write that failed nothing more is.
+pub fn write_report<O: Sink>(
+    alloc: Global,
+    table: Table,
+    session: &Session,
+    out: &mut O,
+) -> Result<bool, Stop>
+    requires sound { IsSound session.now }
+    ensures { WritesReport table session.now (sink_state (O.written out.old) (O.faults out.old))
+        (sink_state (O.written out.new) (O.faults out.new)) result }
+{
+    let opening = Items::from(Vec::new(alloc));
+    let desks = session.desks.len() as u32;
+    let mut bench = Bench::new(alloc, Input { table, opening }, desks)?;
+    write_all(out, header())?;
+    let lines = session.lines.as_slice();
+    let wide = write_blocks(alloc, &mut bench, lines, out)?;
+    let end = print_end(alloc, lines.len() as u32)?;
+    write_all(out, end.as_slice())?;
+    Ok(wide)
+}
+
+/// Writes the block of each line, and says whether an answer is too wide.
+fn write_blocks<O: Sink>(
+    alloc: Global,
+    bench: &mut Bench,
+    lines: &[Line],
+    out: &mut O,
+) -> Result<bool, Stop>
+    requires desks { AllByRecursion (NamesADesk (length bench.old.state)) lines.now }
+    requires numbers { AllByRecursion (LeavesNumbers (length lines.now)) bench.old.state }
+    ensures { MakesBlocks bench.old lines.now (sink_state (O.written out.old) (O.faults out.old))
+        (sink_state (O.written out.new) (O.faults out.new)) result }
+{
+    let mut wide = false;
+    for line in lines {
+        let block = bench.step(line, Bits::B127)?;
+        let text = print_block(alloc, bench.table(), &block)?;
+        write_all(out, text.as_slice())?;
+        wide = wide || has_wide_answer(&block);
+    }
+    Ok(wide)
+}
+
+/// Whether an answer of the block is too wide.
+fn has_wide_answer(block: &Block) -> bool
+    ensures { result ≡ has_wide block.now }
+{
+    match &block.body {
+        Body::Answers(answers) => answers
+            .as_slice()
+            .iter()
+            .any(|answer| matches!(answer.verdict, Verdict::Wide { .. })),
+        _ => false,
+    }
+}
