@@ -192,19 +192,31 @@ fn replays_over_files_and_streams_without_faults(rt: HostRuntime) -> Result<(), 
 
 #[test]
 fn ends_where_a_block_cannot_be_written(rt: HostRuntime) -> Result<(), Fail> {
-    let whole = taken_back();
-    let fault = refused(whole, 7, b"write fault\n");
-    for (write, front) in [
-        (1u64, 0),
-        (2, 13),
-        (3, 28),
-        (4, 43),
-        (5, 107),
-        (6, 121),
-        (7, 172),
-    ] {
+    let fault = refused(taken_back(), 7, b"write fault\n");
+    let fronts = [
+        (1u64, b"".as_slice()),
+        (2, b"ror-report 1\n".as_slice()),
+        (3, b"ror-report 1\nline 1\nadded 1\n".as_slice()),
+        (
+            4,
+            b"ror-report 1\nline 1\nadded 1\nline 2\nadded 2\n".as_slice(),
+        ),
+        (
+            5,
+            b"ror-report 1\nline 1\nadded 1\nline 2\nadded 2\nline 3\nanswer consistent contradiction\nbase multipliers | 0 1 1\n".as_slice(),
+        ),
+        (
+            6,
+            b"ror-report 1\nline 1\nadded 1\nline 2\nadded 2\nline 3\nanswer consistent contradiction\nbase multipliers | 0 1 1\nline 4\nundone\n".as_slice(),
+        ),
+        (
+            7,
+            b"ror-report 1\nline 1\nadded 1\nline 2\nadded 2\nline 3\nanswer consistent contradiction\nbase multipliers | 0 1 1\nline 4\nundone\nline 5\nanswer consistent yes\nbase solution 0 1 0 0\n".as_slice(),
+        ),
+    ];
+    for (write, front) in fronts {
         let case = Case {
-            out: &whole.out[..front],
+            out: front,
             ..fault
         };
         let mut shelf = shelf_of(rt.alloc(), &case)?;
