@@ -1,7 +1,8 @@
 -- Rows of comparisons pushed one after another: their order, widths and number.
-use Rattle.std.proofs.Common.{◌≡◌, ℕ, ◌+◌, ◌≤◌, List, [], ◌∷◌, ◌++◌, length, map, ℤ, Option, Some, None, option_to_list, refl, ap, sym, subst, ◌∙◌, arith, length-append, append_assoc, true, false}
-use Rattle.std.specs.Prelude.{nat_lt, if◌then◌else◌}
+use Rattle.std.proofs.Common.{◌≡◌, ℕ, ◌+◌, ◌≤◌, List, [], ◌∷◌, ◌++◌, length, map, ℤ, Option, Some, None, option_to_list, refl, ap, sym, subst, ◌∙◌, arith, length-append, true, false}
+use Rattle.std.specs.Prelude.{nat_lt}
 use Rattle.std.specs.List.{AllByRecursion, flat_map}
+use Rattle.std.proofs.lemmas.List.{append-nil}
 use Rattle.std.proofs.lemmas.List.Concat.{flat_map-append}
 use Rattle.ror_integers.specs.Vectors.{ones}
 use Rattle.ror_integers.proofs.Dots.{length-ones}
@@ -105,7 +106,7 @@ one_extra : (strict : Bool) (form : Form) → rows_number (comparison_of_extra (
 one_extra true form = refl
 one_extra false form = refl
 
-extras_number : (extra : List Extra) → rows_number (map comparison_of_extra extra) ≡ length extra
+pub extras_number : (extra : List Extra) → rows_number (map comparison_of_extra extra) ≡ length extra
 extras_number [] = refl
 extras_number (e ∷ es) =
     let rest = extras_number es in
@@ -115,36 +116,32 @@ extras_number (e ∷ es) =
 
 -- ---- a whole system
 -- the rows of what each part says, one part after another
-pub parts_pushed : (t : DecisionTable) (own class extra : List Comparison) (w0 w1 w2 w3 s0 s1 s2 s3 : List (List ℤ)) → w0 ≡ [] → s0 ≡ ones (columns t) ∷ []
-    → w1 ≡ w0 ++ weak_rows t own → s1 ≡ s0 ++ strict_rows t own → w2 ≡ w1 ++ weak_rows t class → s2 ≡ s1 ++ strict_rows t class → w3 ≡ w2 ++ weak_rows t extra → s3 ≡ s2 ++ strict_rows t extra
-    → (w3 ≡ weak_rows t (own ++ class) ++ weak_rows t extra) × (s3 ≡ ones (columns t) ∷ (strict_rows t (own ++ class) ++ strict_rows t extra))
-parts_pushed t own class extra w0 w1 w2 w3 s0 s1 s2 s3 we se w1e s1e w2e s2e w3e s3e =
+pub parts_pushed : (t : DecisionTable) (own class : List Comparison) (w0 w1 w2 s0 s1 s2 : List (List ℤ)) → w0 ≡ [] → s0 ≡ ones (columns t) ∷ []
+    → w1 ≡ w0 ++ weak_rows t own → s1 ≡ s0 ++ strict_rows t own → w2 ≡ w1 ++ weak_rows t class → s2 ≡ s1 ++ strict_rows t class
+    → (w2 ≡ weak_rows t (own ++ class) ++ []) × (s2 ≡ ones (columns t) ∷ (strict_rows t (own ++ class) ++ []))
+parts_pushed t own class w0 w1 w2 s0 s1 s2 we se w1e s1e w2e s2e =
     let weak : w2 ≡ weak_rows t (own ++ class) = w2e ∙ ap (λ (xs : List (List ℤ)). xs ++ weak_rows t class) (w1e ∙ ap (λ (xs : List (List ℤ)). xs ++ weak_rows t own) we) ∙ sym (weak_rows-append t own class) in
     let strict : s2 ≡ ones (columns t) ∷ strict_rows t (own ++ class) = s2e ∙ ap (λ (xs : List (List ℤ)). xs ++ strict_rows t class) (s1e ∙ ap (λ (xs : List (List ℤ)). xs ++ strict_rows t own) se) ∙ ap (λ (xs : List (List ℤ)). ones (columns t) ∷ xs) (sym (strict_rows-append t own class)) in
-    (w3e ∙ ap (λ (xs : List (List ℤ)). xs ++ weak_rows t extra) weak, s3e ∙ ap (λ (xs : List (List ℤ)). xs ++ strict_rows t extra) strict)
+    (weak ∙ sym (append-nil (weak_rows t (own ++ class))), strict ∙ ap (λ (xs : List (List ℤ)). ones (columns t) ∷ xs) (sym (append-nil (strict_rows t (own ++ class)))))
 
-pub parts_weak_width : (t : DecisionTable) (list : List Statement) (extra : List Comparison) (n : ℕ) (rows : List (List ℤ)) → n ≡ columns t → AllByRecursion (IsValidIn t) list → AreNamed t extra
-    → rows ≡ weak_rows t (comparisons_of list) ++ weak_rows t extra → AreWide n rows
-parts_weak_width t list extra n rows e valid named is =
-    subst (AreWide n) (sym is) (subst (λ m. AreWide m (weak_rows t (comparisons_of list) ++ weak_rows t extra)) (sym e)
-    (all-append (λ row. length row ≡ columns t) (weak_rows t (comparisons_of list)) (weak_rows t extra) (weak_rows_width t (comparisons_of list) (comparisons_named t list valid)) (weak_rows_width t extra named)))
+pub parts_weak_width : (t : DecisionTable) (list : List Statement) (n : ℕ) (rows : List (List ℤ)) → n ≡ columns t → AllByRecursion (IsValidIn t) list
+    → rows ≡ weak_rows t (comparisons_of list) ++ [] → AreWide n rows
+parts_weak_width t list n rows e valid is =
+    subst (AreWide n) (sym (is ∙ append-nil (weak_rows t (comparisons_of list)))) (subst (λ m. AreWide m (weak_rows t (comparisons_of list))) (sym e) (weak_rows_width t (comparisons_of list) (comparisons_named t list valid)))
 
-pub parts_strict_width : (t : DecisionTable) (list : List Statement) (extra : List Comparison) (n : ℕ) (rows : List (List ℤ)) → n ≡ columns t → AllByRecursion (IsValidIn t) list → AreNamed t extra
-    → rows ≡ ones (columns t) ∷ (strict_rows t (comparisons_of list) ++ strict_rows t extra) → AreWide n rows
-parts_strict_width t list extra n rows e valid named is =
-    subst (AreWide n) (sym is) (subst (λ m. AreWide m (ones (columns t) ∷ (strict_rows t (comparisons_of list) ++ strict_rows t extra))) (sym e)
-    (length-ones (columns t), all-append (λ row. length row ≡ columns t) (strict_rows t (comparisons_of list)) (strict_rows t extra) (strict_rows_width t (comparisons_of list) (comparisons_named t list valid)) (strict_rows_width t extra named)))
+pub parts_strict_width : (t : DecisionTable) (list : List Statement) (n : ℕ) (rows : List (List ℤ)) → n ≡ columns t → AllByRecursion (IsValidIn t) list
+    → rows ≡ ones (columns t) ∷ (strict_rows t (comparisons_of list) ++ []) → AreWide n rows
+parts_strict_width t list n rows e valid is =
+    let whole : rows ≡ ones (columns t) ∷ strict_rows t (comparisons_of list) = is ∙ ap (λ (xs : List (List ℤ)). ones (columns t) ∷ xs) (append-nil (strict_rows t (comparisons_of list))) in
+    subst (AreWide n) (sym whole) (subst (λ m. AreWide m (ones (columns t) ∷ strict_rows t (comparisons_of list))) (sym e) (length-ones (columns t), strict_rows_width t (comparisons_of list) (comparisons_named t list valid)))
 
-pub parts_number : (t : DecisionTable) (list : List Statement) (extra : List Extra) (weak strict : List (List ℤ)) → IsLawfulIn t list → length extra ≤ 200
-    → weak ≡ weak_rows t (comparisons_of list) ++ weak_rows t (map comparison_of_extra extra) → strict ≡ ones (columns t) ∷ (strict_rows t (comparisons_of list) ++ strict_rows t (map comparison_of_extra extra))
-    → length weak + length strict ≤ 2200
-parts_number t list extra weak strict lawful few p q =
+pub parts_number : (t : DecisionTable) (list : List Statement) (weak strict : List (List ℤ)) → IsLawfulIn t list
+    → weak ≡ weak_rows t (comparisons_of list) ++ [] → strict ≡ ones (columns t) ∷ (strict_rows t (comparisons_of list) ++ [])
+    → length weak + length strict ≤ 2000
+parts_number t list weak strict lawful p q =
     let cs = comparisons_of list in
-    let es = map comparison_of_extra extra in
-    let first = number_of_rows t cs in
-    let second = number_of_rows t es in
-    let third = extras_number extra in
+    let number = number_of_rows t cs in
     let w = ap length p in
     let s = ap length q in
     let most = lawful.rows in
-    omega (arith, length-append (weak_rows t cs) (weak_rows t es), length-append (strict_rows t cs) (strict_rows t es), first, second, third, w, s, most, few)
+    omega (arith, length-append (weak_rows t cs) [], length-append (strict_rows t cs) [], number, w, s, most)

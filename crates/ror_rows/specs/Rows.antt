@@ -82,6 +82,14 @@ system_for t list extra = record {
   strict = ones (columns t) ∷ (strict_rows t (comparisons_of list) ++ strict_rows t extra);
 }
 
+-- the system with the rows of these comparisons after its own in each part
+abbrev pub extended_by : DecisionTable → LinearSystem → List Comparison → LinearSystem
+extended_by t s extra = record {
+  columns = s.columns;
+  weak = s.weak ++ weak_rows t extra;
+  strict = s.strict ++ strict_rows t extra;
+}
+
 -- an extra row as the comparison that it stands for
 abbrev pub relation_of_flag : Bool → Relation
 relation_of_flag true = Above

@@ -12,4 +12,4 @@ mod tests;
 pub use extra::{Extra, Extras};
 pub use questions::question_systems;
 pub use ror_statement::{Form, QuestionKind, kind_of};
-pub use rows::system_of;
+pub use rows::{system_of, with_extras};

@@ -1,12 +1,12 @@
 //! The systems of statements and questions.
 
-ghost use Rattle.std.specs.Prelude.{◌≡◌, ◌≤◌, ◌++◌, [], ◌∷◌, length, map, option_to_list, IfOk, OnOk};
+ghost use Rattle.std.specs.Prelude.{◌≡◌, ◌≤◌, ◌+◌, ◌++◌, [], ◌∷◌, length, map, option_to_list, IfOk, OnOk};
 ghost use Rattle.std.specs.List.{AllByRecursion, flat_map};
 ghost use Rattle.ror_integers.specs.Vectors.{ones};
 ghost use Rattle.ror_statement.specs.Statements.{comparison_by, comparison_of, outranking, class_comparisons};
 ghost use Rattle.ror_table.specs.Table.{columns};
 ghost use Rattle.ror_value.specs.Over.{IsNamedIn, IsValidIn, IsLawfulIn};
-ghost use Rattle.ror_rows.specs.Rows.{system_for, comparison_of_extra, weak_rows, strict_rows};
+ghost use Rattle.ror_rows.specs.Rows.{system_for, extended_by, comparison_of_extra, weak_rows, strict_rows};
 
 use crate::differences::row_of_form;
 use crate::extra::{Extra, turned};
@@ -15,27 +15,45 @@ use ror_system::{Row, System};
 use ror_table::Table;
 use std::alloc::{AllocError, Global};
 
-/// The system of the statements and of the extra rows: in each part the rows of all that the statements say, in order,
-/// then the extra ones; the first strict row, all ones, says that the total is positive.
+/// The system of the statements: in each part the rows of all that the statements say, in order; the first strict row, all
+/// ones, says that the total is positive.
 ///
-/// It asks a lawful list and at most 200 extra rows, each with names of the table.
-pub fn system_of(
-    alloc: Global,
-    table: &Table,
-    list: &[Statement],
-    extra: &[Extra],
-) -> Result<System, AllocError>
-    requires lawful { IsLawfulIn table.now list.now }
-    requires few { length extra.now ≤ 200 }
-    requires named { AllByRecursion (λ e. IsNamedIn table.now e.form) extra.now }
-    ensures { IfOk result (λ s. s ≡ system_for table.now list.now
-        (map comparison_of_extra extra.now)) }
+/// It asks a lawful list.
+pub fn system_of(alloc: Global, table: &Table, list: &[Statement]) -> Result<System, AllocError>
+    requires { IsLawfulIn table.now list.now }
+    ensures system { IfOk result (λ s. s ≡ system_for table.now list.now []) }
+    ensures few { IfOk result (λ s. length s.weak + length s.strict ≤ 2000) }
 {
     let mut rows = Rows::new(alloc, table.columns())?;
     rows.push_statements(alloc, table, list)?;
     rows.push_classes(alloc, table, list)?;
-    rows.push_extras(alloc, table, extra)?;
     Ok(System::new(table.columns(), rows.weak, rows.strict))
+}
+
+/// The system with the extra rows: in each part the rows of the base, copied, and then the extra ones, in order.
+///
+/// It asks a base of at most 2,000 rows over the columns of the table, and at most 200 extra rows, each with names of the
+/// table.
+pub fn with_extras(
+    alloc: Global,
+    table: &Table,
+    base: &System,
+    extra: &[Extra],
+) -> Result<System, AllocError>
+    requires columns { base.now.columns ≡ columns table.now }
+    requires rows { length base.now.weak + length base.now.strict ≤ 2000 }
+    requires few { length extra.now ≤ 200 }
+    requires named { AllByRecursion (λ e. IsNamedIn table.now e.form) extra.now }
+    ensures { IfOk result (λ s. s ≡ extended_by table.now base.now
+        (map comparison_of_extra extra.now)) }
+{
+    let mut rows = Rows {
+        weak: Vec::with_capacity(alloc, base.weak().len() + extra.len())?,
+        strict: Vec::with_capacity(alloc, base.strict().len() + extra.len())?,
+    };
+    rows.push_system(alloc, base)?;
+    rows.push_extras(alloc, table, extra)?;
+    Ok(System::new(base.columns(), rows.weak, rows.strict))
 }
 
 /// The rows of a system that is being made.
@@ -58,6 +76,16 @@ impl Rows {
             weak: Vec::new(alloc),
             strict,
         })
+    }
+
+    /// Pushes copies of the rows of a system, in order.
+    fn push_system(&mut self, alloc: Global, system: &System) -> Result<(), AllocError>
+        ensures weak { OnOk result (self.new.weak.items ≡ self.old.weak.items ++ system.now.weak) }
+        ensures strict { OnOk result
+            (self.new.strict.items ≡ self.old.strict.items ++ system.now.strict) }
+    {
+        push_copies(&mut self.weak, alloc, system.weak())?;
+        push_copies(&mut self.strict, alloc, system.strict())
     }
 
     /// Pushes the rows of a comparison.
@@ -187,4 +215,25 @@ impl Rows {
         }
         Ok(())
     }
+}
+
+/// Pushes copies of the rows, in order.
+fn push_copies(rows: &mut Vec<Row>, alloc: Global, more: &[Row]) -> Result<(), AllocError>
+    ensures { OnOk result (rows.new.items ≡ rows.old.items ++ more.now) }
+{
+    for row in more {
+        rows.push(copied(alloc, row)?)?;
+    }
+    Ok(())
+}
+
+/// The same row again.
+fn copied(alloc: Global, row: &Row) -> Result<Row, AllocError>
+    ensures { IfOk result (λ copy. copy ≡ row.now) }
+{
+    let mut entries = Vec::with_capacity(alloc, row.len())?;
+    for j in 0..row.len() {
+        entries.push(row.entry(j))?;
+    }
+    Ok(Row::from_vec(entries))
 }

@@ -1,6 +1,6 @@
 //! Tests of the crate's public calls.
 
-use crate::{Extra, Form, question_systems, system_of};
+use crate::{Extra, Form, question_systems, system_of, with_extras};
 use ror_statement::{Question, Statement};
 use ror_system::Row;
 use ror_table::read_plain;
@@ -37,7 +37,8 @@ fn a_statement_and_then_an_extra_follow_the_row_of_ones(rt: HostRuntime) -> Resu
     let systems = question_systems(rt.alloc(), &table, &list, &Question::Necessary(0, 1))?;
     assert_eq!(rt; systems.len(), 1);
     assert_eq!(rt; systems[0].as_slice(), extra.as_slice());
-    let system = system_of(rt.alloc(), &table, &list, &extra)?;
+    let base = system_of(rt.alloc(), &table, &list)?;
+    let system = with_extras(rt.alloc(), &table, &base, &extra)?;
     assert_eq!(rt; system.columns(), 4);
     assert_eq!(rt; system.weak().len(), 0);
     let strict = system.strict();
@@ -56,7 +57,8 @@ fn a_weak_extra_is_a_weak_row(rt: HostRuntime) -> Result<(), Fail> {
         form: Form::Value(0, 1),
         strict: false,
     };
-    let system = system_of(rt.alloc(), &table, &[], &[same])?;
+    let base = system_of(rt.alloc(), &table, &[])?;
+    let system = with_extras(rt.alloc(), &table, &base, &[same])?;
     assert_eq!(rt; system.weak().len(), 1);
     assert!(rt; is_row(&system.weak()[0], &[0]));
     assert_eq!(rt; system.strict().len(), 1);
