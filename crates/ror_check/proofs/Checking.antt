@@ -1,5 +1,5 @@
 -- What the accepted certificates of an answer prove, and that a refused answer is not proved.
-use Rattle.std.proofs.Common.{◌≡◌, ℕ, zero, suc, ◌+◌, ◌<◌, ◌≤◌, Bool, true, false, ◌&&◌, List, [], ◌∷◌, length, map, get_or, Some, refl, sym, ap, subst, ◌∙◌, arith, inl, inr}
+use Rattle.std.proofs.Common.{◌≡◌, ℕ, zero, suc, ◌+◌, ◌<◌, ◌≤◌, Bool, true, false, ◌&&◌, List, [], ◌∷◌, length, map, get_or, Some, refl, sym, ap, ap₂, subst, ◌∙◌, arith, inl, inr}
 use Rattle.std.proofs.lemmas.Bool.{cases_lt}
 use Rattle.std.specs.Prelude.{slice_get, ◌↔◌}
 use Rattle.std.specs.List.{AllByRecursion, list_all, range_with_len}
@@ -22,8 +22,9 @@ use Rattle.ror_system.proofs.SolutionTests as solutions
 use Rattle.ror_system.proofs.MultiplierTests as multipliers
 use Rattle.ror_system.specs.declared.reject.Reject.{Reject}
 use Rattle.ror_rows.specs.declared.extra.Extra.{Extra}
-use Rattle.ror_rows.specs.Rows.{system_for, comparison_of_extra, negation_of, conditions_of, systems_by, systems_of_question, extras_of}
+use Rattle.ror_rows.specs.Rows.{system_for, extended_by, comparison_of_extra, negation_of, conditions_of, systems_by, systems_of_question, extras_of}
 use Rattle.ror_rows.proofs.Building.{turned-named}
+use Rattle.ror_rows.proofs.Extending.{extended_is}
 use Rattle.ror_rows.proofs.Deciding.{base_solvable_is_consistent, conditions_named, conditions_few, systems_decide_every, any_decides}
 use Rattle.ror_proof.specs.declared.answer.Certificate.{Certificate}
 use Rattle.ror_proof.specs.declared.answer.Certificate.TheVariants as certificates
@@ -70,12 +71,12 @@ systems_usable t list vs q e lawful asked =
     usable_all t vs (rw e named)
 
 -- the systems that are checked are those of the question
-systems_with-map : (t : DecisionTable) (list : List Statement) (vs : List (SmallVec Extra)) → systems_with t list vs ≡ map (system_for t list) (map extras_of vs)
-systems_with-map t list [] = refl
-systems_with-map t list (v ∷ vs) = ap (λ (rest : List LinearSystem). system_for t list (extras_of v) ∷ rest) (systems_with-map t list vs)
+systems_with-map : (t : DecisionTable) (list : List Statement) (s : LinearSystem) (vs : List (SmallVec Extra)) → s ≡ base_system t list → systems_with t s vs ≡ map (system_for t list) (map extras_of vs)
+systems_with-map t list s [] is = refl
+systems_with-map t list s (v ∷ vs) is = ap₂ (λ (first : LinearSystem) (rest : List LinearSystem). first ∷ rest) (extended_is t list (extras_of v) s (extended_by t s (extras_of v)) is refl) (systems_with-map t list s vs is)
 
-pub systems_with-are : (t : DecisionTable) (list : List Statement) (vs : List (SmallVec Extra)) (q : Question) → map extras_of vs ≡ systems_of_question list q → systems_with t list vs ≡ question_systems_of t list q
-systems_with-are t list vs q e = systems_with-map t list vs ∙ ap (map (system_for t list)) e
+pub systems_with-are : (t : DecisionTable) (list : List Statement) (s : LinearSystem) (vs : List (SmallVec Extra)) (q : Question) → s ≡ base_system t list → map extras_of vs ≡ systems_of_question list q → systems_with t s vs ≡ question_systems_of t list q
+systems_with-are t list s vs q is e = systems_with-map t list s vs is ∙ ap (map (system_for t list)) e
 
 -- ---- certificates
 
@@ -122,14 +123,14 @@ slice_get-at [] i x lt e = absurd (omega arith)
 slice_get-at (y ∷ ys) zero x lt e = ap Some (sym e)
 slice_get-at (y ∷ ys) (suc i) x lt e = slice_get-at ys i x (omega arith) e
 
-slice_get-systems : (t : DecisionTable) (list : List Statement) (vs : List (SmallVec Extra)) (i : ℕ) (v : SmallVec Extra) → slice_get vs i ≡ Some v → slice_get (systems_with t list vs) i ≡ Some (system_for t list (extras_of v))
-slice_get-systems t list [] i v e = absurd cc
-slice_get-systems t list (w ∷ vs) zero v e = ap (λ (z : SmallVec Extra). Some (system_for t list (extras_of z))) (some_same e)
-slice_get-systems t list (w ∷ vs) (suc i) v e = slice_get-systems t list vs i v e
+slice_get-systems : (t : DecisionTable) (base : LinearSystem) (vs : List (SmallVec Extra)) (i : ℕ) (v : SmallVec Extra) → slice_get vs i ≡ Some v → slice_get (systems_with t base vs) i ≡ Some (extended_by t base (extras_of v))
+slice_get-systems t base [] i v e = absurd cc
+slice_get-systems t base (w ∷ vs) zero v e = ap (λ (z : SmallVec Extra). Some (extended_by t base (extras_of z))) (some_same e)
+slice_get-systems t base (w ∷ vs) (suc i) v e = slice_get-systems t base vs i v e
 
 -- the system that a part names is the one at the place before its number
-pub system_here : (t : DecisionTable) (list : List Statement) (vs : List (SmallVec Extra)) (i : ℕ) (v : SmallVec Extra) (s : LinearSystem) → i < length vs → v ≡ get_or vs i v → s ≡ system_for t list (extras_of v) → slice_get (systems_with t list vs) i ≡ Some s
-system_here t list vs i v s within v-is s-is = rw s-is (slice_get-systems t list vs i v (slice_get-at vs i v within v-is))
+pub system_here : (t : DecisionTable) (base : LinearSystem) (vs : List (SmallVec Extra)) (i : ℕ) (v : SmallVec Extra) (s : LinearSystem) → i < length vs → v ≡ get_or vs i v → s ≡ extended_by t base (extras_of v) → slice_get (systems_with t base vs) i ≡ Some s
+system_here t base vs i v s within v-is s-is = rw s-is (slice_get-systems t base vs i v (slice_get-at vs i v within v-is))
 
 -- one more part is shown
 pub shown_more : (systems : List LinearSystem) (parts : List Part) (i k : ℕ) (p : Part) (s : LinearSystem) → AreShownBefore systems parts i → i < length parts → p ≡ get_or parts i p → p.at ≡ k + 1 → slice_get systems k ≡ Some s
@@ -252,18 +253,18 @@ three_true true false d e = absurd cc
 three_true false true d e = absurd cc
 three_true false false d e = absurd cc
 
-pub proves : (t : DecisionTable) (list : List Statement) (q : Question) (c : Conclusion) (proof : Proof) (vs : List (SmallVec Extra)) → map extras_of vs ≡ systems_of_question list q
+pub proves : (t : DecisionTable) (list : List Statement) (q : Question) (c : Conclusion) (proof : Proof) (s : LinearSystem) (vs : List (SmallVec Extra)) → s ≡ base_system t list → map extras_of vs ≡ systems_of_question list q
     → has_kinds q c proof ≡ true → AreNumbersFor (kind_of q) c (length vs) (map (λ p. p.at) proof.parts) → ((side : Side) → is_side side proof.base ≡ true → Shows side (base_system t list) proof.base)
-    → AreShownBefore (systems_with t list vs) proof.parts (length proof.parts) → Proves t list q c proof
-proves t list q c proof vs e kinds numbered base shown =
+    → AreShownBefore (systems_with t s vs) proof.parts (length proof.parts) → Proves t list q c proof
+proves t list q c proof s vs is e kinds numbered base shown =
     let k = three_true (may_conclude (kind_of q) c) (is_side (base_side c) proof.base) (have_kind (kind_of q) c proof.parts) kinds in
-    let same = systems_with-are t list vs q e in
+    let same = systems_with-are t list s vs q is e in
     let sides = kinds_of_parts (kind_of q) c (length vs) proof.parts numbered k.2 in
     record {
       listed = k.0;
       base = base (base_side c) k.1;
       numbered = subst (λ (n : ℕ). AreNumbersFor (kind_of q) c n (map (λ p. p.at) proof.parts)) (as_many list vs q e) numbered;
-      parts = subst (λ (systems : List LinearSystem). AllByRecursion (ShowsOfItsSystem (part_side (kind_of q) c) systems) proof.parts) same (all_shown (part_side (kind_of q) c) (systems_with t list vs) proof.parts sides shown);
+      parts = subst (λ (systems : List LinearSystem). AllByRecursion (ShowsOfItsSystem (part_side (kind_of q) c) systems) proof.parts) same (all_shown (part_side (kind_of q) c) (systems_with t s vs) proof.parts sides shown);
     }
 
 -- ---- truth

@@ -244,11 +244,11 @@ answer_not_proved t list q x r h = refused_not_passed (FailsAnswer t list q x) I
 
 -- ---- the steps of a check, over the systems that are at hand
 
-pub proof_accepted : {A : Type 0} (t : DecisionTable) (list : List Statement) (q : Question) (c : Conclusion) (proof : Proof) (es : List (SmallVec Extra)) (ps : List Part) (r : Result A CheckFault) → map extras_of es ≡ systems_of_question list q → ps ≡ proof.parts
-    → has_kinds q c proof ≡ true → AreNumbersFor (kind_of q) c (length es) (map (λ p. p.at) ps) → ((side : Side) → is_side side proof.base ≡ true → Shows side (base_system t list) proof.base) → OnOk r (AreShownBefore (systems_with t list es) ps (length ps)) → OnOk r (Proves t list q c proof)
-proof_accepted t list q c proof es ps (Ok u) e same kinds numbered base shown =
-    proves t list q c proof es e kinds (subst (λ (parts : List Part). AreNumbersFor (kind_of q) c (length es) (map (λ p. p.at) parts)) same numbered) base (subst (λ (parts : List Part). AreShownBefore (systems_with t list es) parts (length parts)) same shown)
-proof_accepted t list q c proof es ps (Err g) e same kinds numbered base shown = tt
+pub proof_accepted : {A : Type 0} (t : DecisionTable) (list : List Statement) (q : Question) (c : Conclusion) (proof : Proof) (s : LinearSystem) (es : List (SmallVec Extra)) (ps : List Part) (r : Result A CheckFault) → s ≡ base_system t list → map extras_of es ≡ systems_of_question list q → ps ≡ proof.parts
+    → has_kinds q c proof ≡ true → AreNumbersFor (kind_of q) c (length es) (map (λ p. p.at) ps) → ((side : Side) → is_side side proof.base ≡ true → Shows side (base_system t list) proof.base) → OnOk r (AreShownBefore (systems_with t s es) ps (length ps)) → OnOk r (Proves t list q c proof)
+proof_accepted t list q c proof s es ps (Ok u) is e same kinds numbered base shown =
+    proves t list q c proof s es is e kinds (subst (λ (parts : List Part). AreNumbersFor (kind_of q) c (length es) (map (λ p. p.at) parts)) same numbered) base (subst (λ (parts : List Part). AreShownBefore (systems_with t s es) parts (length parts)) same shown)
+proof_accepted t list q c proof s es ps (Err g) is e same kinds numbered base shown = tt
 
 parts_refused : (t : DecisionTable) (list : List Statement) (q : Question) (c : Conclusion) (proof : Proof) (systems : List LinearSystem) (g : CheckFault) → systems ≡ question_systems_of t list q → has_kinds q c proof ≡ true → AreNumberedFor list q c proof.parts → Shows (base_side c) (base_system t list) proof.base → RefusesParts systems proof.parts g → RefusesProof t list q c proof g
 parts_refused t list q c proof systems faults.WrongQuestion e kinds numbered base h = absurd h
@@ -284,9 +284,9 @@ base_refuses t list q c proof faults.Memory kinds numbered h = tt
 pub base_refused : (t : DecisionTable) (list : List Statement) (q : Question) (c : Conclusion) (proof : Proof) (g : CheckFault) → has_kinds q c proof ≡ true → AreNumberedFor list q c proof.parts → RefusesBase (base_system t list) proof.base g → IsRefusedBy (FailsProof t list q c proof) IsEarlierFault faults.Memory g
 base_refused t list q c proof g kinds numbered h = refused t list q c proof g (base_refuses t list q c proof g kinds numbered h)
 
-pub proof_refused : {A : Type 0} (t : DecisionTable) (list : List Statement) (q : Question) (c : Conclusion) (proof : Proof) (es : List (SmallVec Extra)) (ps : List Part) (r : Result A CheckFault) → map extras_of es ≡ systems_of_question list q → ps ≡ proof.parts
-    → has_kinds q c proof ≡ true → AreNumbersFor (kind_of q) c (length es) (map (λ p. p.at) ps) → ((side : Side) → is_side side proof.base ≡ true → Shows side (base_system t list) proof.base) → IfErr r (RefusesParts (systems_with t list es) ps) → IfErr r (IsRefusedBy (FailsProof t list q c proof) IsEarlierFault faults.Memory)
-proof_refused t list q c proof es ps (Ok u) e same kinds numbered base h = tt
-proof_refused t list q c proof es ps (Err g) e same kinds numbered base h =
+pub proof_refused : {A : Type 0} (t : DecisionTable) (list : List Statement) (q : Question) (c : Conclusion) (proof : Proof) (s : LinearSystem) (es : List (SmallVec Extra)) (ps : List Part) (r : Result A CheckFault) → s ≡ base_system t list → map extras_of es ≡ systems_of_question list q → ps ≡ proof.parts
+    → has_kinds q c proof ≡ true → AreNumbersFor (kind_of q) c (length es) (map (λ p. p.at) ps) → ((side : Side) → is_side side proof.base ≡ true → Shows side (base_system t list) proof.base) → IfErr r (RefusesParts (systems_with t s es) ps) → IfErr r (IsRefusedBy (FailsProof t list q c proof) IsEarlierFault faults.Memory)
+proof_refused t list q c proof s es ps (Ok u) is e same kinds numbered base h = tt
+proof_refused t list q c proof s es ps (Err g) is e same kinds numbered base h =
     let k = three_true (may_conclude (kind_of q) c) (is_side (base_side c) proof.base) (have_kind (kind_of q) c proof.parts) kinds in
-    refused t list q c proof g (parts_refused t list q c proof (systems_with t list es) g (systems_with-are t list es q e) kinds (counted list q c proof es ps e same numbered) (base (base_side c) k.1) (subst (λ (parts : List Part). RefusesParts (systems_with t list es) parts g) same h))
+    refused t list q c proof g (parts_refused t list q c proof (systems_with t s es) g (systems_with-are t list s es q is e) kinds (counted list q c proof es ps e same numbered) (base (base_side c) k.1) (subst (λ (parts : List Part). RefusesParts (systems_with t s es) parts g) same h))

@@ -9,7 +9,7 @@ use Rattle.ror_table.specs.Table.{DecisionTable}
 use Rattle.ror_system.specs.System.{LinearSystem}
 use Rattle.ror_value.specs.Over.{IsNamedIn}
 use Rattle.ror_rows.specs.declared.extra.Extra.{Extra}
-use Rattle.ror_rows.specs.Rows.{system_for, extras_of}
+use Rattle.ror_rows.specs.Rows.{extended_by, extras_of}
 use Rattle.ror_system.specs.Acceptance.{IsAcceptedSolution, AreAcceptedMultipliers}
 use Rattle.ror_proof.specs.declared.answer.Certificate.{Certificate}
 use Rattle.ror_proof.specs.declared.answer.Certificate.TheVariants as certificates
@@ -39,9 +39,9 @@ pub record IsBaseOf (s : LinearSystem) (base : Base) : Type 0 where
 abbrev pub AreUsable : DecisionTable → SmallVec Extra → Type 0
 AreUsable t extras = (length extras.items ≤ 200) × AllByRecursion (λ e. IsNamedIn t e.form) extras.items
 
--- the system of the statements with each of these extra rows
-abbrev pub systems_with : DecisionTable → List Statement → List (SmallVec Extra) → List LinearSystem
-systems_with t list systems = map (λ extras. system_for t list (extras_of extras)) systems
+-- the base with each of these extra rows
+abbrev pub systems_with : DecisionTable → LinearSystem → List (SmallVec Extra) → List LinearSystem
+systems_with t base systems = map (λ extras. extended_by t base (extras_of extras)) systems
 
 -- each part before the place shows, of the system that has its number, the side that its kind can show
 abbrev pub AreShownBefore : List LinearSystem → List Part → ℕ → Type 0

@@ -10,7 +10,7 @@ use ror_system::{Reject, System, accept_multipliers, accept_solution};
 /// The system of the statements, and a certificate that it accepts, where one is known.
 #[derive(Clone, Copy)]
 pub(crate) struct Base<'a> {
-    system: &'a System,
+    pub(crate) system: &'a System,
     known: Option<&'a Certificate>,
 }
 

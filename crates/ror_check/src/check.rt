@@ -3,6 +3,7 @@
 ghost use Rattle.std.specs.Prelude.{◌≡◌, ◌≢◌, ℕ, [], ◌∷◌, ◌≤◌, ◌<◌, ◌+◌, ◌-◌, ◌^◌, ◌↔◌, length, map, true, false, IsTrue, OnOk, OnErr, IfErr, IfOk, MatchOption};
 ghost use Rattle.std.specs.List.{AllByRecursion, range_with_len};
 ghost use Rattle.ror_text.specs.FirstFault.{IsRefusedBy};
+ghost use Rattle.ror_table.specs.Table.{columns};
 ghost use Rattle.ror_value.specs.Over.{IsLawfulIn, IsAskedIn};
 ghost use Rattle.ror_check.specs.Proof.{IsWide, is_wide, IsWideOrProved, IsWideOrTrue, OfProof, verdict_with, IsProvedAnswer, IsTrueVerdict, Proves, AreNumbersFor, base_system};
 ghost use Rattle.ror_check.specs.Faults.{FailsProof, FailsVerdict, FailsAnswer, IsEarlierFault, FailsAnswers, IsEarlierAnswersFault};
@@ -13,8 +14,9 @@ use crate::base::{Base, accept};
 use crate::fault::{AnswersFault, CheckFault};
 use crate::side::has_kinds;
 use ror_proof::{Answer, Certificate, Part, Proof, Verdict};
-use ror_rows::{Extras, question_systems, system_of};
+use ror_rows::{Extras, question_systems, system_of, with_extras};
 use ror_statement::{Conclusion, Question, QuestionKind, Statement, kind_of};
+use ror_system::System;
 use ror_table::Table;
 use std::alloc::Global;
 
@@ -51,7 +53,7 @@ pub fn check_answer(
     if !x.question.is_same(*asked) {
         return Err(CheckFault::WrongQuestion);
     }
-    let base = system_of(alloc, table, list, &[])?;
+    let base = system_of(alloc, table, list)?;
     check_verdict(alloc, table, list, Base::new(&base), asked, &x.verdict)?;
     Ok(())
 }
@@ -85,7 +87,7 @@ pub fn check_answers(
     ensures refused { IfErr result (IsRefusedBy (FailsAnswers table.now list.now answers.now)
         IsEarlierAnswersFault AnswersFault.Memory) }
 {
-    let system = system_of(alloc, table, list, &[])?;
+    let system = system_of(alloc, table, list)?;
     let mut base = Base::new(&system);
     for (place, answer) in answers.iter().enumerate() {
         match check_unless_wide(alloc, table, list, base, answer) {
@@ -200,7 +202,7 @@ fn check_proof<'a>(
         return Err(CheckFault::PartCount);
     }
     let base = check_base(base, &proof.base)?;
-    check_parts(alloc, table, list, extras, parts)?;
+    check_parts(alloc, table, base.system, extras, parts)?;
     Ok(base)
 }
 
@@ -267,26 +269,27 @@ fn check_base<'a>(base: Base<'a>, certificate: &'a Certificate) -> Result<Base<'
     }
 }
 
-/// Checks each part for the system that has its number, from the first part on.
+/// Checks each part for the system that has its number, the base with its extra rows, from the first part on.
 fn check_parts(
     alloc: Global,
     table: &Table,
-    list: &[Statement],
+    base: &System,
     systems: &[Extras],
     parts: &[Part],
 ) -> Result<(), CheckFault>
-    requires lawful { IsLawfulIn table.now list.now }
+    requires columns { base.now.columns ≡ columns table.now }
+    requires rows { length base.now.weak + length base.now.strict ≤ 2000 }
     requires usable { AllByRecursion (AreUsable table.now) systems.now }
     requires numbers { NameSystems (length systems.now) parts.now }
     requires few { length parts.now < 2 ^ 32 - 1 }
-    ensures ok { OnOk result (AreShownBefore (systems_with table.now list.now systems.now) parts.now
+    ensures ok { OnOk result (AreShownBefore (systems_with table.now base.now systems.now) parts.now
         (length parts.now)) }
     ensures err { IfErr result
-        (RefusesParts (systems_with table.now list.now systems.now) parts.now) }
+        (RefusesParts (systems_with table.now base.now systems.now) parts.now) }
 {
     for (i, part) in parts.iter().enumerate() {
         let extras = &systems[part.at as usize - 1];
-        let system = system_of(alloc, table, list, extras.as_slice())?;
+        let system = with_extras(alloc, table, base, extras.as_slice())?;
         if let Err(reject) = accept(&system, &part.body) {
             return Err(CheckFault::Part(i as u32 + 1, reject));
         }

@@ -9,7 +9,7 @@ pub loop-i-preserved : goal.loop-i-preserved
 loop-i-preserved c =
     let lt = c.loop-i-test.true in
     let t = c.args.table.now in
-    let list = c.args.list.now in
+    let base = c.args.base.now in
     let vs = c.args.systems.now in
     let parts = c.args.parts.now in
     let i = c.loop-i.i in
@@ -18,5 +18,5 @@ loop-i-preserved c =
     let named = all_at (λ (p : Part). (1 ≤ p.at) × (p.at ≤ length vs)) parts i p c.requires.numbers here in
     let from = named.0 in
     let to = named.1 in
-    let there = system_here t list vs (p.at - 1) c.index-systems-part.result c.in_ok-system.system (omega arith) c.index-systems-part.is (search rules) in
-    shown_more (systems_with t list vs) parts i (p.at - 1) p c.in_ok-system.system c.loop-i.invariant lt c.index-parts-i.is (omega arith) there (accepted_shows c.in_ok-system.system p.body c.in_default.ensures.accepted)
+    let there = system_here t base vs (p.at - 1) c.index-systems-part.result c.in_ok-system.system (omega arith) c.index-systems-part.is (search rules) in
+    shown_more (systems_with t base vs) parts i (p.at - 1) p c.in_ok-system.system c.loop-i.invariant lt c.index-parts-i.is (omega arith) there (accepted_shows c.in_ok-system.system p.body c.in_default.ensures.accepted)
