@@ -1,5 +1,5 @@
 -- The verdict on a question, by what its systems come to.
-use Rattle.std.proofs.Common.{◌≡◌, ℕ, zero, suc, ◌+◌, ◌<◌, true, List, [], ◌∷◌, ◌++◌, length, map, take, get_or, Some, Ok, Err, Result, refl, sym, ap, subst, ◌∙◌, arith}
+use Rattle.std.proofs.Common.{◌≡◌, ℕ, zero, suc, ◌+◌, ◌<◌, true, List, [], ◌∷◌, ◌++◌, length, map, take, get_or, Some, Ok, Err, Result, refl, sym, ap, ap₂, subst, ◌∙◌, arith}
 use Rattle.std.proofs.lemmas.List.{length-map, take_more}
 use Rattle.std.specs.Prelude.{slice_get, IfOk}
 use Rattle.std.specs.Global.{Vec}
@@ -20,7 +20,8 @@ use Rattle.ror_system.specs.System.{LinearSystem}
 use Rattle.ror_system.specs.declared.accept.Multipliers.{Multipliers}
 use Rattle.ror_value.specs.Over.{IsLawfulIn, IsAskedIn}
 use Rattle.ror_rows.specs.declared.extra.Extra.{Extra}
-use Rattle.ror_rows.specs.Rows.{system_for, extras_of, systems_of_question}
+use Rattle.ror_rows.specs.Rows.{system_for, extended_by, extras_of, systems_of_question}
+use Rattle.ror_rows.proofs.Extending.{extended_is}
 use Rattle.ror_proof.specs.declared.answer.Certificate.{Certificate}
 use Rattle.ror_proof.specs.declared.answer.Certificate.TheVariants as certificates
 use Rattle.ror_proof.specs.declared.answer.Part.{Part}
@@ -152,10 +153,16 @@ module _ (most : ℕ) (t : DecisionTable) (list : List Statement) (q : Question)
 
 -- ---- answers
 
-pub searched : (most : ℕ) (t : DecisionTable) (list : List Statement) (q : Question) (systems slice : List (SmallVec Extra)) (x : Search) → slice ≡ systems → map extras_of systems ≡ systems_of_question list q
-    → IsSearch most (map (system_for t list) (map extras_of slice)) x → IsSearch most (question_systems_of t list q) x
-searched most t list q systems slice x is are h =
-    subst (λ (extras : List (List Comparison)). IsSearch most (map (system_for t list) extras) x) are (subst (λ (ss : List (SmallVec Extra)). IsSearch most (map (system_for t list) (map extras_of ss)) x) is h)
+-- the systems that the base makes with extra rows are those of the statements with these
+extended_each : (t : DecisionTable) (list : List Statement) (s : LinearSystem) (extras : List (List Comparison)) → s ≡ base_system t list → map (extended_by t s) extras ≡ map (system_for t list) extras
+extended_each t list s [] is = refl
+extended_each t list s (extra ∷ extras) is = ap₂ (λ (first : LinearSystem) (rest : List LinearSystem). first ∷ rest) (extended_is t list extra s (extended_by t s extra) is refl) (extended_each t list s extras is)
+
+pub searched : (most : ℕ) (t : DecisionTable) (list : List Statement) (q : Question) (s : LinearSystem) (systems slice : List (SmallVec Extra)) (x : Search) → s ≡ base_system t list → slice ≡ systems → map extras_of systems ≡ systems_of_question list q
+    → IsSearch most (map (extended_by t s) (map extras_of slice)) x → IsSearch most (question_systems_of t list q) x
+searched most t list q s systems slice x base is are h =
+    let extras = ap (map extras_of) is ∙ are in
+    subst (λ (ss : List LinearSystem). IsSearch most ss x) (ap (map (extended_by t s)) extras ∙ extended_each t list s (systems_of_question list q) base) h
 
 pub concluded_given : (most : ℕ) (t : DecisionTable) (list : List Statement) (q : Question) (base : Certificate) (x : Search) (k : QuestionKind) (r : Result Verdict AllocError) → IsLawfulIn t list → IsAskedIn t q → ShowsAsBase most conclusions.Yes (base_system t list) base
     → IsSearch most (question_systems_of t list q) x → k ≡ kind_of q → IfOk r (λ v. v ≡ verdict_of k base x) → IfOk r (IsGivenVerdict most t list q)

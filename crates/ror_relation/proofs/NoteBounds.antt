@@ -2,19 +2,18 @@
 use Rattle.std.proofs.Common.{ℕ, ◌<◌, ◌≤◌, List, [], ◌∷◌, ◌++◌, length, map, ℤ, refl, sym, subst, arith}
 use Rattle.std.specs.List.{AllByRecursion}
 use Rattle.std.proofs.lemmas.List.{length-map}
-use Rattle.ror_integers.specs.Vectors.{ones}
 use Rattle.ror_text.proofs.Everywhere.{all-append, all-by, all-map}
 use Rattle.ror_statement.specs.declared.comparison.Comparison.{Comparison}
 use Rattle.ror_statement.specs.declared.statement.Statement.{Statement}
 use Rattle.ror_statement.specs.declared.question.Question.{Question}
 use Rattle.ror_statement.specs.Questions.{kind_of, property_of}
-use Rattle.ror_statement.specs.Statements.{comparisons_of}
 use Rattle.ror_table.specs.Table.{DecisionTable, IsTable, columns}
 use Rattle.ror_system.specs.System.{LinearSystem, IsWellFormed}
 use Rattle.ror_value.specs.Over.{IsNamedIn, IsLawfulIn, IsAskedIn}
 use Rattle.ror_rows.specs.declared.extra.Extra.{Extra}
-use Rattle.ror_rows.specs.Rows.{weak_rows, strict_rows, system_for, comparison_of_extra, conditions_of, systems_by}
-use Rattle.ror_rows.proofs.Building.{extras_named, parts_weak_width, parts_strict_width, parts_number}
+use Rattle.ror_rows.specs.Rows.{weak_rows, strict_rows, system_for, extended_by, comparison_of_extra, conditions_of, systems_by}
+use Rattle.ror_rows.proofs.Building.{extras_named, parts_weak_width, parts_strict_width}
+use Rattle.ror_rows.proofs.Extending.{base_few, extended_is, extended_number, extended_weak_width, extended_strict_width}
 use Rattle.ror_pivot.specs.declared.note.Place.{Place}
 use Rattle.ror_pivot.specs.Tableau.{IsTableau, shape_of, right_side_column, objective_row, starting_rows}
 use Rattle.ror_pivot.specs.Paths.{rows_at}
@@ -70,15 +69,18 @@ module _ (t : DecisionTable) (list : List Statement) (table : IsTable t) (lawful
   pub well_formed : (extra : List Extra) → length extra ≤ 200 → AllByRecursion (λ e. IsNamedIn t e.form) extra → IsWellFormed (system_for t list (map comparison_of_extra extra))
   well_formed extra few named =
       let es = map comparison_of_extra extra in
-      let weak = weak_rows t (comparisons_of list) ++ weak_rows t es in
-      let strict = ones (columns t) ∷ (strict_rows t (comparisons_of list) ++ strict_rows t es) in
-      record {
+      let are = extras_named t extra named in
+      let base : LinearSystem = system_for t list [] in
+      let weak = parts_weak_width t list (columns t) base.weak refl lawful.each_valid refl in
+      let strict = parts_strict_width t list (columns t) base.strict refl lawful.each_valid refl in
+      let formed : IsWellFormed (extended_by t base es) = record {
         columns_limit = table.columns_limit;
-        rows_limit = parts_number t list extra weak strict lawful few refl refl;
-        weak_widths = parts_weak_width t list es (columns t) weak refl lawful.each_valid (extras_named t extra named) refl;
-        strict_widths = parts_strict_width t list es (columns t) strict refl lawful.each_valid (extras_named t extra named) refl;
+        rows_limit = extended_number t base extra (base.weak ++ weak_rows t es) (base.strict ++ strict_rows t es) (base_few t list base lawful refl) few refl refl;
+        weak_widths = extended_weak_width t (columns t) es base.weak (base.weak ++ weak_rows t es) refl are weak refl;
+        strict_widths = extended_strict_width t (columns t) es base.strict (base.strict ++ strict_rows t es) refl are strict refl;
         total_row = refl;
-      }
+      } in
+      subst IsWellFormed (extended_is t list es base (extended_by t base es) refl refl) formed
 
   usable_formed : (extra : List Extra) → AreUsable t (map comparison_of_extra extra) → IsWellFormed (system_for t list (map comparison_of_extra extra))
   usable_formed extra usable =

@@ -7,7 +7,6 @@ use Rattle.std.specs.Prelude.{slice_get}
 use Rattle.std.specs.List.{AllByRecursion, range_with_len}
 use Rattle.smallvec.specs.SmallVec.{SmallVec}
 use Rattle.ror_text.proofs.Everywhere.{all-append, all-map, all_at}
-use Rattle.ror_statement.specs.declared.statement.Statement.{Statement}
 use Rattle.ror_statement.specs.declared.question.Conclusion.{Conclusion}
 use Rattle.ror_statement.specs.declared.question.Conclusion.TheVariants as conclusions
 use Rattle.ror_table.specs.Table.{DecisionTable}
@@ -16,13 +15,12 @@ use Rattle.ror_system.specs.declared.accept.Multipliers.{Multipliers}
 use Rattle.ror_system.proofs.Motzkin.{not_both}
 use Rattle.ror_value.specs.Over.{IsNamedIn}
 use Rattle.ror_rows.specs.declared.extra.Extra.{Extra}
-use Rattle.ror_rows.specs.Rows.{system_for, comparison_of_extra, extras_of}
+use Rattle.ror_rows.specs.Rows.{extended_by, comparison_of_extra, extras_of}
 use Rattle.ror_proof.specs.declared.answer.Certificate.{Certificate}
 use Rattle.ror_proof.specs.declared.answer.Certificate.TheVariants as certificates
 use Rattle.ror_proof.specs.declared.answer.Part.{Part}
 use Rattle.ror_proof.specs.declared.answer.WideText.{WideText}
 use Rattle.ror_relation.specs.declared.decision.Decision.{Decision}
-use Rattle.ror_relation.specs.declared.decision.Decision.TheVariants as decisions
 use Rattle.ror_relation.specs.Wide.{HasNoteAt}
 use Rattle.ror_relation.specs.Decisions.{ShowsAsBase, IsDecision, NoneSolvableBelow, IsPartOf, AreRefuted, IsWideSystem, AreUsable}
 
@@ -31,10 +29,10 @@ use Rattle.ror_relation.specs.Decisions.{ShowsAsBase, IsDecision, NoneSolvableBe
 some_same : {X : Type 0} {x y : X} → Some x ≡ Some y → x ≡ y
 some_same e = cc
 
-pub system_here : (t : DecisionTable) (list : List Statement) (systems : List (SmallVec Extra)) (i : ℕ) (extra : SmallVec Extra) → i < length systems → extra ≡ get_or systems i extra
-    → slice_get (map (system_for t list) (map extras_of systems)) i ≡ Some (system_for t list (extras_of extra))
-system_here t list systems i extra within is =
-    at_mapped (system_for t list) (map extras_of systems) i (extras_of extra) (at_mapped extras_of systems i extra (slice_get_read systems (length systems) i extra refl within is))
+pub system_here : (t : DecisionTable) (base : LinearSystem) (systems : List (SmallVec Extra)) (i : ℕ) (extra : SmallVec Extra) → i < length systems → extra ≡ get_or systems i extra
+    → slice_get (map (extended_by t base) (map extras_of systems)) i ≡ Some (extended_by t base (extras_of extra))
+system_here t base systems i extra within is =
+    at_mapped (extended_by t base) (map extras_of systems) i (extras_of extra) (at_mapped extras_of systems i extra (slice_get_read systems (length systems) i extra refl within is))
   where
     at_mapped : {X Y : Type 0} (f : X → Y) (xs : List X) (i : ℕ) (x : X) → slice_get xs i ≡ Some x → slice_get (map f xs) i ≡ Some (f x)
     at_mapped f [] i x there = absurd cc
@@ -48,11 +46,9 @@ usable_here t systems i extra all within is =
     let few = usable.0 in
     (omega (arith, length-map extra.items comparison_of_extra, few), (all-map (λ c. IsNamedIn t c.form) comparison_of_extra extra.items).1 usable.1)
 
-pub wide_decided : (most : ℕ) (t : DecisionTable) (list : List Statement) (extra : SmallVec Extra) (rows : List Extra) (d : Decision) (note : WideText) → rows ≡ extra.items → IsDecision most (system_for t list (map comparison_of_extra rows)) d → d ≡ decisions.TooWide note
-    → HasNoteAt most (system_for t list (extras_of extra)) note
-wide_decided most t list extra rows d note is decided wide =
-    let P : List Extra → Decision → Type 0 = λ rows d. IsDecision most (system_for t list (map comparison_of_extra rows)) d in
-    subst (λ (rows : List Extra). P rows (decisions.TooWide note)) is (subst (λ (d : Decision). P rows d) wide decided)
+-- what the system at hand comes to is what the one that is meant does
+pub decided_as : (most : ℕ) (s meant : LinearSystem) (d found : Decision) → s ≡ meant → d ≡ found → IsDecision most s d → IsDecision most meant found
+decided_as most s meant d found is same decided = subst (λ (z : LinearSystem). IsDecision most z found) is (subst (λ (e : Decision). IsDecision most s e) same decided)
 
 -- ---- parts
 

@@ -14,9 +14,9 @@ use crate::search::{Search, first_solvable};
 use crate::wide::copied_note;
 use ror_pivot::Bits;
 use ror_proof::{Answer, Certificate, Part, Proof, Verdict};
-use ror_rows::question_systems;
+use ror_rows::{question_systems, system_of};
 use ror_statement::{Question, QuestionKind, Statement, kind_of};
-use ror_system::{Multipliers, Solution};
+use ror_system::{Multipliers, Solution, System};
 use ror_table::Table;
 use ror_text::Items;
 use std::alloc::{AllocError, Global};
@@ -41,11 +41,12 @@ pub fn decide(
     ensures narrow { IfOk result (λ x. IsVerdictWithin (most_of bits) x.verdict) }
     ensures true_answer { IfOk result (λ x. IsWideOrTrue table.now list.now q.now x.verdict) }
 {
-    let base = decide_system(alloc, table, list, &[], bits)?;
-    answer_over(alloc, table, list, &base, q, bits)
+    let system = system_of(alloc, table, list)?;
+    let base = decide_system(alloc, &system, bits)?;
+    answer_over(alloc, table, list, &system, &base, q, bits)
 }
 
-/// Answers each of these questions as `decide` does, in order. The base is decided once.
+/// Answers each of these questions as `decide` does, in order. The base is made and decided once.
 pub fn decide_each(
     alloc: Global,
     table: &Table,
@@ -58,31 +59,34 @@ pub fn decide_each(
     ensures { IfOk result (λ answers.
         AllZip (IsGiven (most_of bits) table.now list.now) questions.now answers.items) }
 {
-    let base = decide_system(alloc, table, list, &[], bits)?;
+    let system = system_of(alloc, table, list)?;
+    let base = decide_system(alloc, &system, bits)?;
     let mut answers = Vec::with_capacity(alloc, questions.len())?;
     for question in questions {
-        answers.push(answer_over(alloc, table, list, &base, question, bits)?)?;
+        answers.push(answer_over(alloc, table, list, &system, &base, question, bits)?)?;
     }
     Ok(answers)
 }
 
-/// Answers the question, where the base comes to this.
+/// Answers the question, where the system of the statements, the base, comes to this.
 fn answer_over(
     alloc: Global,
     table: &Table,
     list: &[Statement],
+    system: &System,
     base: &Decision,
     question: &Question,
     bits: Bits,
 ) -> Result<Answer, AllocError>
     requires lawful { IsLawfulIn table.now list.now }
     requires asked { IsAskedIn table.now question.now }
-    requires base { IsDecision (most_of bits) (base_system table.now list.now) base.now }
+    requires system { system.now ≡ base_system table.now list.now }
+    requires base { IsDecision (most_of bits) system.now base.now }
     ensures { IfOk result (IsGiven (most_of bits) table.now list.now question.now) }
 {
     let verdict = match base {
         Decision::Solvable(solution) => {
-            verdict_over(alloc, table, list, solution, question, bits)?
+            verdict_over(alloc, table, list, system, solution, question, bits)?
         }
         Decision::NotSolvable(multipliers) => Verdict::Contradiction(Proof {
             base: Certificate::Multipliers(copied_multipliers(alloc, multipliers)?),
@@ -99,23 +103,24 @@ fn answer_over(
     })
 }
 
-/// The verdict on the question, where the base has this solution.
+/// The verdict on the question, where the system of the statements, the base, has this solution.
 fn verdict_over(
     alloc: Global,
     table: &Table,
     list: &[Statement],
+    system: &System,
     base: &Solution,
     question: &Question,
     bits: Bits,
 ) -> Result<Verdict, AllocError>
     requires lawful { IsLawfulIn table.now list.now }
     requires asked { IsAskedIn table.now question.now }
-    requires base { IsDecision (most_of bits) (base_system table.now list.now)
-        (Decision.Solvable base.now) }
+    requires system { system.now ≡ base_system table.now list.now }
+    requires base { IsDecision (most_of bits) system.now (Decision.Solvable base.now) }
     ensures { IfOk result (IsGivenVerdict (most_of bits) table.now list.now question.now) }
 {
     let systems = question_systems(alloc, table, list, question)?;
-    let search = first_solvable(alloc, table, list, systems.as_slice(), bits)?;
+    let search = first_solvable(alloc, table, system, systems.as_slice(), bits)?;
     let base = Certificate::Solution(copied_solution(alloc, base)?);
     concluded(alloc, kind_of(question), base, search)
 }

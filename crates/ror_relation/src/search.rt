@@ -1,17 +1,17 @@
 //! Deciding the systems of a question, in order.
 
-ghost use Rattle.std.specs.Prelude.{◌≡◌, ◌≤◌, length, map, IfOk};
+ghost use Rattle.std.specs.Prelude.{◌≡◌, ◌≤◌, ◌+◌, length, map, IfOk};
 ghost use Rattle.std.specs.List.{AllByRecursion};
 ghost use Rattle.ror_pivot.specs.Answers.{most_of};
-ghost use Rattle.ror_value.specs.Over.{IsLawfulIn};
-ghost use Rattle.ror_rows.specs.Rows.{system_for, extras_of};
+ghost use Rattle.ror_table.specs.Table.{columns};
+ghost use Rattle.ror_rows.specs.Rows.{extended_by, extras_of};
 ghost use Rattle.ror_relation.specs.Decisions.{AreUsable, IsSearch};
 
 use crate::decision::{Decision, decide_system};
 use ror_pivot::Bits;
 use ror_proof::{Certificate, Part, WideText};
-use ror_rows::Extras;
-use ror_statement::Statement;
+use ror_rows::{Extras, with_extras};
+use ror_system::System;
 use ror_table::Table;
 use std::alloc::{AllocError, Global};
 
@@ -26,25 +26,27 @@ pub(crate) enum Search {
     TooWide { system: u32, note: WideText },
 }
 
-/// Decides the systems of the statements with each of these extra rows, in order, up to the first that is solvable or too
+/// Decides the systems that the base makes with each of these extra rows, in order, up to the first that is solvable or too
 /// wide.
 pub(crate) fn first_solvable(
     alloc: Global,
     table: &Table,
-    list: &[Statement],
+    base: &System,
     systems: &[Extras],
     bits: Bits,
 ) -> Result<Search, AllocError>
-    requires lawful { IsLawfulIn table.now list.now }
+    requires columns { base.now.columns ≡ columns table.now }
+    requires rows { length base.now.weak + length base.now.strict ≤ 2000 }
     requires few { length systems.now ≤ 200 }
     requires usable { AllByRecursion (AreUsable table.now) (map extras_of systems.now) }
     ensures { IfOk result (IsSearch (most_of bits)
-        (map (system_for table.now list.now) (map extras_of systems.now))) }
+        (map (extended_by table.now base.now) (map extras_of systems.now))) }
 {
     let mut parts = Vec::new(alloc);
     for (place, extra) in systems.iter().enumerate() {
         let at = place as u32 + 1;
-        match decide_system(alloc, table, list, extra.as_slice(), bits)? {
+        let system = with_extras(alloc, table, base, extra.as_slice())?;
+        match decide_system(alloc, &system, bits)? {
             Decision::Solvable(solution) => {
                 let body = Certificate::Solution(solution);
                 return Ok(Search::Solvable(Part { at, body }));

@@ -1,14 +1,23 @@
-use Rattle.std.proofs.Common.{rules, ◌≤◌, List, length, map, sym, subst}
+use Rattle.std.proofs.Common.{rules, ◌≤◌, List, length, map, ap, sym, subst}
 use Rattle.std.specs.List.{AllByRecursion}
 use Rattle.smallvec.specs.SmallVec.{SmallVec}
 use Rattle.ror_pivot.specs.Answers.{most_of}
+use Rattle.ror_statement.specs.declared.question.Conclusion.TheVariants as conclusions
+use Rattle.ror_system.specs.System.{LinearSystem}
 use Rattle.ror_proof.specs.declared.answer.Certificate.TheVariants as certificates
 use Rattle.ror_rows.specs.declared.extra.Extra.{Extra}
 use Rattle.ror_rows.specs.Rows.{extras_of}
-use Rattle.ror_relation.specs.Decisions.{AreUsable}
+use Rattle.ror_rows.proofs.Extending.{base_few}
+use Rattle.ror_relation.specs.Decisions.{ShowsAsBase, AreUsable}
 use Rattle.ror_relation.proofs.Usable.{usable, few}
 use Rattle.ror_relation.proofs.Concluding.{searched, concluded_given}
 use Rattle.ror_relation.proofs.deciding.verdict_over.Goals as goal
+
+pub first_solvable-requires-clause-columns : goal.first_solvable-requires-clause-columns
+first_solvable-requires-clause-columns c = ap (λ (s : LinearSystem). s.columns) c.requires.system
+
+pub first_solvable-requires-clause-rows : goal.first_solvable-requires-clause-rows
+first_solvable-requires-clause-rows c = base_few c.args.table.now c.args.list.now c.args.system.now c.requires.lawful c.requires.system
 
 pub first_solvable-requires-clause-few : goal.first_solvable-requires-clause-few
 first_solvable-requires-clause-few c =
@@ -25,5 +34,7 @@ returns c =
     let list = c.args.list.now in
     let q = c.args.question.now in
     let most = most_of c.args.bits in
-    let found = searched most t list q c.in_ok-systems.systems.items c.as_slice.result.now c.in_ok-search.search c.as_slice.ensures.value c.in_ok-systems.ensures c.in_ok-search.ensures in
-    concluded_given most t list q (certificates.Solution c.in_ok-copied_solution.field-0) c.in_ok-search.search c.kind_of.result c.concluded.result c.requires.lawful c.requires.asked (search rules) found c.kind_of.ensures c.concluded.ensures
+    let found = searched most t list q c.args.system.now c.in_ok-systems.systems.items c.as_slice.result.now c.in_ok-search.search c.requires.system c.as_slice.ensures.value c.in_ok-systems.ensures c.in_ok-search.ensures in
+    let copy = certificates.Solution c.in_ok-copied_solution.field-0 in
+    let shows : ShowsAsBase most conclusions.Yes c.args.system.now copy = search rules in
+    concluded_given most t list q copy c.in_ok-search.search c.kind_of.result c.concluded.result c.requires.lawful c.requires.asked (subst (λ (s : LinearSystem). ShowsAsBase most conclusions.Yes s copy) c.requires.system shows) found c.kind_of.ensures c.concluded.ensures
