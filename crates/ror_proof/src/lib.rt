@@ -3,14 +3,14 @@
 
 mod answer;
 pub mod laws;
-mod names;
+pub mod names;
 mod print;
 mod questions;
 mod read;
-mod words;
+pub mod words;
 
 pub use answer::{Answer, Certificate, Part, Pivot, PlaceText, Proof, Verdict, WideText};
-pub use print::print_answer;
+pub use print::{print_answer, write_answer};
 pub use read::{ProofFault, read_answer};
 
 #[cfg(test)]

@@ -16,9 +16,7 @@ use ror_statement::{Form, Pair, Property, Question, Scope};
 use ror_table::Table;
 use std::alloc::{AllocError, Global};
 
-/// The text of an answer. It asks that the question is valid for the table, and that every number
-/// of a certificate is of absolute value at most 2^127 - 1, so that the text is read again.
-#[tactic(auto, unfolding(crate::specs::Text::answer_text))]
+/// The text of an answer. It asks what `write_answer` asks.
 pub fn print_answer(alloc: Global, table: &Table, answer: &Answer) -> Result<Vec<u8>, AllocError>
     requires valid { IsValidQuestion (length table.now.alternatives) (length table.now.criteria)
         table.now.classes answer.now.question }
@@ -26,9 +24,21 @@ pub fn print_answer(alloc: Global, table: &Table, answer: &Answer) -> Result<Vec
     ensures { IfOk result (λ text. text.items ≡ answer_text table.now answer.now) }
 {
     let mut text = Vec::new(alloc);
-    write_head(&mut text, table, answer)?;
-    write_verdict(&mut text, &answer.verdict)?;
+    write_answer(&mut text, table, answer)?;
     Ok(text)
+}
+
+/// Writes the text of an answer behind what is there. It asks that the question is valid for the table, and that every
+/// number of a certificate is of absolute value at most 2^127 - 1, so that the text is read again.
+#[tactic(auto, unfolding(crate::specs::Text::answer_text))]
+pub fn write_answer(text: &mut Vec<u8>, table: &Table, answer: &Answer) -> Result<(), AllocError>
+    requires valid { IsValidQuestion (length table.now.alternatives) (length table.now.criteria)
+        table.now.classes answer.now.question }
+    requires narrow { IsNarrowVerdict answer.now.verdict }
+    ensures { OnOk result (text.new.items ≡ text.old.items ++ answer_text table.now answer.now) }
+{
+    write_head(text, table, answer)?;
+    write_verdict(text, &answer.verdict)
 }
 
 /// The line of the question and the verdict.

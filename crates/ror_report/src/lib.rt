@@ -6,7 +6,6 @@ pub mod laws;
 mod names;
 mod print;
 mod read;
-mod words;
 
 pub use block::{Block, Body, LineFault};
 pub use print::{header, print_block, print_end};

@@ -1,30 +1,7 @@
 //! The words that stand for the forms of a body of one line, and for the reasons of a refusal.
 
-ghost use Rattle.std.specs.Prelude.{◌≡◌, ℕ, List};
-ghost use Rattle.ror_proof.specs.Names.{name_of};
-
 use crate::block::LineFault;
-
-/// What a word stands for.
-pub trait Name: Copy {
-    ghost word_of: { Self → List ℕ };
-
-    /// The word.
-    fn word(self) -> &'static [u8]
-        ensures { result.now ≡ word_of self };
-}
-
-/// The first of these whose word this is.
-pub fn named<N: Name>(names: &[N], word: &[u8]) -> Option<N>
-    ensures { result ≡ name_of N.word_of names.now word.now }
-{
-    'names: for name in names {
-        if word == name.word() {
-            return Some(*name);
-        }
-    }
-    None
-}
+use ror_proof::names::Name;
 
 /// What the first word of a body of one line stands for.
 #[derive(Clone, Copy)]

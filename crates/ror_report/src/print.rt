@@ -8,9 +8,10 @@ ghost use Rattle.ror_report.specs.Printing.{HasValidQuestion, HasNarrowVerdict};
 ghost use Rattle.ror_report.specs.Text.{answers_of, block_text, body_text, end_text, header_text};
 
 use crate::block::{Block, Body};
-use crate::names::{LineForm, Name};
+use crate::names::LineForm;
 use itoa::Buffer;
-use ror_proof::{Answer, print_answer};
+use ror_proof::names::Name;
+use ror_proof::{Answer, write_answer};
 use ror_table::Table;
 use std::alloc::{AllocError, Global};
 
@@ -33,7 +34,7 @@ pub fn print_block(alloc: Global, table: &Table, block: &Block) -> Result<Vec<u8
 {
     let mut text = Vec::new(alloc);
     write_number_line(&mut text, b"line", block.line)?;
-    write_body(alloc, &mut text, table, &block.body)?;
+    write_body(&mut text, table, &block.body)?;
     Ok(text)
 }
 
@@ -48,12 +49,7 @@ pub fn print_end(alloc: Global, blocks: u32) -> Result<Vec<u8>, AllocError>
 }
 
 /// The line of a body, or the lines of its answers.
-fn write_body(
-    alloc: Global,
-    text: &mut Vec<u8>,
-    table: &Table,
-    body: &Body,
-) -> Result<(), AllocError>
+fn write_body(text: &mut Vec<u8>, table: &Table, body: &Body) -> Result<(), AllocError>
     requires valid { AllByRecursion (HasValidQuestion table.now) (answers_of body.now) }
     requires narrow { AllByRecursion HasNarrowVerdict (answers_of body.now) }
     ensures { OnOk result (text.new.items ≡ text.old.items ++ body_text table.now body.now) }
@@ -63,25 +59,19 @@ fn write_body(
         Body::Withdrawn(number) => write_number_line(text, LineForm::Withdrawn.word(), *number),
         Body::Replaced(number) => write_number_line(text, LineForm::Replaced.word(), *number),
         Body::Undone => write_line(text, LineForm::Undone.word()),
-        Body::Answers(answers) => write_answers(alloc, text, table, answers.as_slice()),
+        Body::Answers(answers) => write_answers(text, table, answers.as_slice()),
         Body::Refused(fault) => write_word_line(text, LineForm::Refused.word(), fault.word()),
     }
 }
 
-fn write_answers(
-    alloc: Global,
-    text: &mut Vec<u8>,
-    table: &Table,
-    answers: &[Answer],
-) -> Result<(), AllocError>
+fn write_answers(text: &mut Vec<u8>, table: &Table, answers: &[Answer]) -> Result<(), AllocError>
     requires valid { AllByRecursion (HasValidQuestion table.now) answers.now }
     requires narrow { AllByRecursion HasNarrowVerdict answers.now }
     ensures { OnOk result (text.new.items
         ≡ text.old.items ++ flat_map (answer_text table.now) answers.now) }
 {
     'answers: for answer in answers {
-        let lines = print_answer(alloc, table, answer)?;
-        text.extend_from_slice(lines.as_slice())?;
+        write_answer(text, table, answer)?;
     }
     Ok(())
 }

@@ -8,9 +8,10 @@ ghost use Rattle.ror_report.specs.Reading as reading;
 ghost use Rattle.ror_report.specs.Reading.{block_at, end_at, report_fault, header_at, IsReportFaultWithin};
 
 use crate::block::{Block, Body};
-use crate::names::{LINE_FAULTS, LINE_FORMS, LineForm, Name, named};
+use crate::names::{LINE_FAULTS, LINE_FORMS, LineForm};
 use crate::print::header;
-use crate::words::{after_word, name_at, no_more, small_number_at};
+use ror_proof::names::{Name, named};
+use ror_proof::words::{after_word, name_at, no_more, small_number_at};
 use ror_proof::{Answer, ProofFault, read_answer};
 use ror_table::Table;
 use ror_text::Items;
