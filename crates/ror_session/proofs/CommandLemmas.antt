@@ -7,13 +7,14 @@ use Rattle.ror_text.specs.Numbers.{count_of}
 use Rattle.ror_text.specs.Reading.{◌>>=◌, refuse, need}
 use Rattle.ror_text.proofs.ReadingLemmas.{bind_ok, need_ok}
 use Rattle.ror_session.specs.Grammar.{LineWords, word_at, on_criterion, strength_words, SpellsStatement, SpellsQuestion, WritesCount, Spells}
-use Rattle.ror_session.specs.Command.{pair_at, two_names, criterion_of, two_pairs, statement_of, necessary_question, possible_question, question_of, number_of_statement, withdrawal, replacement, command_of}
+use Rattle.ror_session.specs.Command.{pair_at, two_names, criterion_of, two_pairs, statement_of, necessary_question, possible_question, question_of, count_at, class_statement, name_and_class, classes_question, withdrawal, replacement, command_of}
+use Rattle.ror_session.specs.declared.command.NameAndClass.{NameAndClass}
 use Rattle.ror_session.specs.declared.command.TwoPairs.{TwoPairs}
 use Rattle.ror_session.specs.declared.session.NamedPair.{NamedPair}
 use Rattle.ror_session.specs.declared.session.Named.{Named}
-use Rattle.ror_session.specs.declared.session.Named.TheVariants.{Prefer, AtLeast, Same, Stronger, AsStrong, EqualStrength}
+use Rattle.ror_session.specs.declared.session.Named.TheVariants.{Prefer, AtLeast, Same, Stronger, AsStrong, EqualStrength, Class}
 use Rattle.ror_session.specs.declared.session.Asked.{Asked}
-use Rattle.ror_session.specs.declared.session.Asked.TheVariants.{Consistent, Necessary, Possible, NecessaryStrength, PossibleStrength, Relation}
+use Rattle.ror_session.specs.declared.session.Asked.TheVariants.{Consistent, Necessary, Possible, NecessaryStrength, PossibleStrength, PossibleClass, NecessaryClass, Classes, Relation}
 use Rattle.ror_session.specs.declared.session.Command.{Command}
 use Rattle.ror_session.specs.declared.session.Command.TheVariants.{State, Withdraw, Replace, Undo, Ask}
 use Rattle.ror_session.specs.declared.session.SessionFault.{SessionFault}
@@ -34,6 +35,10 @@ two_words (a ∷ more) n = ap (λ (rest : LineWords). a ∷ rest) (one_word more
 three_words : (ws : LineWords) → length ws ≡ 3 → ws ≡ word_at ws 0 ∷ word_at ws 1 ∷ word_at ws 2 ∷ []
 three_words [] n = absurd (omega arith)
 three_words (a ∷ more) n = ap (λ (rest : LineWords). a ∷ rest) (two_words more (omega arith))
+
+four_words : (ws : LineWords) → length ws ≡ 4 → ws ≡ word_at ws 0 ∷ word_at ws 1 ∷ word_at ws 2 ∷ word_at ws 3 ∷ []
+four_words [] n = absurd (omega arith)
+four_words (a ∷ more) n = ap (λ (rest : LineWords). a ∷ rest) (three_words more (omega arith))
 
 five_words : (ws : LineWords) → length ws ≡ 5 → ws ≡ word_at ws 0 ∷ word_at ws 1 ∷ word_at ws 2 ∷ word_at ws 3 ∷ word_at ws 4 ∷ []
 five_words [] n = absurd (omega arith)
@@ -116,6 +121,54 @@ of_one Spell made verb spells line ws x hit e =
     let is : ws ≡ verb ∷ [] = one_word ws number ∙ ap (λ (w : List ℕ). w ∷ []) (same_bytes (word_at ws 0) verb hit) in
     subst (Spell ws) same (spells ws is)
 
+-- ---- counts and classes
+
+count_is : (line i : ℕ) (ws : LineWords) (n : ℕ) → count_at line ws i ≡ Ok n → WritesCount (word_at ws i) n
+unfolding count_at
+count_is line i ws n e = need_ok (BadLine line) (count_of (word_at ws i)) n e
+
+class_statement-sound : (line : ℕ) (ws : LineWords) (named : Named) → bytes_eq (word_at ws 0) (codes "class") ≡ true → class_statement line ws ≡ Ok named → SpellsStatement ws named
+unfolding class_statement
+class_statement-sound line ws named hit e =
+    let a = bind_ok (refuse (BadLine line) (not (eqb (length ws) 4))) _ named e in
+    let b = bind_ok (count_at line ws 2) _ named a.2 in
+    let d = bind_ok (count_at line ws 3) _ named b.2 in
+    let number : length ws ≡ 4 = eqb-true (length ws) 4 (not_refused (BadLine line) (eqb (length ws) 4) a.0 a.1) in
+    let same : Class (word_at ws 1) b.0 d.0 ≡ named = let h = d.2 in cc in
+    let is : ws ≡ codes "class" ∷ word_at ws 1 ∷ word_at ws 2 ∷ word_at ws 3 ∷ [] = four_words ws number ∙ ap (λ (w : List ℕ). w ∷ word_at ws 1 ∷ word_at ws 2 ∷ word_at ws 3 ∷ []) (same_bytes (word_at ws 0) (codes "class") hit) in
+    subst (SpellsStatement ws) same (word_at ws 2, word_at ws 3, is, count_is line 2 ws b.0 b.1, count_is line 3 ws d.0 d.1)
+
+class_statement-again : (line : ℕ) (a low high : List ℕ) (lowest highest : ℕ) → WritesCount low lowest → WritesCount high highest → class_statement line (codes "class" ∷ a ∷ low ∷ high ∷ []) ≡ Ok (Class a lowest highest)
+unfolding class_statement count_at
+class_statement-again line a low high lowest highest h k = rw (h, k) refl
+
+-- a form of a name and a class
+of_class : {A : Type 0} (Spell : LineWords → A → Type 0) (make : List ℕ → ℕ → A) (verb : List ℕ) → ((ws : LineWords) (a word : List ℕ) (n : ℕ) → ws ≡ verb ∷ a ∷ word ∷ [] → WritesCount word n → Spell ws (make a n)) → (line : ℕ) (ws : LineWords) (x : A) → bytes_eq (word_at ws 0) verb ≡ true → (name_and_class line ws >>= λ c. Ok (make c.name c.number)) ≡ Ok x → Spell ws x
+unfolding name_and_class
+of_class Spell make verb spells line ws x hit e =
+    let whole = bind_ok (name_and_class line ws) (λ c. Ok (make c.name c.number)) x e in
+    let c : NameAndClass = whole.0 in
+    let a = bind_ok (refuse (BadLine line) (not (eqb (length ws) 3))) _ c whole.1 in
+    let b = bind_ok (count_at line ws 2) _ c a.2 in
+    let number : length ws ≡ 3 = eqb-true (length ws) 3 (not_refused (BadLine line) (eqb (length ws) 3) a.0 a.1) in
+    let named : record { name = word_at ws 1; number = b.0 } ≡ c = let h = b.2 in cc in
+    let same : make c.name c.number ≡ x = let h = whole.2 in cc in
+    let is : ws ≡ verb ∷ word_at ws 1 ∷ word_at ws 2 ∷ [] = three_words ws number ∙ ap (λ (w : List ℕ). w ∷ word_at ws 1 ∷ word_at ws 2 ∷ []) (same_bytes (word_at ws 0) verb hit) in
+    subst (Spell ws) (ap (λ (y : NameAndClass). make y.name y.number) named ∙ same) (spells ws (word_at ws 1) (word_at ws 2) b.0 is (count_is line 2 ws b.0 b.1))
+
+name_and_class-again : (line : ℕ) (verb a word : List ℕ) (n : ℕ) → WritesCount word n → name_and_class line (verb ∷ a ∷ word ∷ []) ≡ Ok (record { name = a; number = n })
+unfolding name_and_class count_at
+name_and_class-again line verb a word n h = rw h refl
+
+classes-sound : (line : ℕ) (ws : LineWords) (asked : Asked) → bytes_eq (word_at ws 0) (codes "classes") ≡ true → classes_question line ws ≡ Ok asked → SpellsQuestion ws asked
+unfolding classes_question
+classes-sound line ws asked hit e =
+    let a = bind_ok (refuse (BadLine line) (not (eqb (length ws) 2))) _ asked e in
+    let number : length ws ≡ 2 = eqb-true (length ws) 2 (not_refused (BadLine line) (eqb (length ws) 2) a.0 a.1) in
+    let same : Classes (word_at ws 1) ≡ asked = let h = a.2 in cc in
+    let is : ws ≡ codes "classes" ∷ word_at ws 1 ∷ [] = two_words ws number ∙ ap (λ (w : List ℕ). w ∷ word_at ws 1 ∷ []) (same_bytes (word_at ws 0) (codes "classes") hit) in
+    subst (SpellsQuestion ws) same is
+
 -- ---- statements
 
 pub statement_of-sound : (line : ℕ) (ws : LineWords) (named : Named) → statement_of line ws ≡ Ok named → SpellsStatement ws named
@@ -132,7 +185,10 @@ statement_of-sound line ws named e = elim (cases_Bool (bytes_eq (word_at ws 0) (
           | inl hit ↦ of_pairs SpellsStatement AsStrong (codes "asstrong") (λ words p q on is. is) line ws named hit (rw hit at e4)
           | inr not_asstrong ↦ let e5 = rw not_asstrong at e4 in elim (cases_Bool (bytes_eq (word_at ws 0) (codes "equal"))) [
             | inl hit ↦ of_pairs SpellsStatement EqualStrength (codes "equal") (λ words p q on is. is) line ws named hit (rw hit at e5)
-            | inr not_equal ↦ absurd (let e6 = rw not_equal at e5 in cc)
+            | inr not_equal ↦ let e6 = rw not_equal at e5 in elim (cases_Bool (bytes_eq (word_at ws 0) (codes "class"))) [
+              | inl hit ↦ class_statement-sound line ws named hit (rw hit at e6)
+              | inr not_class ↦ absurd (let e7 = rw not_class at e6 in cc)
+            ]
           ]
         ]
       ]
@@ -148,6 +204,7 @@ statement_of-again line ws (Same a b) h = ap (statement_of line) h ∙ rw (two_n
 statement_of-again line ws (Stronger p q on) h = ap (statement_of line) h ∙ rw (two_pairs-again line (codes "stronger") p q on) refl
 statement_of-again line ws (AsStrong p q on) h = ap (statement_of line) h ∙ rw (two_pairs-again line (codes "asstrong") p q on) refl
 statement_of-again line ws (EqualStrength p q on) h = ap (statement_of line) h ∙ rw (two_pairs-again line (codes "equal") p q on) refl
+statement_of-again line ws (Class a lowest highest) h = ap (statement_of line) h.2 ∙ class_statement-again line a h.0 h.1 lowest highest h.3 h.4
 
 -- a statement has words
 some_statement : (line : ℕ) (ws : LineWords) (named : Named) → statement_of line ws ≡ Ok named → 0 < length ws
@@ -179,9 +236,18 @@ question_of-sound line ws asked e = elim (cases_Bool (bytes_eq (word_at ws 0) (c
     | inl hit ↦ necessary-sound line ws asked hit (rw hit at e1)
     | inr not_necessary ↦ let e2 = rw not_necessary at e1 in elim (cases_Bool (bytes_eq (word_at ws 0) (codes "possible"))) [
       | inl hit ↦ possible-sound line ws asked hit (rw hit at e2)
-      | inr not_possible ↦ let e3 = rw not_possible at e2 in elim (cases_Bool (bytes_eq (word_at ws 0) (codes "relation"))) [
-        | inl hit ↦ of_one SpellsQuestion Relation (codes "relation") (λ words is. is) line ws asked hit (rw hit at e3)
-        | inr not_relation ↦ absurd (let e4 = rw not_relation at e3 in cc)
+      | inr not_possible ↦ let e3 = rw not_possible at e2 in elim (cases_Bool (bytes_eq (word_at ws 0) (codes "possible-class"))) [
+        | inl hit ↦ of_class SpellsQuestion PossibleClass (codes "possible-class") (λ words a word n is writes. (word, is, writes)) line ws asked hit (rw hit at e3)
+        | inr not_possible_class ↦ let e4 = rw not_possible_class at e3 in elim (cases_Bool (bytes_eq (word_at ws 0) (codes "necessary-class"))) [
+          | inl hit ↦ of_class SpellsQuestion NecessaryClass (codes "necessary-class") (λ words a word n is writes. (word, is, writes)) line ws asked hit (rw hit at e4)
+          | inr not_necessary_class ↦ let e5 = rw not_necessary_class at e4 in elim (cases_Bool (bytes_eq (word_at ws 0) (codes "classes"))) [
+            | inl hit ↦ classes-sound line ws asked hit (rw hit at e5)
+            | inr not_classes ↦ let e6 = rw not_classes at e5 in elim (cases_Bool (bytes_eq (word_at ws 0) (codes "relation"))) [
+              | inl hit ↦ of_one SpellsQuestion Relation (codes "relation") (λ words is. is) line ws asked hit (rw hit at e6)
+              | inr not_relation ↦ absurd (let e7 = rw not_relation at e6 in cc)
+            ]
+          ]
+        ]
       ]
     ]
   ]
@@ -192,12 +258,15 @@ more_than_three p q verb None = refl
 more_than_three p q verb (Some name) = refl
 
 pub question_of-again : (line : ℕ) (ws : LineWords) (asked : Asked) → SpellsQuestion ws asked → question_of line ws ≡ Ok asked
-unfolding question_of necessary_question possible_question
+unfolding question_of necessary_question possible_question classes_question
 question_of-again line ws Consistent h = ap (question_of line) h
 question_of-again line ws (Necessary a b) h = ap (question_of line) h ∙ rw (two_names-again line (codes "necessary") a b) refl
 question_of-again line ws (Possible a b) h = ap (question_of line) h ∙ rw (two_names-again line (codes "possible") a b) refl
 question_of-again line ws (NecessaryStrength p q on) h = ap (question_of line) h ∙ rw (more_than_three p q (codes "necessary") on, two_pairs-again line (codes "necessary") p q on) refl
 question_of-again line ws (PossibleStrength p q on) h = ap (question_of line) h ∙ rw (more_than_three p q (codes "possible") on, two_pairs-again line (codes "possible") p q on) refl
+question_of-again line ws (PossibleClass a n) h = ap (question_of line) h.1 ∙ rw (name_and_class-again line (codes "possible-class") a h.0 n h.2) refl
+question_of-again line ws (NecessaryClass a n) h = ap (question_of line) h.1 ∙ rw (name_and_class-again line (codes "necessary-class") a h.0 n h.2) refl
+question_of-again line ws (Classes a) h = ap (question_of line) h
 question_of-again line ws Relation h = ap (question_of line) h
 
 -- a question has words
@@ -217,28 +286,24 @@ after_two [] some = absurd (omega arith)
 after_two (a ∷ []) some = absurd (omega arith)
 after_two (a ∷ b ∷ more) some = refl
 
-number_is : (line : ℕ) (ws : LineWords) (n : ℕ) → number_of_statement line ws ≡ Ok n → WritesCount (word_at ws 1) n
-unfolding number_of_statement
-number_is line ws n e = need_ok (BadLine line) (count_of (word_at ws 1)) n e
-
 withdrawal-sound : (line : ℕ) (ws : LineWords) (command : Command) → bytes_eq (word_at ws 0) (codes "withdraw") ≡ true → withdrawal line ws ≡ Ok command → Spells ws command
 unfolding withdrawal
 withdrawal-sound line ws command hit e =
     let a = bind_ok (refuse (BadLine line) (not (eqb (length ws) 2))) _ command e in
-    let b = bind_ok (number_of_statement line ws) _ command a.2 in
+    let b = bind_ok (count_at line ws 1) _ command a.2 in
     let number : length ws ≡ 2 = eqb-true (length ws) 2 (not_refused (BadLine line) (eqb (length ws) 2) a.0 a.1) in
     let same : Withdraw b.0 ≡ command = let h = b.2 in cc in
     let is : ws ≡ codes "withdraw" ∷ word_at ws 1 ∷ [] = two_words ws number ∙ ap (λ (w : List ℕ). w ∷ word_at ws 1 ∷ []) (same_bytes (word_at ws 0) (codes "withdraw") hit) in
-    subst (λ (c : Command). Spells ws c) same (word_at ws 1, is, number_is line ws b.0 b.1)
+    subst (λ (c : Command). Spells ws c) same (word_at ws 1, is, count_is line 1 ws b.0 b.1)
 
 replacement-sound : (line : ℕ) (ws : LineWords) (command : Command) → bytes_eq (word_at ws 0) (codes "replace") ≡ true → replacement line ws ≡ Ok command → Spells ws command
 unfolding replacement
 replacement-sound line ws command hit e =
-    let a = bind_ok (number_of_statement line ws) _ command e in
+    let a = bind_ok (count_at line ws 1) _ command e in
     let b = bind_ok (statement_of line (drop 2 ws)) _ command a.2 in
     let same : Replace a.0 b.0 ≡ command = let h = b.2 in cc in
     let is : ws ≡ codes "replace" ∷ word_at ws 1 ∷ drop 2 ws = after_two ws (some_statement line (drop 2 ws) b.0 b.1) ∙ ap (λ (w : List ℕ). w ∷ word_at ws 1 ∷ drop 2 ws) (same_bytes (word_at ws 0) (codes "replace") hit) in
-    subst (λ (c : Command). Spells ws c) same (word_at ws 1, drop 2 ws, is, number_is line ws a.0 a.1, statement_of-sound line (drop 2 ws) b.0 b.1)
+    subst (λ (c : Command). Spells ws c) same (word_at ws 1, drop 2 ws, is, count_is line 1 ws a.0 a.1, statement_of-sound line (drop 2 ws) b.0 b.1)
 
 asking-sound : (line : ℕ) (ws : LineWords) (command : Command) → bytes_eq (word_at ws 0) (codes "ask") ≡ true → (question_of line (drop 1 ws) >>= λ asked. Ok (Ask asked)) ≡ Ok command → Spells ws command
 asking-sound line ws command hit e =
@@ -281,13 +346,14 @@ stated_again line ws (Same a b) h = stated line ws (codes "same" ∷ a ∷ b ∷
 stated_again line ws (Stronger p q on) h = stated line ws (codes "stronger" ∷ strength_words p q on) h refl
 stated_again line ws (AsStrong p q on) h = stated line ws (codes "asstrong" ∷ strength_words p q on) h refl
 stated_again line ws (EqualStrength p q on) h = stated line ws (codes "equal" ∷ strength_words p q on) h refl
+stated_again line ws (Class a lowest highest) h = stated line ws (codes "class" ∷ a ∷ h.0 ∷ h.1 ∷ []) h.2 refl
 
 withdrawn_again : (line n : ℕ) (word : List ℕ) → WritesCount word n → command_of line (codes "withdraw" ∷ word ∷ []) ≡ Ok (Withdraw n)
-unfolding command_of withdrawal number_of_statement
+unfolding command_of withdrawal count_at
 withdrawn_again line n word h = rw h refl
 
 replaced_again : (line n : ℕ) (word : List ℕ) (ws : LineWords) (named : Named) → WritesCount word n → SpellsStatement ws named → command_of line (codes "replace" ∷ word ∷ ws) ≡ Ok (Replace n named)
-unfolding command_of replacement number_of_statement
+unfolding command_of replacement count_at
 replaced_again line n word ws named h spelled = rw (h, statement_of-again line ws named spelled) refl
 
 asked_again : (line : ℕ) (ws : LineWords) (asked : Asked) → SpellsQuestion ws asked → command_of line (codes "ask" ∷ ws) ≡ Ok (Ask asked)
@@ -350,6 +416,17 @@ pairs_bad line ws make = bad_bind line (two_pairs line ws) (λ (t : TwoPairs). O
 one_bad : {A : Type 0} (line n : ℕ) (ws : LineWords) (made : A) → IsBadAt line (refuse (BadLine line) (not (eqb (length ws) n)) >>= λ _. Ok made)
 one_bad line n ws made = elim (cases_Bool (eqb (length ws) n)) [ inl hit ↦ rw hit tt | inr miss ↦ rw miss refl ]
 
+count-bad : (line i : ℕ) (ws : LineWords) → IsBadAt line (count_at line ws i)
+unfolding count_at
+count-bad line i ws = bad_need line (count_of (word_at ws i))
+
+class_statement-bad : (line : ℕ) (ws : LineWords) → IsBadAt line (class_statement line ws)
+unfolding class_statement
+class_statement-bad line ws = elim (cases_Bool (eqb (length ws) 4)) [
+  | inl hit ↦ rw hit (bad_bind line (count_at line ws 2) (λ (lowest : ℕ). count_at line ws 3 >>= λ (highest : ℕ). Ok (Class (word_at ws 1) lowest highest)) (count-bad line 2 ws) (λ lowest. bad_bind line (count_at line ws 3) (λ (highest : ℕ). Ok (Class (word_at ws 1) lowest highest)) (count-bad line 3 ws) (λ highest. tt)))
+  | inr miss ↦ rw miss refl
+]
+
 statement_of-bad : (line : ℕ) (ws : LineWords) → IsBadAt line (statement_of line ws)
 unfolding statement_of
 statement_of-bad line ws = elim (cases_Bool (bytes_eq (word_at ws 0) (codes "prefer"))) [
@@ -364,7 +441,10 @@ statement_of-bad line ws = elim (cases_Bool (bytes_eq (word_at ws 0) (codes "pre
           | inl hit ↦ rw (a, b, c, d, hit) (pairs_bad line ws AsStrong)
           | inr f ↦ elim (cases_Bool (bytes_eq (word_at ws 0) (codes "equal"))) [
             | inl hit ↦ rw (a, b, c, d, f, hit) (pairs_bad line ws EqualStrength)
-            | inr g ↦ rw (a, b, c, d, f, g) refl
+            | inr g ↦ elim (cases_Bool (bytes_eq (word_at ws 0) (codes "class"))) [
+              | inl hit ↦ rw (a, b, c, d, f, g, hit) (class_statement-bad line ws)
+              | inr h ↦ rw (a, b, c, d, f, g, h) refl
+            ]
           ]
         ]
       ]
@@ -380,6 +460,20 @@ possible-bad : (line : ℕ) (ws : LineWords) → IsBadAt line (possible_question
 unfolding possible_question
 possible-bad line ws = elim (cases_Bool (eqb (length ws) 3)) [ inl three ↦ rw three (names_bad line ws Possible) | inr other ↦ rw other (pairs_bad line ws PossibleStrength) ]
 
+name_and_class-bad : (line : ℕ) (ws : LineWords) → IsBadAt line (name_and_class line ws)
+unfolding name_and_class
+name_and_class-bad line ws = elim (cases_Bool (eqb (length ws) 3)) [
+  | inl hit ↦ rw hit (bad_bind line (count_at line ws 2) (λ (n : ℕ). Ok (record { name = word_at ws 1; number = n })) (count-bad line 2 ws) (λ n. tt))
+  | inr miss ↦ rw miss refl
+]
+
+class_bad : {A : Type 0} (line : ℕ) (ws : LineWords) (make : List ℕ → ℕ → A) → IsBadAt line (name_and_class line ws >>= λ c. Ok (make c.name c.number))
+class_bad line ws make = bad_bind line (name_and_class line ws) (λ (c : NameAndClass). Ok (make c.name c.number)) (name_and_class-bad line ws) (λ x. tt)
+
+classes-bad : (line : ℕ) (ws : LineWords) → IsBadAt line (classes_question line ws)
+unfolding classes_question
+classes-bad line ws = one_bad line 2 ws (Classes (word_at ws 1))
+
 question_of-bad : (line : ℕ) (ws : LineWords) → IsBadAt line (question_of line ws)
 unfolding question_of
 question_of-bad line ws = elim (cases_Bool (bytes_eq (word_at ws 0) (codes "consistent"))) [
@@ -388,28 +482,33 @@ question_of-bad line ws = elim (cases_Bool (bytes_eq (word_at ws 0) (codes "cons
     | inl hit ↦ rw (a, hit) (necessary-bad line ws)
     | inr b ↦ elim (cases_Bool (bytes_eq (word_at ws 0) (codes "possible"))) [
       | inl hit ↦ rw (a, b, hit) (possible-bad line ws)
-      | inr c ↦ elim (cases_Bool (bytes_eq (word_at ws 0) (codes "relation"))) [
-        | inl hit ↦ rw (a, b, c, hit) (one_bad line 1 ws Relation)
-        | inr d ↦ rw (a, b, c, d) refl
+      | inr c ↦ elim (cases_Bool (bytes_eq (word_at ws 0) (codes "possible-class"))) [
+        | inl hit ↦ rw (a, b, c, hit) (class_bad line ws PossibleClass)
+        | inr d ↦ elim (cases_Bool (bytes_eq (word_at ws 0) (codes "necessary-class"))) [
+          | inl hit ↦ rw (a, b, c, d, hit) (class_bad line ws NecessaryClass)
+          | inr f ↦ elim (cases_Bool (bytes_eq (word_at ws 0) (codes "classes"))) [
+            | inl hit ↦ rw (a, b, c, d, f, hit) (classes-bad line ws)
+            | inr g ↦ elim (cases_Bool (bytes_eq (word_at ws 0) (codes "relation"))) [
+              | inl hit ↦ rw (a, b, c, d, f, g, hit) (one_bad line 1 ws Relation)
+              | inr h ↦ rw (a, b, c, d, f, g, h) refl
+            ]
+          ]
+        ]
       ]
     ]
   ]
 ]
 
-number-bad : (line : ℕ) (ws : LineWords) → IsBadAt line (number_of_statement line ws)
-unfolding number_of_statement
-number-bad line ws = bad_need line (count_of (word_at ws 1))
-
 withdrawal-bad : (line : ℕ) (ws : LineWords) → IsBadAt line (withdrawal line ws)
 unfolding withdrawal
 withdrawal-bad line ws = elim (cases_Bool (eqb (length ws) 2)) [
-  | inl hit ↦ rw hit (bad_bind line (number_of_statement line ws) (λ (n : ℕ). Ok (Withdraw n)) (number-bad line ws) (λ n. tt))
+  | inl hit ↦ rw hit (bad_bind line (count_at line ws 1) (λ (n : ℕ). Ok (Withdraw n)) (count-bad line 1 ws) (λ n. tt))
   | inr miss ↦ rw miss refl
 ]
 
 replacement-bad : (line : ℕ) (ws : LineWords) → IsBadAt line (replacement line ws)
 unfolding replacement
-replacement-bad line ws = bad_bind line (number_of_statement line ws) (λ (n : ℕ). statement_of line (drop 2 ws) >>= λ (named : Named). Ok (Replace n named)) (number-bad line ws) (λ n. bad_bind line (statement_of line (drop 2 ws)) (λ (named : Named). Ok (Replace n named)) (statement_of-bad line (drop 2 ws)) (λ named. tt))
+replacement-bad line ws = bad_bind line (count_at line ws 1) (λ (n : ℕ). statement_of line (drop 2 ws) >>= λ (named : Named). Ok (Replace n named)) (count-bad line 1 ws) (λ n. bad_bind line (statement_of line (drop 2 ws)) (λ (named : Named). Ok (Replace n named)) (statement_of-bad line (drop 2 ws)) (λ named. tt))
 
 pub command_of-bad : (line : ℕ) (ws : LineWords) → IsBadAt line (command_of line ws)
 unfolding command_of

@@ -9,7 +9,7 @@ use Rattle.ror_text.proofs.ReadingLemmas.{bind_ok, refuse_ok}
 use Rattle.ror_session.specs.declared.limits.TheConstants.{MOST_DESK_NAME_BYTES}
 use Rattle.ror_session.specs.declared.reading.Said.{Said}
 use Rattle.ror_session.specs.declared.session.Named.{Named}
-use Rattle.ror_session.specs.declared.session.Named.TheVariants.{Prefer, AtLeast, Same, Stronger, AsStrong, EqualStrength}
+use Rattle.ror_session.specs.declared.session.Named.TheVariants.{Prefer, AtLeast, Same, Stronger, AsStrong, EqualStrength, Class}
 use Rattle.ror_session.specs.declared.session.Command.{Command}
 use Rattle.ror_session.specs.declared.session.Command.TheVariants.{State, Withdraw, Replace, Undo, Ask}
 use Rattle.ror_session.specs.declared.session.SessionFault.{SessionFault}
@@ -107,6 +107,7 @@ statement_no_desk ws (Same a b) h = ap has_desk_word h
 statement_no_desk ws (Stronger p q on) h = ap has_desk_word h
 statement_no_desk ws (AsStrong p q on) h = ap has_desk_word h
 statement_no_desk ws (EqualStrength p q on) h = ap has_desk_word h
+statement_no_desk ws (Class a lowest highest) h = ap has_desk_word h.2
 
 -- no command begins with a desk word
 command_no_desk : (ws : LineWords) (command : Command) → Spells ws command → has_desk_word ws ≡ false

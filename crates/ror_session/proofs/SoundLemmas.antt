@@ -11,9 +11,9 @@ use Rattle.ror_session.specs.declared.limits.TheConstants.{MOST_DESK_NAME_BYTES,
 use Rattle.ror_session.specs.declared.reading.Said.{Said}
 use Rattle.ror_session.specs.declared.session.NamedPair.{NamedPair}
 use Rattle.ror_session.specs.declared.session.Named.{Named}
-use Rattle.ror_session.specs.declared.session.Named.TheVariants.{Prefer, AtLeast, Same, Stronger, AsStrong, EqualStrength}
+use Rattle.ror_session.specs.declared.session.Named.TheVariants.{Prefer, AtLeast, Same, Stronger, AsStrong, EqualStrength, Class}
 use Rattle.ror_session.specs.declared.session.Asked.{Asked}
-use Rattle.ror_session.specs.declared.session.Asked.TheVariants.{Consistent, Necessary, Possible, NecessaryStrength, PossibleStrength, Relation}
+use Rattle.ror_session.specs.declared.session.Asked.TheVariants.{Consistent, Necessary, Possible, NecessaryStrength, PossibleStrength, PossibleClass, NecessaryClass, Classes, Relation}
 use Rattle.ror_session.specs.declared.session.Command.{Command}
 use Rattle.ror_session.specs.declared.session.Command.TheVariants.{State, Withdraw, Replace, Undo, Ask}
 use Rattle.ror_session.specs.declared.session.Session.{Session}
@@ -113,6 +113,9 @@ pairs_clean p q (Some name) h = (h.0, (h.1.0, (h.1.1.0, (h.1.1.1.0, h.1.1.1.1.1)
 rest_clean : (ws rest : LineWords) (verb : List ℕ) → ws ≡ verb ∷ rest → AllByRecursion IsClean ws → AllByRecursion IsClean rest
 rest_clean ws rest verb is clean = (subst (λ (x : LineWords). AllByRecursion IsClean x) is clean).1
 
+first_clean : (name : List ℕ) (more : LineWords) → AllByRecursion IsClean (name ∷ more) → AllByRecursion IsClean (name ∷ [])
+first_clean name more clean = (clean.0, tt)
+
 statement_clean : (ws : LineWords) (named : Named) → SpellsStatement ws named → AllByRecursion IsClean ws → AllByRecursion IsClean (names_of_statement named)
 statement_clean ws (Prefer a b) h clean = rest_clean ws (a ∷ b ∷ []) (codes "prefer") h clean
 statement_clean ws (AtLeast a b) h clean = rest_clean ws (a ∷ b ∷ []) (codes "atleast") h clean
@@ -120,6 +123,7 @@ statement_clean ws (Same a b) h clean = rest_clean ws (a ∷ b ∷ []) (codes "s
 statement_clean ws (Stronger p q on) h clean = pairs_clean p q on (rest_clean ws (strength_words p q on) (codes "stronger") h clean)
 statement_clean ws (AsStrong p q on) h clean = pairs_clean p q on (rest_clean ws (strength_words p q on) (codes "asstrong") h clean)
 statement_clean ws (EqualStrength p q on) h clean = pairs_clean p q on (rest_clean ws (strength_words p q on) (codes "equal") h clean)
+statement_clean ws (Class a lowest highest) h clean = first_clean a (h.0 ∷ h.1 ∷ []) (rest_clean ws (a ∷ h.0 ∷ h.1 ∷ []) (codes "class") h.2 clean)
 
 question_clean : (ws : LineWords) (asked : Asked) → SpellsQuestion ws asked → AllByRecursion IsClean ws → AllByRecursion IsClean (names_of_question asked)
 question_clean ws Consistent h clean = tt
@@ -127,6 +131,9 @@ question_clean ws (Necessary a b) h clean = rest_clean ws (a ∷ b ∷ []) (code
 question_clean ws (Possible a b) h clean = rest_clean ws (a ∷ b ∷ []) (codes "possible") h clean
 question_clean ws (NecessaryStrength p q on) h clean = pairs_clean p q on (rest_clean ws (strength_words p q on) (codes "necessary") h clean)
 question_clean ws (PossibleStrength p q on) h clean = pairs_clean p q on (rest_clean ws (strength_words p q on) (codes "possible") h clean)
+question_clean ws (PossibleClass a n) h clean = first_clean a (h.0 ∷ []) (rest_clean ws (a ∷ h.0 ∷ []) (codes "possible-class") h.1 clean)
+question_clean ws (NecessaryClass a n) h clean = first_clean a (h.0 ∷ []) (rest_clean ws (a ∷ h.0 ∷ []) (codes "necessary-class") h.1 clean)
+question_clean ws (Classes a) h clean = rest_clean ws (a ∷ []) (codes "classes") h clean
 question_clean ws Relation h clean = tt
 
 spelled_clean : (ws : LineWords) (command : Command) → Spells ws command → AllByRecursion IsClean ws → AllByRecursion IsClean (names_of command)

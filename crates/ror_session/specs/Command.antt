@@ -4,12 +4,13 @@ use Rattle.std.specs.Str.{bytes_eq}
 use Rattle.ror_text.specs.Numbers.{count_of}
 use Rattle.ror_text.specs.Reading.{◌>>=◌, refuse, need}
 use Rattle.ror_session.specs.Grammar.{LineWords, word_at}
+use Rattle.ror_session.specs.declared.command.NameAndClass.{NameAndClass}
 use Rattle.ror_session.specs.declared.command.TwoPairs.{TwoPairs}
 use Rattle.ror_session.specs.declared.session.NamedPair.{NamedPair}
 use Rattle.ror_session.specs.declared.session.Named.{Named}
-use Rattle.ror_session.specs.declared.session.Named.TheVariants.{Prefer, AtLeast, Same, Stronger, AsStrong, EqualStrength}
+use Rattle.ror_session.specs.declared.session.Named.TheVariants.{Prefer, AtLeast, Same, Stronger, AsStrong, EqualStrength, Class}
 use Rattle.ror_session.specs.declared.session.Asked.{Asked}
-use Rattle.ror_session.specs.declared.session.Asked.TheVariants.{Consistent, Necessary, Possible, NecessaryStrength, PossibleStrength, Relation}
+use Rattle.ror_session.specs.declared.session.Asked.TheVariants.{Consistent, Necessary, Possible, NecessaryStrength, PossibleStrength, PossibleClass, NecessaryClass, Classes, Relation}
 use Rattle.ror_session.specs.declared.session.Command.{Command}
 use Rattle.ror_session.specs.declared.session.Command.TheVariants.{State, Withdraw, Replace, Undo, Ask}
 use Rattle.ror_session.specs.declared.session.SessionFault.{SessionFault}
@@ -44,6 +45,18 @@ two_pairs line ws = do
   criterion ← criterion_of line ws
   Ok (record { first = pair_at ws 1; second = pair_at ws 3; criterion = criterion })
 
+-- the count that the word at a place writes
+unfoldable pub count_at : ℕ → LineWords → ℕ → Result ℕ SessionFault
+count_at line ws i = need (BadLine line) (count_of (word_at ws i))
+
+-- `class A LOWEST HIGHEST`
+unfoldable pub class_statement : ℕ → LineWords → Result Named SessionFault
+class_statement line ws = do
+  _ ← refuse (BadLine line) (not (length ws == 4))
+  lowest ← count_at line ws 2
+  highest ← count_at line ws 3
+  Ok (Class (word_at ws 1) lowest highest)
+
 -- a statement, by its first word
 unfoldable pub statement_of : ℕ → LineWords → Result Named SessionFault
 statement_of line ws =
@@ -59,7 +72,8 @@ statement_of line ws =
     then (two_pairs line ws >>= λ t. Ok (AsStrong t.first t.second t.criterion))
     else (if bytes_eq (word_at ws 0) (codes "equal")
     then (two_pairs line ws >>= λ t. Ok (EqualStrength t.first t.second t.criterion))
-    else Err (BadLine line))))))
+    else (if bytes_eq (word_at ws 0) (codes "class") then class_statement line ws
+    else Err (BadLine line)))))))
 
 -- `necessary` and two names, or four with a criterion or none
 unfoldable pub necessary_question : ℕ → LineWords → Result Asked SessionFault
@@ -73,6 +87,19 @@ possible_question line ws = if length ws == 3
     then (two_names line ws >>= λ p. Ok (Possible p.first p.second))
     else (two_pairs line ws >>= λ t. Ok (PossibleStrength t.first t.second t.criterion))
 
+-- `VERB A CLASS`
+unfoldable pub name_and_class : ℕ → LineWords → Result NameAndClass SessionFault
+name_and_class line ws = do
+  _ ← refuse (BadLine line) (not (length ws == 3))
+  number ← count_at line ws 2
+  Ok (record { name = word_at ws 1; number = number })
+
+-- `classes A`
+unfoldable pub classes_question : ℕ → LineWords → Result Asked SessionFault
+classes_question line ws = do
+  _ ← refuse (BadLine line) (not (length ws == 2))
+  Ok (Classes (word_at ws 1))
+
 -- a question, by the first word after `ask`
 unfoldable pub question_of : ℕ → LineWords → Result Asked SessionFault
 question_of line ws =
@@ -80,23 +107,24 @@ question_of line ws =
     then (refuse (BadLine line) (not (length ws == 1)) >>= λ _. Ok Consistent)
     else (if bytes_eq (word_at ws 0) (codes "necessary") then necessary_question line ws
     else (if bytes_eq (word_at ws 0) (codes "possible") then possible_question line ws
+    else (if bytes_eq (word_at ws 0) (codes "possible-class")
+    then (name_and_class line ws >>= λ c. Ok (PossibleClass c.name c.number))
+    else (if bytes_eq (word_at ws 0) (codes "necessary-class")
+    then (name_and_class line ws >>= λ c. Ok (NecessaryClass c.name c.number))
+    else (if bytes_eq (word_at ws 0) (codes "classes") then classes_question line ws
     else (if bytes_eq (word_at ws 0) (codes "relation")
     then (refuse (BadLine line) (not (length ws == 1)) >>= λ _. Ok Relation)
-    else Err (BadLine line))))
-
--- the number of a statement, after the first word
-unfoldable pub number_of_statement : ℕ → LineWords → Result ℕ SessionFault
-number_of_statement line ws = need (BadLine line) (count_of (word_at ws 1))
+    else Err (BadLine line)))))))
 
 unfoldable pub withdrawal : ℕ → LineWords → Result Command SessionFault
 withdrawal line ws = do
   _ ← refuse (BadLine line) (not (length ws == 2))
-  n ← number_of_statement line ws
+  n ← count_at line ws 1
   Ok (Withdraw n)
 
 unfoldable pub replacement : ℕ → LineWords → Result Command SessionFault
 replacement line ws = do
-  n ← number_of_statement line ws
+  n ← count_at line ws 1
   named ← statement_of line (drop 2 ws)
   Ok (Replace n named)
 

@@ -8,9 +8,9 @@ use Rattle.ror_text.specs.Numbers.{count_of}
 use Rattle.ror_session.specs.declared.limits.TheConstants.{MOST_DESKS, MOST_DESK_NAME_BYTES, MOST_LINES}
 use Rattle.ror_session.specs.declared.session.NamedPair.{NamedPair}
 use Rattle.ror_session.specs.declared.session.Named.{Named}
-use Rattle.ror_session.specs.declared.session.Named.TheVariants.{Prefer, AtLeast, Same, Stronger, AsStrong, EqualStrength}
+use Rattle.ror_session.specs.declared.session.Named.TheVariants.{Prefer, AtLeast, Same, Stronger, AsStrong, EqualStrength, Class}
 use Rattle.ror_session.specs.declared.session.Asked.{Asked}
-use Rattle.ror_session.specs.declared.session.Asked.TheVariants.{Consistent, Necessary, Possible, NecessaryStrength, PossibleStrength, Relation}
+use Rattle.ror_session.specs.declared.session.Asked.TheVariants.{Consistent, Necessary, Possible, NecessaryStrength, PossibleStrength, PossibleClass, NecessaryClass, Classes, Relation}
 use Rattle.ror_session.specs.declared.session.Command.{Command}
 use Rattle.ror_session.specs.declared.session.Command.TheVariants.{State, Withdraw, Replace, Undo, Ask}
 use Rattle.ror_session.specs.declared.session.Session.{Session}
@@ -36,6 +36,10 @@ abbrev pub strength_words : NamedPair → NamedPair → Option (List ℕ) → Li
 strength_words p q criterion =
     p.first ∷ p.second ∷ q.first ∷ q.second ∷ on_criterion criterion
 
+-- the word is a count, and writes this number
+abbrev pub WritesCount : List ℕ → ℕ → Type 0
+WritesCount word n = count_of word ≡ Some n
+
 -- the words spell the statement
 abbrev pub SpellsStatement : LineWords → Named → Type 0
 SpellsStatement ws (Prefer a b) = ws ≡ codes "prefer" ∷ a ∷ b ∷ []
@@ -44,6 +48,9 @@ SpellsStatement ws (Same a b) = ws ≡ codes "same" ∷ a ∷ b ∷ []
 SpellsStatement ws (Stronger p q on) = ws ≡ codes "stronger" ∷ strength_words p q on
 SpellsStatement ws (AsStrong p q on) = ws ≡ codes "asstrong" ∷ strength_words p q on
 SpellsStatement ws (EqualStrength p q on) = ws ≡ codes "equal" ∷ strength_words p q on
+SpellsStatement ws (Class a lowest highest) =
+    (low : List ℕ) × (high : List ℕ) × (ws ≡ codes "class" ∷ a ∷ low ∷ high ∷ [])
+    × WritesCount low lowest × WritesCount high highest
 
 -- the words, those after `ask`, spell the question
 abbrev pub SpellsQuestion : LineWords → Asked → Type 0
@@ -52,11 +59,12 @@ SpellsQuestion ws (Necessary a b) = ws ≡ codes "necessary" ∷ a ∷ b ∷ []
 SpellsQuestion ws (Possible a b) = ws ≡ codes "possible" ∷ a ∷ b ∷ []
 SpellsQuestion ws (NecessaryStrength p q on) = ws ≡ codes "necessary" ∷ strength_words p q on
 SpellsQuestion ws (PossibleStrength p q on) = ws ≡ codes "possible" ∷ strength_words p q on
+SpellsQuestion ws (PossibleClass a n) =
+    (word : List ℕ) × (ws ≡ codes "possible-class" ∷ a ∷ word ∷ []) × WritesCount word n
+SpellsQuestion ws (NecessaryClass a n) =
+    (word : List ℕ) × (ws ≡ codes "necessary-class" ∷ a ∷ word ∷ []) × WritesCount word n
+SpellsQuestion ws (Classes a) = ws ≡ codes "classes" ∷ a ∷ []
 SpellsQuestion ws Relation = ws ≡ codes "relation" ∷ []
-
--- the word is a count, and writes this number
-abbrev pub WritesCount : List ℕ → ℕ → Type 0
-WritesCount word n = count_of word ≡ Some n
 
 -- the words spell the command
 abbrev pub Spells : LineWords → Command → Type 0

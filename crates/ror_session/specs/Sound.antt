@@ -9,9 +9,9 @@ use Rattle.ror_session.specs.Grammar.{IsClean}
 use Rattle.ror_session.specs.declared.limits.TheConstants.{MOST_DESKS, MOST_DESK_NAME_BYTES, MOST_LINES}
 use Rattle.ror_session.specs.declared.session.NamedPair.{NamedPair}
 use Rattle.ror_session.specs.declared.session.Named.{Named}
-use Rattle.ror_session.specs.declared.session.Named.TheVariants.{Prefer, AtLeast, Same, Stronger, AsStrong, EqualStrength}
+use Rattle.ror_session.specs.declared.session.Named.TheVariants.{Prefer, AtLeast, Same, Stronger, AsStrong, EqualStrength, Class}
 use Rattle.ror_session.specs.declared.session.Asked.{Asked}
-use Rattle.ror_session.specs.declared.session.Asked.TheVariants.{Consistent, Necessary, Possible, NecessaryStrength, PossibleStrength, Relation}
+use Rattle.ror_session.specs.declared.session.Asked.TheVariants.{Consistent, Necessary, Possible, NecessaryStrength, PossibleStrength, PossibleClass, NecessaryClass, Classes, Relation}
 use Rattle.ror_session.specs.declared.session.Command.{Command}
 use Rattle.ror_session.specs.declared.session.Command.TheVariants.{State, Withdraw, Replace, Undo, Ask}
 use Rattle.ror_session.specs.declared.session.Session.{Session}
@@ -28,6 +28,7 @@ names_of_statement (Same a b) = a ∷ b ∷ []
 names_of_statement (Stronger p q on) = names_of_pairs p q on
 names_of_statement (AsStrong p q on) = names_of_pairs p q on
 names_of_statement (EqualStrength p q on) = names_of_pairs p q on
+names_of_statement (Class a lowest highest) = a ∷ []
 
 abbrev pub names_of_question : Asked → List (List ℕ)
 names_of_question Consistent = []
@@ -35,6 +36,9 @@ names_of_question (Necessary a b) = a ∷ b ∷ []
 names_of_question (Possible a b) = a ∷ b ∷ []
 names_of_question (NecessaryStrength p q on) = names_of_pairs p q on
 names_of_question (PossibleStrength p q on) = names_of_pairs p q on
+names_of_question (PossibleClass a n) = a ∷ []
+names_of_question (NecessaryClass a n) = a ∷ []
+names_of_question (Classes a) = a ∷ []
 names_of_question Relation = []
 
 -- the names of alternatives and criteria that a command gives

@@ -115,6 +115,30 @@ fn two_pairs(alloc: Global, line: u32, words: &[&[u8]]) -> Result<TwoPairs, Sess
     })
 }
 
+/// The count that the word at a place writes.
+#[tactic(auto, unfolding(crate::specs::Command::count_at))]
+fn count_at(line: u32, words: &[&[u8]], i: usize) -> Result<u32, SessionFault>
+    requires utf8 { AllByRecursion IsUtf8 (map (λ word. word.now) words.now) }
+    ensures { Gives (λ n. n) session_fault result
+        (spec.count_at line (map (λ word. word.now) words.now) i) }
+{
+    need(read_count(word_at(words, i)), SessionFault::BadLine(line))
+}
+
+/// `class A LOWEST HIGHEST`.
+#[tactic(auto, unfolding(crate::specs::Command::class_statement))]
+fn class_statement(alloc: Global, line: u32, words: &[&[u8]]) -> Result<Named, SessionFault>
+    requires utf8 { AllByRecursion IsUtf8 (map (λ word. word.now) words.now) }
+    ensures { Gives (λ named. named) session_fault result
+        (spec.class_statement line (map (λ word. word.now) words.now)) }
+{
+    refuse_if(words.len() != 4, SessionFault::BadLine(line))?;
+    let lowest = count_at(line, words, 2)?;
+    let highest = count_at(line, words, 3)?;
+    let name = text_of(alloc, word_at(words, 1))?;
+    Ok(Named::Class(name, lowest, highest))
+}
+
 /// A statement, by its first word.
 #[tactic(auto, unfolding(crate::specs::Command::statement_of))]
 fn read_statement(alloc: Global, line: u32, words: &[&[u8]]) -> Result<Named, SessionFault>
@@ -141,6 +165,8 @@ fn read_statement(alloc: Global, line: u32, words: &[&[u8]]) -> Result<Named, Se
     } else if verb == b"equal".as_slice() {
         let pairs = two_pairs(alloc, line, words)?;
         Ok(Named::EqualStrength(pairs.first, pairs.second, pairs.criterion))
+    } else if verb == b"class".as_slice() {
+        class_statement(alloc, line, words)
     } else {
         Err(SessionFault::BadLine(line))
     }
@@ -178,6 +204,37 @@ fn possible_question(alloc: Global, line: u32, words: &[&[u8]]) -> Result<Asked,
     }
 }
 
+/// The name of an alternative, and the number of a class.
+#[derive(Drop)]
+pub(crate) struct NameAndClass {
+    name: Text,
+    number: u32,
+}
+
+/// `VERB A CLASS`.
+#[tactic(auto, unfolding(crate::specs::Command::name_and_class))]
+fn name_and_class(alloc: Global, line: u32, words: &[&[u8]]) -> Result<NameAndClass, SessionFault>
+    requires utf8 { AllByRecursion IsUtf8 (map (λ word. word.now) words.now) }
+    ensures { Gives (λ named. named) session_fault result
+        (spec.name_and_class line (map (λ word. word.now) words.now)) }
+{
+    refuse_if(words.len() != 3, SessionFault::BadLine(line))?;
+    let number = count_at(line, words, 2)?;
+    let name = text_of(alloc, word_at(words, 1))?;
+    Ok(NameAndClass { name, number })
+}
+
+/// `classes A`.
+#[tactic(auto, unfolding(crate::specs::Command::classes_question))]
+fn classes_question(alloc: Global, line: u32, words: &[&[u8]]) -> Result<Asked, SessionFault>
+    requires utf8 { AllByRecursion IsUtf8 (map (λ word. word.now) words.now) }
+    ensures { Gives (λ asked. asked) session_fault result
+        (spec.classes_question line (map (λ word. word.now) words.now)) }
+{
+    refuse_if(words.len() != 2, SessionFault::BadLine(line))?;
+    Ok(Asked::Classes(text_of(alloc, word_at(words, 1))?))
+}
+
 /// A question, by the first word after `ask`.
 #[tactic(auto, unfolding(crate::specs::Command::question_of))]
 fn read_question(alloc: Global, line: u32, words: &[&[u8]]) -> Result<Asked, SessionFault>
@@ -193,22 +250,20 @@ fn read_question(alloc: Global, line: u32, words: &[&[u8]]) -> Result<Asked, Ses
         necessary_question(alloc, line, words)
     } else if verb == b"possible".as_slice() {
         possible_question(alloc, line, words)
+    } else if verb == b"possible-class".as_slice() {
+        let asked = name_and_class(alloc, line, words)?;
+        Ok(Asked::PossibleClass(asked.name, asked.number))
+    } else if verb == b"necessary-class".as_slice() {
+        let asked = name_and_class(alloc, line, words)?;
+        Ok(Asked::NecessaryClass(asked.name, asked.number))
+    } else if verb == b"classes".as_slice() {
+        classes_question(alloc, line, words)
     } else if verb == b"relation".as_slice() {
         refuse_if(words.len() != 1, SessionFault::BadLine(line))?;
         Ok(Asked::Relation)
     } else {
         Err(SessionFault::BadLine(line))
     }
-}
-
-/// The number of a statement, after the first word.
-#[tactic(auto, unfolding(crate::specs::Command::number_of_statement))]
-fn number_of_statement(line: u32, words: &[&[u8]]) -> Result<u32, SessionFault>
-    requires utf8 { AllByRecursion IsUtf8 (map (λ word. word.now) words.now) }
-    ensures { Gives (λ n. n) session_fault result
-        (spec.number_of_statement line (map (λ word. word.now) words.now)) }
-{
-    need(read_count(word_at(words, 1)), SessionFault::BadLine(line))
 }
 
 /// `withdraw N`.
@@ -219,7 +274,7 @@ fn withdrawal(line: u32, words: &[&[u8]]) -> Result<Command, SessionFault>
         (spec.withdrawal line (map (λ word. word.now) words.now)) }
 {
     refuse_if(words.len() != 2, SessionFault::BadLine(line))?;
-    let number = number_of_statement(line, words)?;
+    let number = count_at(line, words, 1)?;
     Ok(Command::Withdraw(number))
 }
 
@@ -230,7 +285,7 @@ fn replacement(alloc: Global, line: u32, words: &[&[u8]]) -> Result<Command, Ses
     ensures { Gives (λ command. command) session_fault result
         (spec.replacement line (map (λ word. word.now) words.now)) }
 {
-    let number = number_of_statement(line, words)?;
+    let number = count_at(line, words, 1)?;
     let named = read_statement(alloc, line, words_after(words, 2))?;
     Ok(Command::Replace(number, named))
 }

@@ -31,6 +31,10 @@ pub enum Named {
     AsStrong(NamedPair, NamedPair, Option<Text>),
     /// The two preferences are equally strong.
     EqualStrength(NamedPair, NamedPair, Option<Text>),
+    /// An assignment example of UTADIS-GMS: the alternative belongs to a class from the first of
+    /// the two to the second. Classes are numbers from 0 to 999,999,999, in either order; whether
+    /// the table has them is not asked here.
+    Class(Text, u32, u32),
 }
 
 /// What a line asks, by the names that it gives: of every compatible function what is necessary, of
@@ -48,6 +52,13 @@ pub enum Asked {
     NecessaryStrength(NamedPair, NamedPair, Option<Text>),
     /// Whether it possibly is.
     PossibleStrength(NamedPair, NamedPair, Option<Text>),
+    /// Whether some compatible function lets the alternative belong to the class, a number from 0
+    /// to 999,999,999; whether the table has it is not asked here.
+    PossibleClass(Text, u32),
+    /// Whether every compatible function does.
+    NecessaryClass(Text, u32),
+    /// Both questions on the alternative for each class of the table, in order.
+    Classes(Text),
     /// The necessary and the possible preference between each two alternatives.
     Relation,
 }

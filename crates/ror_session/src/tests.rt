@@ -37,7 +37,7 @@ fn are_pairs(
     }
 }
 
-/// Whether the words spell the statement.
+/// Whether the words spell the statement, of which classes are given apart.
 fn states(named: &Named, words: &[&str]) -> bool {
     match named {
         Named::Prefer(a, b) => are_two("prefer", a, b, words),
@@ -46,10 +46,11 @@ fn states(named: &Named, words: &[&str]) -> bool {
         Named::Stronger(p, q, on) => are_pairs("stronger", p, q, on, words),
         Named::AsStrong(p, q, on) => are_pairs("asstrong", p, q, on, words),
         Named::EqualStrength(p, q, on) => are_pairs("equal", p, q, on, words),
+        Named::Class(a, _, _) => are(&["class", a.as_str()], words),
     }
 }
 
-/// Whether the words spell the question.
+/// Whether the words spell the question, of which a class is given apart.
 fn asks(asked: &Asked, words: &[&str]) -> bool {
     match asked {
         Asked::Consistent => are(&["consistent"], words),
@@ -57,6 +58,9 @@ fn asks(asked: &Asked, words: &[&str]) -> bool {
         Asked::Possible(a, b) => are_two("possible", a, b, words),
         Asked::NecessaryStrength(p, q, on) => are_pairs("necessary", p, q, on, words),
         Asked::PossibleStrength(p, q, on) => are_pairs("possible", p, q, on, words),
+        Asked::PossibleClass(a, _) => are(&["possible-class", a.as_str()], words),
+        Asked::NecessaryClass(a, _) => are(&["necessary-class", a.as_str()], words),
+        Asked::Classes(a) => are(&["classes", a.as_str()], words),
         Asked::Relation => are(&["relation"], words),
     }
 }
@@ -85,6 +89,17 @@ fn revises(session: &Session, place: usize, number: u32, words: &[&str]) -> bool
     match session.lines.get(place) {
         Some(line) => says(&line.command, number, words),
         None => false,
+    }
+}
+
+/// The lowest and the highest class that the line at a place gives, if it gives any.
+fn classes_at(session: &Session, place: usize) -> Option<(u32, u32)> {
+    match &session.lines.get(place)?.command {
+        Command::State(Named::Class(_, lowest, highest)) => Some((*lowest, *highest)),
+        Command::Replace(_, Named::Class(_, lowest, highest)) => Some((*lowest, *highest)),
+        Command::Ask(Asked::PossibleClass(_, class)) => Some((*class, *class)),
+        Command::Ask(Asked::NecessaryClass(_, class)) => Some((*class, *class)),
+        _ => None,
     }
 }
 
@@ -129,9 +144,9 @@ fn has_too_many_desks_at(alloc: Global, text: &[u8], number: u32) -> bool {
 #[test]
 fn statements_are_read(rt: HostRuntime) -> Result<(), Fail> {
     let text =
-        b"prefer a b\natleast b c\nsame c a\nstronger a b c d\n\nasstrong a b c d on q\nequal on on on on on on\n";
+        b"prefer a b\natleast b c\nsame c a\nstronger a b c d\n\nasstrong a b c d on q\nequal on on on on on on\nclass a 007 1\n";
     let session = read_session(rt.alloc(), text)?;
-    assert!(rt; session.lines.len() == 6);
+    assert!(rt; session.lines.len() == 7);
     assert!(rt; has_line(&session, 0, 1, &["prefer", "a", "b"]));
     assert!(rt; has_line(&session, 1, 2, &["atleast", "b", "c"]));
     assert!(rt; has_line(&session, 2, 3, &["same", "c", "a"]));
@@ -145,32 +160,42 @@ fn statements_are_read(rt: HostRuntime) -> Result<(), Fail> {
             &["equal", "on", "on", "on", "on", "on", "on"]
         )
     );
+    assert!(rt; has_line(&session, 6, 8, &["class", "a"]));
+    assert!(rt; classes_at(&session, 6) == Some((7, 1)));
     Ok(())
 }
 
 #[test]
 fn questions_are_read(rt: HostRuntime) -> Result<(), Fail> {
     let text =
-        b"ask consistent\nask necessary a b\r\nask possible b a\nask necessary a b c d\n# none\nask possible a b c d on q\n \task  relation";
+        b"ask consistent\nask necessary a b\r\nask possible b a\nask necessary a b c d\n# none\nask possible a b c d on q\n \task  relation\nask possible-class a 3\nask necessary-class b 000000002\nask classes c";
     let session = read_session(rt.alloc(), text)?;
-    assert!(rt; session.lines.len() == 6);
+    assert!(rt; session.lines.len() == 9);
     assert!(rt; has_line(&session, 0, 1, &["consistent"]));
     assert!(rt; has_line(&session, 1, 2, &["necessary", "a", "b"]));
     assert!(rt; has_line(&session, 2, 3, &["possible", "b", "a"]));
     assert!(rt; has_line(&session, 3, 4, &["necessary", "a", "b", "c", "d"]));
     assert!(rt; has_line(&session, 4, 6, &["possible", "a", "b", "c", "d", "on", "q"]));
     assert!(rt; has_line(&session, 5, 7, &["relation"]));
+    assert!(rt; has_line(&session, 6, 8, &["possible-class", "a"]));
+    assert!(rt; classes_at(&session, 6) == Some((3, 3)));
+    assert!(rt; has_line(&session, 7, 9, &["necessary-class", "b"]));
+    assert!(rt; classes_at(&session, 7) == Some((2, 2)));
+    assert!(rt; has_line(&session, 8, 10, &["classes", "c"]));
     Ok(())
 }
 
 #[test]
 fn revisions_are_read(rt: HostRuntime) -> Result<(), Fail> {
-    let text = b"withdraw 007\nreplace 999999999 equal a b c d\nundo\n";
+    let text =
+        b"withdraw 007\nreplace 999999999 equal a b c d\nundo\nreplace 2 class a 0 999999999\n";
     let session = read_session(rt.alloc(), text)?;
-    assert!(rt; session.lines.len() == 3);
+    assert!(rt; session.lines.len() == 4);
     assert!(rt; revises(&session, 0, 7, &["withdraw"]));
     assert!(rt; revises(&session, 1, 999_999_999, &["equal", "a", "b", "c", "d"]));
     assert!(rt; revises(&session, 2, 0, &["undo"]));
+    assert!(rt; revises(&session, 3, 2, &["class", "a"]));
+    assert!(rt; classes_at(&session, 3) == Some((0, 999_999_999)));
     Ok(())
 }
 
@@ -235,7 +260,12 @@ fn the_first_bad_line_is_named(rt: HostRuntime) {
     assert!(rt; is_bad_at(rt.alloc(), b"undo\nreplace 1 undo", 2));
     assert!(rt; is_bad_at(rt.alloc(), b"replace 1", 1));
     assert!(rt; is_bad_at(rt.alloc(), b"withdraw 1234567890", 1));
-    assert!(rt; is_bad_at(rt.alloc(), b"ask classes a", 1));
+    assert!(rt; is_bad_at(rt.alloc(), b"class a 1", 1));
+    assert!(rt; is_bad_at(rt.alloc(), b"class a 1 2 3", 1));
+    assert!(rt; is_bad_at(rt.alloc(), b"class a x 2", 1));
+    assert!(rt; is_bad_at(rt.alloc(), b"class a 1234567890 1", 1));
+    assert!(rt; is_bad_at(rt.alloc(), b"ask possible-class a", 1));
+    assert!(rt; is_bad_at(rt.alloc(), b"ask classes", 1));
     assert!(rt; is_bad_at(rt.alloc(), b"prefer a \x01", 1));
 }
 
