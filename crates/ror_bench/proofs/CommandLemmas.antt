@@ -1,5 +1,5 @@
 -- When a command is refused, and for what first; when it is taken.
-use Rattle.std.proofs.Common.{◌≡◌, ◌≢◌, inl, inr, ℕ, zero, suc, ◌<◌, ◌≤◌, List, [], ◌∷◌, ◌++◌, Ok, Err, None, refl, sym, ap, ◌∙◌, subst, arith}
+use Rattle.std.proofs.Common.{◌≡◌, ◌≢◌, inl, inr, ℕ, zero, suc, ◌<◌, ◌≤◌, List, [], ◌∷◌, ◌++◌, Ok, Err, refl, sym, ap, ◌∙◌, subst, arith}
 use Rattle.std.proofs.lemmas.List.Elements.{All-head, All-nil, All-cons}
 use Rattle.ror_chain.proofs.OrderLemmas.{distinct_from_Apart}
 use Rattle.std.proofs.lemmas.Bool.{cases_lt}
@@ -11,7 +11,7 @@ use Rattle.ror_statement.specs.declared.question.Question.{Question}
 use Rattle.ror_statement.specs.RowNumbers.{row_count}
 use Rattle.ror_session.specs.declared.session.Named.{Named}
 use Rattle.ror_session.specs.declared.session.Asked.{Asked}
-use Rattle.ror_session.specs.declared.session.Asked.TheVariants.{Consistent, Necessary, Possible, NecessaryStrength, PossibleStrength, Relation}
+use Rattle.ror_session.specs.declared.session.Asked.TheVariants.{Consistent, Necessary, Possible, NecessaryStrength, PossibleStrength, PossibleClass, NecessaryClass, Classes, Relation}
 use Rattle.ror_session.specs.declared.session.Command.{Command}
 use Rattle.ror_session.specs.declared.session.Command.TheVariants.{State, Withdraw, Replace, Undo, Ask}
 use Rattle.ror_report.specs.declared.block.LineFault.{LineFault}
@@ -21,9 +21,10 @@ use Rattle.ror_history.specs.declared.history.HistoryFault.TheVariants as histor
 use Rattle.ror_history.specs.History.{Revision, Revisions, replacement, statements_of, with_revision}
 use Rattle.ror_history.specs.Faults.{Stands, CanBeAdded, FailsAddition, CanBeReplaced, FailsReplacement, CanBeWithdrawn, FailsWithdrawal, FailsUndo, IsEarlierFault}
 use Rattle.ror_bench.specs.Names.{statement_of, questions_of}
-use Rattle.ror_bench.specs.Lines.{HasManyPairs, alternatives_asked, criterion_asked, alternatives_in, criterion_in, FailsLine, line_stage, IsRefusedFor, IsTaken}
+use Rattle.ror_bench.specs.Lines.{LacksAlternative, LacksCriterion, HasUnknownClass, HasManyPairs, alternatives_in, criterion_in, FailsLine, line_stage, IsRefusedFor, IsTaken}
 use Rattle.ror_bench.specs.Steps.{stop_of_history, RefusesCommand}
-use Rattle.ror_bench.proofs.NameLemmas.{NamesStand, NamesFail, statement_stands, statement_fails, questions_stand, questions_fail, questions_not_many}
+use Rattle.ror_bench.proofs.NameLemmas.{CommandStands, CommandFails, neither, statement_stands, statement_fails, replacement_stands, replacement_fails, questions_stand, questions_fail, questions_not_many}
+use Rattle.ror_bench.proofs.NameLemmas.CommandFails.{lacks_alternative, lacks_criterion, unknown_class, bad_interval}
 
 -- ---- the first of the faults
 
@@ -72,25 +73,28 @@ one_refusal t r command f g first second =
 
 -- ---- names
 
-pub names_refused : (t : DecisionTable) (r : Revisions) (command : Command) (fault : LineFault) → NamesFail t (alternatives_in command) (criterion_in command) fault → IsRefusedFor t r command fault
-names_refused t r command fault (inl alternative) =
-    subst (IsRefusedFor t r command) (sym alternative.0) (first_of t r command faults.UnknownAlternative alternative.1 (λ other less h. absurd (omega arith)))
-names_refused t r command fault (inr criterion) =
-    subst (IsRefusedFor t r command) (sym criterion.0) (first_of t r command faults.UnknownCriterion criterion.1 before)
-  where
-    before : (other : LineFault) → line_stage other < 1 → FailsLine t r command other → ⊥
-    before faults.UnknownAlternative less h = criterion.2 h
-    before faults.UnknownCriterion less h = absurd (omega arith)
-    before faults.UnknownClass less h = absurd (omega arith)
-    before faults.BadInterval less h = absurd (omega arith)
-    before faults.NoSuchStatement less h = absurd (omega arith)
-    before faults.NothingToUndo less h = absurd (omega arith)
-    before faults.TooManyStatements less h = absurd (omega arith)
-    before faults.TooManyRows less h = absurd (omega arith)
-    before faults.TooManyPairs less h = absurd (omega arith)
+-- of the tests before one of what is named
+named_before : (t : DecisionTable) (r : Revisions) (command : Command) (stage : ℕ) → stage ≤ 3 → (1 ≤ stage → LacksAlternative t (alternatives_in command) → ⊥) → (2 ≤ stage → LacksCriterion t (criterion_in command) → ⊥) → (3 ≤ stage → HasUnknownClass t command → ⊥)
+    → (other : LineFault) → line_stage other < stage → FailsLine t r command other → ⊥
+named_before t r command stage few alternatives criterion classes faults.UnknownAlternative less h = alternatives (omega (arith, less)) h
+named_before t r command stage few alternatives criterion classes faults.UnknownCriterion less h = criterion (omega (arith, less)) h
+named_before t r command stage few alternatives criterion classes faults.UnknownClass less h = classes (omega (arith, less)) h
+named_before t r command stage few alternatives criterion classes faults.BadInterval less h = omega (arith, less, few)
+named_before t r command stage few alternatives criterion classes faults.NoSuchStatement less h = omega (arith, less, few)
+named_before t r command stage few alternatives criterion classes faults.NothingToUndo less h = omega (arith, less, few)
+named_before t r command stage few alternatives criterion classes faults.TooManyStatements less h = omega (arith, less, few)
+named_before t r command stage few alternatives criterion classes faults.TooManyRows less h = omega (arith, less, few)
+named_before t r command stage few alternatives criterion classes faults.TooManyPairs less h = omega (arith, less, few)
 
-no_names : (t : DecisionTable) → NamesStand t [] None
-no_names t = (λ h. h, λ h. h)
+pub names_refused : (t : DecisionTable) (r : Revisions) (command : Command) (fault : LineFault) → CommandFails t command fault → IsRefusedFor t r command fault
+names_refused t r command fault (lacks_alternative is lacks) =
+    subst (IsRefusedFor t r command) (sym is) (first_of t r command faults.UnknownAlternative lacks (named_before t r command 0 (omega arith) (λ past. absurd (omega (arith, past))) (λ past. absurd (omega (arith, past))) (λ past. absurd (omega (arith, past)))))
+names_refused t r command fault (lacks_criterion is lacks alternatives) =
+    subst (IsRefusedFor t r command) (sym is) (first_of t r command faults.UnknownCriterion lacks (named_before t r command 1 (omega arith) (λ _. alternatives) (λ past. absurd (omega (arith, past))) (λ past. absurd (omega (arith, past)))))
+names_refused t r command fault (unknown_class is unknown alternatives criterion) =
+    subst (IsRefusedFor t r command) (sym is) (first_of t r command faults.UnknownClass unknown (named_before t r command 2 (omega arith) (λ _. alternatives) (λ _. criterion) (λ past. absurd (omega (arith, past)))))
+names_refused t r command fault (bad_interval is turned alternatives criterion classes) =
+    subst (IsRefusedFor t r command) (sym is) (first_of t r command faults.BadInterval turned (named_before t r command 3 (omega arith) (λ _. alternatives) (λ _. criterion) (λ _. classes)))
 
 one_more_is_some : {A : Type 0} (xs : List A) (x : A) → xs ++ x ∷ [] ≡ [] → ⊥
 one_more_is_some [] x e = absurd cc
@@ -102,26 +106,29 @@ one_stands r n can = All-head (Stands r) n [] can.among
 one_withdrawn : (r : Revisions) (n : ℕ) → Stands r n → CanBeWithdrawn r (n ∷ [])
 one_withdrawn r n stands = record { among = All-cons (Stands r) n [] stands (All-nil (Stands r)); once = distinct_from_Apart (n ∷ []) (tt, tt) }
 
--- all pairs of a table with few alternatives have names that stand, since none are named
-many_stand : (t : DecisionTable) (asked : Asked) → HasManyPairs t (Ask asked) → NamesStand t (alternatives_asked asked) (criterion_asked asked)
-many_stand t Relation many = no_names t
+-- where all pairs are asked of nothing is named
+many_stand : (t : DecisionTable) (asked : Asked) → HasManyPairs t (Ask asked) → CommandStands t (Ask asked)
+many_stand t Relation many = record { alternatives = λ h. h; criterion = λ h. h; classes = λ h. neither h; interval = λ h. h }
 many_stand t Consistent many = absurd many
 many_stand t (Necessary a b) many = absurd many
 many_stand t (Possible a b) many = absurd many
 many_stand t (NecessaryStrength p q on) many = absurd many
 many_stand t (PossibleStrength p q on) many = absurd many
+many_stand t (PossibleClass a h) many = absurd many
+many_stand t (NecessaryClass a h) many = absurd many
+many_stand t (Classes a) many = absurd many
 
 many_refused : (t : DecisionTable) (r : Revisions) (asked : Asked) → HasManyPairs t (Ask asked) → IsRefusedFor t r (Ask asked) faults.TooManyPairs
 many_refused t r asked many = first_of t r (Ask asked) faults.TooManyPairs many before
   where
-    stands : NamesStand t (alternatives_in (Ask asked)) (criterion_in (Ask asked))
+    stands : CommandStands t (Ask asked)
     stands = many_stand t asked many
 
     before : (other : LineFault) → line_stage other < 8 → FailsLine t r (Ask asked) other → ⊥
-    before faults.UnknownAlternative less h = stands.0 h
-    before faults.UnknownCriterion less h = stands.1 h
-    before faults.UnknownClass less h = h
-    before faults.BadInterval less h = h
+    before faults.UnknownAlternative less h = stands.alternatives h
+    before faults.UnknownCriterion less h = stands.criterion h
+    before faults.UnknownClass less h = stands.classes h
+    before faults.BadInterval less h = stands.interval h
     before faults.NoSuchStatement less h = h
     before faults.NothingToUndo less h = h
     before faults.TooManyStatements less h = h
@@ -139,14 +146,14 @@ statement_refused t r named fault e = names_refused t r (State named) fault (sta
 pub added_taken : (t : DecisionTable) (r : Revisions) (named : Named) (s : Statement) → statement_of t named ≡ Ok s → CanBeAdded r s → IsTaken t r (State named)
 added_taken t r named s e can = passes
   where
-    stands : NamesStand t (alternatives_in (State named)) (criterion_in (State named))
+    stands : CommandStands t (State named)
     stands = statement_stands t named s e
 
     passes : (other : LineFault) → FailsLine t r (State named) other → ⊥
-    passes faults.UnknownAlternative h = stands.0 h
-    passes faults.UnknownCriterion h = stands.1 h
-    passes faults.UnknownClass h = h
-    passes faults.BadInterval h = h
+    passes faults.UnknownAlternative h = stands.alternatives h
+    passes faults.UnknownCriterion h = stands.criterion h
+    passes faults.UnknownClass h = stands.classes h
+    passes faults.BadInterval h = stands.interval h
     passes faults.NoSuchStatement h = h
     passes faults.NothingToUndo h = h
     passes faults.TooManyStatements h = absurd (let few = can.few in omega arith)
@@ -162,14 +169,14 @@ added_refused t r named s histories.NothingToUndo e refused = absurd (refused (�
 added_refused t r named s histories.Memory e refused = tt
 added_refused t r named s histories.TooManyStatements e refused = first_of t r (State named) faults.TooManyStatements (refused (λ e. cc)).fails before
   where
-    stands : NamesStand t (alternatives_in (State named)) (criterion_in (State named))
+    stands : CommandStands t (State named)
     stands = statement_stands t named s e
 
     before : (other : LineFault) → line_stage other < 6 → FailsLine t r (State named) other → ⊥
-    before faults.UnknownAlternative less h = stands.0 h
-    before faults.UnknownCriterion less h = stands.1 h
-    before faults.UnknownClass less h = h
-    before faults.BadInterval less h = h
+    before faults.UnknownAlternative less h = stands.alternatives h
+    before faults.UnknownCriterion less h = stands.criterion h
+    before faults.UnknownClass less h = stands.classes h
+    before faults.BadInterval less h = stands.interval h
     before faults.NoSuchStatement less h = h
     before faults.NothingToUndo less h = h
     before faults.TooManyStatements less h = absurd (omega arith)
@@ -177,17 +184,17 @@ added_refused t r named s histories.TooManyStatements e refused = first_of t r (
     before faults.TooManyPairs less h = absurd (omega arith)
 added_refused t r named s histories.TooManyRows e refused = first_of t r (State named) faults.TooManyRows (s, e, first.fails) before
   where
-    stands : NamesStand t (alternatives_in (State named)) (criterion_in (State named))
+    stands : CommandStands t (State named)
     stands = statement_stands t named s e
 
     first : IsFirst (FailsAddition r s) IsEarlierFault histories.TooManyRows
     first = refused (λ e. cc)
 
     before : (other : LineFault) → line_stage other < 7 → FailsLine t r (State named) other → ⊥
-    before faults.UnknownAlternative less h = stands.0 h
-    before faults.UnknownCriterion less h = stands.1 h
-    before faults.UnknownClass less h = h
-    before faults.BadInterval less h = h
+    before faults.UnknownAlternative less h = stands.alternatives h
+    before faults.UnknownCriterion less h = stands.criterion h
+    before faults.UnknownClass less h = stands.classes h
+    before faults.BadInterval less h = stands.interval h
     before faults.NoSuchStatement less h = h
     before faults.NothingToUndo less h = h
     before faults.TooManyStatements less h = first.none_before histories.TooManyStatements (inl (omega arith)) h
@@ -199,14 +206,14 @@ added_refused t r named s histories.TooManyRows e refused = first_of t r (State 
 pub withdrawn_taken : (t : DecisionTable) (r : Revisions) (n : ℕ) → CanBeWithdrawn r (n ∷ []) → IsTaken t r (Withdraw n)
 withdrawn_taken t r n can = passes
   where
-    stands : NamesStand t (alternatives_in (Withdraw n)) (criterion_in (Withdraw n))
-    stands = no_names t
+    stands : CommandStands t (Withdraw n)
+    stands = record { alternatives = λ h. h; criterion = λ h. h; classes = λ h. h; interval = λ h. h }
 
     passes : (other : LineFault) → FailsLine t r (Withdraw n) other → ⊥
-    passes faults.UnknownAlternative h = stands.0 h
-    passes faults.UnknownCriterion h = stands.1 h
-    passes faults.UnknownClass h = h
-    passes faults.BadInterval h = h
+    passes faults.UnknownAlternative h = stands.alternatives h
+    passes faults.UnknownCriterion h = stands.criterion h
+    passes faults.UnknownClass h = stands.classes h
+    passes faults.BadInterval h = stands.interval h
     passes faults.NoSuchStatement h = h (one_stands r n can)
     passes faults.NothingToUndo h = h
     passes faults.TooManyStatements h = h
@@ -220,14 +227,14 @@ withdrawn_refused t r n histories.TooManyRows refused = absurd (refused (λ e. c
 withdrawn_refused t r n histories.Memory refused = tt
 withdrawn_refused t r n histories.NoSuchStatement refused = first_of t r (Withdraw n) faults.NoSuchStatement (λ there. (refused (λ e. cc)).fails (one_withdrawn r n there)) before
   where
-    stands : NamesStand t (alternatives_in (Withdraw n)) (criterion_in (Withdraw n))
-    stands = no_names t
+    stands : CommandStands t (Withdraw n)
+    stands = record { alternatives = λ h. h; criterion = λ h. h; classes = λ h. h; interval = λ h. h }
 
     before : (other : LineFault) → line_stage other < 4 → FailsLine t r (Withdraw n) other → ⊥
-    before faults.UnknownAlternative less h = stands.0 h
-    before faults.UnknownCriterion less h = stands.1 h
-    before faults.UnknownClass less h = h
-    before faults.BadInterval less h = h
+    before faults.UnknownAlternative less h = stands.alternatives h
+    before faults.UnknownCriterion less h = stands.criterion h
+    before faults.UnknownClass less h = stands.classes h
+    before faults.BadInterval less h = stands.interval h
     before faults.NoSuchStatement less h = absurd (omega arith)
     before faults.NothingToUndo less h = absurd (omega arith)
     before faults.TooManyStatements less h = absurd (omega arith)
@@ -237,19 +244,19 @@ withdrawn_refused t r n histories.NoSuchStatement refused = first_of t r (Withdr
 -- ---- a statement that is replaced
 
 pub replacement_refused : (t : DecisionTable) (r : Revisions) (n : ℕ) (named : Named) (fault : LineFault) → statement_of t named ≡ Err fault → IsRefusedFor t r (Replace n named) fault
-replacement_refused t r n named fault e = names_refused t r (Replace n named) fault (statement_fails t named fault e)
+replacement_refused t r n named fault e = names_refused t r (Replace n named) fault (replacement_fails t n named fault (statement_fails t named fault e))
 
 pub replaced_taken : (t : DecisionTable) (r : Revisions) (n : ℕ) (named : Named) (s : Statement) → statement_of t named ≡ Ok s → CanBeReplaced r n s → IsTaken t r (Replace n named)
 replaced_taken t r n named s e can = passes
   where
-    stands : NamesStand t (alternatives_in (Replace n named)) (criterion_in (Replace n named))
-    stands = statement_stands t named s e
+    stands : CommandStands t (Replace n named)
+    stands = replacement_stands t n named (statement_stands t named s e)
 
     passes : (other : LineFault) → FailsLine t r (Replace n named) other → ⊥
-    passes faults.UnknownAlternative h = stands.0 h
-    passes faults.UnknownCriterion h = stands.1 h
-    passes faults.UnknownClass h = h
-    passes faults.BadInterval h = h
+    passes faults.UnknownAlternative h = stands.alternatives h
+    passes faults.UnknownCriterion h = stands.criterion h
+    passes faults.UnknownClass h = stands.classes h
+    passes faults.BadInterval h = stands.interval h
     passes faults.NoSuchStatement h = h can.stands
     passes faults.NothingToUndo h = h
     passes faults.TooManyStatements h = h
@@ -265,14 +272,14 @@ replaced_refused t r n named s histories.TooManyStatements e refused = absurd (r
 replaced_refused t r n named s histories.Memory e refused = tt
 replaced_refused t r n named s histories.NoSuchStatement e refused = first_of t r (Replace n named) faults.NoSuchStatement (refused (λ e. cc)).fails before
   where
-    stands : NamesStand t (alternatives_in (Replace n named)) (criterion_in (Replace n named))
-    stands = statement_stands t named s e
+    stands : CommandStands t (Replace n named)
+    stands = replacement_stands t n named (statement_stands t named s e)
 
     before : (other : LineFault) → line_stage other < 4 → FailsLine t r (Replace n named) other → ⊥
-    before faults.UnknownAlternative less h = stands.0 h
-    before faults.UnknownCriterion less h = stands.1 h
-    before faults.UnknownClass less h = h
-    before faults.BadInterval less h = h
+    before faults.UnknownAlternative less h = stands.alternatives h
+    before faults.UnknownCriterion less h = stands.criterion h
+    before faults.UnknownClass less h = stands.classes h
+    before faults.BadInterval less h = stands.interval h
     before faults.NoSuchStatement less h = absurd (omega arith)
     before faults.NothingToUndo less h = absurd (omega arith)
     before faults.TooManyStatements less h = absurd (omega arith)
@@ -280,17 +287,17 @@ replaced_refused t r n named s histories.NoSuchStatement e refused = first_of t 
     before faults.TooManyPairs less h = absurd (omega arith)
 replaced_refused t r n named s histories.TooManyRows e refused = first_of t r (Replace n named) faults.TooManyRows (s, e, first.fails) before
   where
-    stands : NamesStand t (alternatives_in (Replace n named)) (criterion_in (Replace n named))
-    stands = statement_stands t named s e
+    stands : CommandStands t (Replace n named)
+    stands = replacement_stands t n named (statement_stands t named s e)
 
     first : IsFirst (FailsReplacement r n s) IsEarlierFault histories.TooManyRows
     first = refused (λ e. cc)
 
     before : (other : LineFault) → line_stage other < 7 → FailsLine t r (Replace n named) other → ⊥
-    before faults.UnknownAlternative less h = stands.0 h
-    before faults.UnknownCriterion less h = stands.1 h
-    before faults.UnknownClass less h = h
-    before faults.BadInterval less h = h
+    before faults.UnknownAlternative less h = stands.alternatives h
+    before faults.UnknownCriterion less h = stands.criterion h
+    before faults.UnknownClass less h = stands.classes h
+    before faults.BadInterval less h = stands.interval h
     before faults.NoSuchStatement less h = first.none_before histories.NoSuchStatement (inl (omega arith)) h
     before faults.NothingToUndo less h = h
     before faults.TooManyStatements less h = h
@@ -302,14 +309,14 @@ replaced_refused t r n named s histories.TooManyRows e refused = first_of t r (R
 pub undo_taken : (t : DecisionTable) (r : Revisions) → r.surviving ≢ [] → IsTaken t r Undo
 undo_taken t r some = passes
   where
-    stands : NamesStand t (alternatives_in Undo) (criterion_in Undo)
-    stands = no_names t
+    stands : CommandStands t Undo
+    stands = record { alternatives = λ h. h; criterion = λ h. h; classes = λ h. h; interval = λ h. h }
 
     passes : (other : LineFault) → FailsLine t r Undo other → ⊥
-    passes faults.UnknownAlternative h = stands.0 h
-    passes faults.UnknownCriterion h = stands.1 h
-    passes faults.UnknownClass h = h
-    passes faults.BadInterval h = h
+    passes faults.UnknownAlternative h = stands.alternatives h
+    passes faults.UnknownCriterion h = stands.criterion h
+    passes faults.UnknownClass h = stands.classes h
+    passes faults.BadInterval h = stands.interval h
     passes faults.NoSuchStatement h = h
     passes faults.NothingToUndo h = some h
     passes faults.TooManyStatements h = h
@@ -326,14 +333,14 @@ undone_refused t r histories.TooManyRows fails = absurd fails
 undone_refused t r histories.Memory fails = absurd fails
 undone_refused t r histories.NothingToUndo fails = first_of t r Undo faults.NothingToUndo fails before
   where
-    stands : NamesStand t (alternatives_in Undo) (criterion_in Undo)
-    stands = no_names t
+    stands : CommandStands t Undo
+    stands = record { alternatives = λ h. h; criterion = λ h. h; classes = λ h. h; interval = λ h. h }
 
     before : (other : LineFault) → line_stage other < 5 → FailsLine t r (Undo) other → ⊥
-    before faults.UnknownAlternative less h = stands.0 h
-    before faults.UnknownCriterion less h = stands.1 h
-    before faults.UnknownClass less h = h
-    before faults.BadInterval less h = h
+    before faults.UnknownAlternative less h = stands.alternatives h
+    before faults.UnknownCriterion less h = stands.criterion h
+    before faults.UnknownClass less h = stands.classes h
+    before faults.BadInterval less h = stands.interval h
     before faults.NoSuchStatement less h = h
     before faults.NothingToUndo less h = absurd (omega arith)
     before faults.TooManyStatements less h = absurd (omega arith)
@@ -345,14 +352,14 @@ undone_refused t r histories.NothingToUndo fails = first_of t r Undo faults.Noth
 pub asked_taken : (t : DecisionTable) (r : Revisions) (asked : Asked) (qs : List Question) → questions_of t asked ≡ Ok qs → IsTaken t r (Ask asked)
 asked_taken t r asked qs e = passes
   where
-    stands : NamesStand t (alternatives_in (Ask asked)) (criterion_in (Ask asked))
+    stands : CommandStands t (Ask asked)
     stands = questions_stand t asked qs e
 
     passes : (other : LineFault) → FailsLine t r (Ask asked) other → ⊥
-    passes faults.UnknownAlternative h = stands.0 h
-    passes faults.UnknownCriterion h = stands.1 h
-    passes faults.UnknownClass h = h
-    passes faults.BadInterval h = h
+    passes faults.UnknownAlternative h = stands.alternatives h
+    passes faults.UnknownCriterion h = stands.criterion h
+    passes faults.UnknownClass h = stands.classes h
+    passes faults.BadInterval h = stands.interval h
     passes faults.NoSuchStatement h = h
     passes faults.NothingToUndo h = h
     passes faults.TooManyStatements h = h

@@ -1,3 +1,4 @@
+pub mod ClassLemmas
 pub mod NameLemmas
 pub mod CommandLemmas
 pub mod LawfulLemmas

@@ -80,8 +80,8 @@ answers_in b = (passed_of (answers_of b.body)).answers
 wide_in : Block → ℕ
 wide_in b = (passed_of (answers_of b.body)).wide
 
-sums : (f : Block → ℕ) (b : Block) (bs : List Block) → sum_by f (b ∷ bs) ≡ f b + sum_by f bs
-sums f b bs = sum_by-append f (b ∷ []) bs ∙ ap (λ n. n + sum_by f bs) (zero-add (f b))
+pub sums : {X : Type 0} (f : X → ℕ) (x : X) (xs : List X) → sum_by f (x ∷ xs) ≡ f x + sum_by f xs
+sums f x xs = sum_by-append f (x ∷ []) xs ∙ ap (λ n. n + sum_by f xs) (zero-add (f x))
 
 same_accepted : (x y : Accepted) → x.answers ≡ y.answers → x.wide ≡ y.wide → x ≡ y
 same_accepted x y a w = ap (λ n. record { answers = n; wide = x.wide }) a ∙ ap (λ n. record { answers = y.answers; wide = n }) w

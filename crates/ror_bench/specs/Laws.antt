@@ -9,6 +9,7 @@ use Rattle.ror_bench.specs.Bench.{Workbench, IsLawfulBench}
 use Rattle.ror_bench.specs.Replays.{IsReplayedReport}
 use Rattle.ror_bench.specs.declared.report.Accepted.{Accepted}
 use Rattle.ror_bench.specs.declared.report.Rejection.{Rejection}
+use Rattle.ror_bench.specs.declared.names.TheConstants.{MOST_RELATED}
 use Rattle.ror_bench.specs.declared.report.TheConstants.{MOST_REPORT_BYTES}
 use Rattle.ror_bench.specs.Blocks.{IsProvedBlock, AreTrue}
 use Rattle.ror_bench.specs.Reports.{IsProvedReport, IsRejectedFor, AreTrueBlocks}
@@ -49,3 +50,7 @@ abbrev pub OneRejection : Type 0
 OneRejection = (bench : Workbench) (lines : List Line) (bytes : List ℕ) (first second : Rejection)
     → IsRejectedFor bench lines bytes first → IsRejectedFor bench lines bytes second
     → first ≡ second
+
+-- what the limits are: of how many alternatives all pairs are asked of, and how long a report is
+abbrev pub LimitsAre : Type 0
+LimitsAre = (MOST_RELATED ≡ 100) × (MOST_REPORT_BYTES ≡ 268435456)

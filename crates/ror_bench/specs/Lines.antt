@@ -7,9 +7,9 @@ use Rattle.ror_statement.specs.declared.statement.Statement.{Statement}
 use Rattle.ror_statement.specs.RowNumbers.{row_count}
 use Rattle.ror_session.specs.declared.session.NamedPair.{NamedPair}
 use Rattle.ror_session.specs.declared.session.Named.{Named}
-use Rattle.ror_session.specs.declared.session.Named.TheVariants.{Prefer, AtLeast, Same, Stronger, AsStrong, EqualStrength}
+use Rattle.ror_session.specs.declared.session.Named.TheVariants.{Prefer, AtLeast, Same, Stronger, AsStrong, EqualStrength, Class}
 use Rattle.ror_session.specs.declared.session.Asked.{Asked}
-use Rattle.ror_session.specs.declared.session.Asked.TheVariants.{Consistent, Necessary, Possible, NecessaryStrength, PossibleStrength, Relation}
+use Rattle.ror_session.specs.declared.session.Asked.TheVariants.{Consistent, Necessary, Possible, NecessaryStrength, PossibleStrength, PossibleClass, NecessaryClass, Classes, Relation}
 use Rattle.ror_session.specs.declared.session.Command.{Command}
 use Rattle.ror_session.specs.declared.session.Command.TheVariants.{State, Withdraw, Replace, Undo, Ask}
 use Rattle.ror_report.specs.declared.block.LineFault.{LineFault}
@@ -31,6 +31,7 @@ alternatives_stated (Same a b) = a ∷ b ∷ []
 alternatives_stated (Stronger p q on) = names_of_pairs p q
 alternatives_stated (AsStrong p q on) = names_of_pairs p q
 alternatives_stated (EqualStrength p q on) = names_of_pairs p q
+alternatives_stated (Class a lowest highest) = a ∷ []
 
 abbrev pub criterion_stated : Named → Option (List ℕ)
 criterion_stated (Stronger p q on) = on
@@ -44,12 +45,24 @@ alternatives_asked (Necessary a b) = a ∷ b ∷ []
 alternatives_asked (Possible a b) = a ∷ b ∷ []
 alternatives_asked (NecessaryStrength p q on) = names_of_pairs p q
 alternatives_asked (PossibleStrength p q on) = names_of_pairs p q
+alternatives_asked (PossibleClass a h) = a ∷ []
+alternatives_asked (NecessaryClass a h) = a ∷ []
+alternatives_asked (Classes a) = a ∷ []
 alternatives_asked Relation = []
 
 abbrev pub criterion_asked : Asked → Option (List ℕ)
 criterion_asked (NecessaryStrength p q on) = on
 criterion_asked (PossibleStrength p q on) = on
 criterion_asked _ = None
+
+abbrev pub classes_stated : Named → List ℕ
+classes_stated (Class a lowest highest) = lowest ∷ highest ∷ []
+classes_stated _ = []
+
+abbrev pub classes_asked : Asked → List ℕ
+classes_asked (PossibleClass a h) = h ∷ []
+classes_asked (NecessaryClass a h) = h ∷ []
+classes_asked _ = []
 
 -- the alternatives that a command names
 abbrev pub alternatives_in : Command → List (List ℕ)
@@ -65,6 +78,13 @@ criterion_in (Replace n named) = criterion_stated named
 criterion_in (Ask asked) = criterion_asked asked
 criterion_in _ = None
 
+-- the classes that a command names
+abbrev pub classes_in : Command → List ℕ
+classes_in (State named) = classes_stated named
+classes_in (Replace n named) = classes_stated named
+classes_in (Ask asked) = classes_asked asked
+classes_in _ = []
+
 -- ---- each test
 
 -- an alternative that is named is none of the table's
@@ -77,6 +97,31 @@ LacksAlternative t (name ∷ names) =
 abbrev pub LacksCriterion : DecisionTable → Option (List ℕ) → Type 0
 LacksCriterion t None = ⊥
 LacksCriterion t (Some name) = criterion_named t name ≡ None
+
+-- a class that is named is none of the table's, which are numbered from 1
+abbrev pub LacksClass : DecisionTable → List ℕ → Type 0
+LacksClass t [] = ⊥
+LacksClass t (h ∷ hs) = ((h ≡ 0) ⊎ (t.classes < h)) ⊎ LacksClass t hs
+
+-- each class is asked of, and the table has none
+abbrev pub LacksClasses : DecisionTable → Asked → Type 0
+LacksClasses t (Classes a) = t.classes ≡ 0
+LacksClasses t _ = ⊥
+
+-- a class is none of the table's, or each is asked of where there is none
+abbrev pub HasUnknownClass : DecisionTable → Command → Type 0
+HasUnknownClass t (Ask asked) = LacksClass t (classes_asked asked) ⊎ LacksClasses t asked
+HasUnknownClass t command = LacksClass t (classes_in command)
+
+-- the lowest class that is stated is above the highest
+abbrev pub IsTurnedRound : Named → Type 0
+IsTurnedRound (Class a lowest highest) = highest < lowest
+IsTurnedRound _ = ⊥
+
+abbrev pub HasBadInterval : Command → Type 0
+HasBadInterval (State named) = IsTurnedRound named
+HasBadInterval (Replace n named) = IsTurnedRound named
+HasBadInterval _ = ⊥
 
 -- the statement of a withdrawal or a replacement doesn't stand
 abbrev pub StandsNot : Revisions → Command → Type 0
@@ -106,12 +151,12 @@ abbrev pub HasManyPairs : DecisionTable → Command → Type 0
 HasManyPairs t (Ask Relation) = MOST_RELATED < length t.alternatives
 HasManyPairs t _ = ⊥
 
--- No command so far names a class.
+-- what each test finds at fault, each test taken alone
 abbrev pub FailsLine : DecisionTable → Revisions → Command → LineFault → Type 0
 FailsLine t r command faults.UnknownAlternative = LacksAlternative t (alternatives_in command)
 FailsLine t r command faults.UnknownCriterion = LacksCriterion t (criterion_in command)
-FailsLine t r command faults.UnknownClass = ⊥
-FailsLine t r command faults.BadInterval = ⊥
+FailsLine t r command faults.UnknownClass = HasUnknownClass t command
+FailsLine t r command faults.BadInterval = HasBadInterval command
 FailsLine t r command faults.NoSuchStatement = StandsNot r command
 FailsLine t r command faults.NothingToUndo = HasNothingToUndo r command
 FailsLine t r command faults.TooManyStatements = HasNoPlace r command

@@ -1,5 +1,5 @@
--- The statement, or the questions, of a line's names: each has its place in the table, or the line is refused.
-use Rattle.std.specs.Prelude.{ℕ, List, [], ◌∷◌, length, Option, Some, None, Result, Ok, nat_lt}
+-- The statement, or the questions, of a line's names and classes: each has its place in the table, or the line is refused.
+use Rattle.std.specs.Prelude.{ℕ, ◌==◌, Bool, true, if◌then◌else◌, List, [], ◌∷◌, length, Option, Some, None, Result, Ok, nat_lt}
 use Rattle.ror_text.specs.Reading.{◌>>=◌, refuse, need}
 use Rattle.ror_table.specs.Table.{DecisionTable, alternative_named, criterion_named}
 use Rattle.ror_statement.specs.declared.comparison.Pair.{Pair}
@@ -11,12 +11,13 @@ use Rattle.ror_statement.specs.declared.question.Question.{Question}
 use Rattle.ror_statement.specs.declared.question.Question.TheVariants as questions
 use Rattle.ror_session.specs.declared.session.NamedPair.{NamedPair}
 use Rattle.ror_session.specs.declared.session.Named.{Named}
-use Rattle.ror_session.specs.declared.session.Named.TheVariants.{Prefer, AtLeast, Same, Stronger, AsStrong, EqualStrength}
+use Rattle.ror_session.specs.declared.session.Named.TheVariants.{Prefer, AtLeast, Same, Stronger, AsStrong, EqualStrength, Class}
 use Rattle.ror_session.specs.declared.session.Asked.{Asked}
-use Rattle.ror_session.specs.declared.session.Asked.TheVariants.{Consistent, Necessary, Possible, NecessaryStrength, PossibleStrength, Relation}
+use Rattle.ror_session.specs.declared.session.Asked.TheVariants.{Consistent, Necessary, Possible, NecessaryStrength, PossibleStrength, PossibleClass, NecessaryClass, Classes, Relation}
 use Rattle.ror_report.specs.declared.block.LineFault.{LineFault}
 use Rattle.ror_report.specs.declared.block.LineFault.TheVariants as faults
 use Rattle.ror_relation.specs.Pairs.{relation_questions}
+use Rattle.ror_classes.specs.Classes.{class_questions}
 use Rattle.ror_bench.specs.declared.names.TheConstants.{MOST_RELATED}
 use Rattle.ror_bench.specs.declared.names.Strengths.{Strengths}
 
@@ -44,6 +45,33 @@ strengths_of t p q on = do
   scope ← scope_of t on
   Ok (record { first = first; second = second; scope = scope })
 
+-- the class is none of the table's, which are numbered from 1
+abbrev pub is_no_class : DecisionTable → ℕ → Bool
+is_no_class t h = if h == 0 then true else nat_lt t.classes h
+
+-- an assignment: the alternative, then the classes, then that the lowest is not above the highest
+unfoldable pub assignment_of : DecisionTable → List ℕ → ℕ → ℕ → Result Statement LineFault
+assignment_of t name lowest highest = do
+  a ← alternative_of t name
+  _ ← refuse faults.UnknownClass (is_no_class t lowest)
+  _ ← refuse faults.UnknownClass (is_no_class t highest)
+  _ ← refuse faults.BadInterval (nat_lt highest lowest)
+  Ok (statements.Class a lowest highest)
+
+-- an alternative that may belong to a class: the alternative, then the class
+unfoldable pub member_of : DecisionTable → List ℕ → ℕ → Result ℕ LineFault
+member_of t name h = do
+  a ← alternative_of t name
+  _ ← refuse faults.UnknownClass (is_no_class t h)
+  Ok a
+
+-- an alternative that may belong to any class of the table, which has one
+unfoldable pub sorted_of : DecisionTable → List ℕ → Result ℕ LineFault
+sorted_of t name = do
+  a ← alternative_of t name
+  _ ← refuse faults.UnknownClass (t.classes == 0)
+  Ok a
+
 -- the statement by its names
 abbrev pub statement_of : DecisionTable → Named → Result Statement LineFault
 statement_of t (Prefer a b) = pair_of t a b >>= λ p. Ok (statements.Prefer p.first p.second)
@@ -55,6 +83,7 @@ statement_of t (AsStrong p q on) =
     strengths_of t p q on >>= λ x. Ok (statements.AsStrong x.first x.second x.scope)
 statement_of t (EqualStrength p q on) =
     strengths_of t p q on >>= λ x. Ok (statements.EqualStrength x.first x.second x.scope)
+statement_of t (Class name lowest highest) = assignment_of t name lowest highest
 
 -- the one question by its names, of a line that asks one
 abbrev pub one_question : Result Question LineFault → Result (List Question) LineFault
@@ -71,6 +100,12 @@ questions_of t (NecessaryStrength p q on) =
     one_question (strengths_of t p q on >>= λ x. Ok (questions.NecessaryStrength x.first x.second x.scope))
 questions_of t (PossibleStrength p q on) =
     one_question (strengths_of t p q on >>= λ x. Ok (questions.PossibleStrength x.first x.second x.scope))
+questions_of t (PossibleClass name h) =
+    one_question (member_of t name h >>= λ a. Ok (questions.PossibleClass a h))
+questions_of t (NecessaryClass name h) =
+    one_question (member_of t name h >>= λ a. Ok (questions.NecessaryClass a h))
+questions_of t (Classes name) =
+    sorted_of t name >>= λ a. Ok (class_questions a t.classes)
 questions_of t Relation =
     refuse faults.TooManyPairs (nat_lt MOST_RELATED (length t.alternatives))
     >>= λ _. Ok (relation_questions (length t.alternatives))

@@ -1,6 +1,6 @@
 //! Each function here states one law, for all benches, lines, blocks and reports, and does nothing.
 
-ghost use Rattle.ror_bench.specs.Laws.{ProvedBlocksAreTrue, ProvedReportsAreTrue, RejectedIsNotProved, ReplayedIsProved, OneCount, OneRejection};
+ghost use Rattle.ror_bench.specs.Laws.{ProvedBlocksAreTrue, ProvedReportsAreTrue, RejectedIsNotProved, ReplayedIsProved, OneCount, OneRejection, LimitsAre};
 ghost use Rattle.ror_bench.specs.Desks.{DesksStandApart, ProvedDeskByDesk, GivenDeskByDesk, DesksAgree, NarrowConcludes};
 
 /// The answers of a proved block are true of all value functions that are compatible with what stands at its desk.
@@ -42,4 +42,9 @@ pub fn one_count()
 /// Bytes that are rejected have one first fault.
 pub fn one_rejection()
     ensures { OneRejection }
+{}
+
+/// All pairs are asked of at most 100 alternatives, and a report has at most 268,435,456 bytes.
+pub fn limits()
+    ensures { LimitsAre }
 {}

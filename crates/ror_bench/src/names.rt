@@ -8,6 +8,7 @@ ghost use Rattle.ror_bench.specs.Names as names;
 ghost use Rattle.ror_bench.specs.Steps.{stopping_fault};
 
 use crate::stop::LineStop;
+use ror_classes::class_questions;
 use ror_relation::relation_questions;
 use ror_report::LineFault;
 use ror_session::{Asked, Named, NamedPair};
@@ -33,7 +34,8 @@ pub(crate) struct Strengths {
 /// # Errors
 ///
 /// `UnknownAlternative` where the table lacks an alternative that is named, else `UnknownCriterion` where it lacks the
-/// criterion.
+/// criterion, else `UnknownClass` where a class is none from 1 to the number of classes, else `BadInterval` where the lowest
+/// class is above the highest.
 pub fn statement_of(table: &Table, named: &Named) -> Result<Statement, LineFault>
     ensures exact { result ≡ names.statement_of table.now named.now }
     ensures valid { IfOk result (IsValidIn table.now) }
@@ -70,6 +72,7 @@ fn stated(table: &Table, named: &Named) -> Result<Statement, LineFault>
             let x = strengths_of(table, p, q, on)?;
             Ok(Statement::EqualStrength(x.first, x.second, x.scope))
         }
+        Named::Class(name, lowest, highest) => assignment_of(table, name, *lowest, *highest),
     }
 }
 
@@ -77,8 +80,8 @@ fn stated(table: &Table, named: &Named) -> Result<Statement, LineFault>
 ///
 /// # Errors
 ///
-/// As those of `statement_of`, and `TooManyPairs` where all pairs are asked of and the table has more than `MOST_RELATED`
-/// alternatives; or want of memory.
+/// As those of `statement_of`, `UnknownClass` also where each class is asked of and the table has none, and `TooManyPairs`
+/// where all pairs are asked of and the table has more than `MOST_RELATED` alternatives; or want of memory.
 pub(crate) fn questions_of(
     alloc: Global,
     table: &Table,
@@ -89,6 +92,7 @@ pub(crate) fn questions_of(
     ensures valid { IfOk result (λ v. AllByRecursion (IsAskedIn table.now) v.items) }
     ensures few { IfOk result (λ v. length v.items ≤ 20000) }
 {
+    prove!(table.alternatives() > 0);
     asked_questions(alloc, table, asked)
 }
 
@@ -119,6 +123,18 @@ fn asked_questions(alloc: Global, table: &Table, asked: &Asked) -> Result<Vec<Qu
                 alloc,
                 Question::PossibleStrength(x.first, x.second, x.scope),
             )
+        }
+        Asked::PossibleClass(name, class) => {
+            let alternative = member_of(table, name, *class)?;
+            one_question(alloc, Question::PossibleClass(alternative, *class))
+        }
+        Asked::NecessaryClass(name, class) => {
+            let alternative = member_of(table, name, *class)?;
+            one_question(alloc, Question::NecessaryClass(alternative, *class))
+        }
+        Asked::Classes(name) => {
+            let alternative = sorted_of(table, name)?;
+            Ok(class_questions(alloc, alternative, table.classes())?)
         }
         Asked::Relation => all_pairs(alloc, table),
     }
@@ -171,15 +187,19 @@ fn strengths_of(
 fn pair_of(table: &Table, a: &Text, b: &Text) -> Result<Pair, LineFault>
     ensures exact { result ≡ names.pair_of table.now a.now b.now }
 {
-    let first = need(
-        table.find_alternative(a.as_str()),
-        LineFault::UnknownAlternative,
-    )?;
-    let second = need(
-        table.find_alternative(b.as_str()),
-        LineFault::UnknownAlternative,
-    )?;
+    let first = alternative_of(table, a)?;
+    let second = alternative_of(table, b)?;
     Ok(Pair { first, second })
+}
+
+/// The alternative of this name.
+fn alternative_of(table: &Table, name: &Text) -> Result<usize, LineFault>
+    ensures exact { result ≡ names.alternative_of table.now name.now }
+{
+    need(
+        table.find_alternative(name.as_str()),
+        LineFault::UnknownAlternative,
+    )
 }
 
 /// All criteria, or the one of this name.
@@ -196,4 +216,48 @@ fn scope_of(table: &Table, on: &Option<Text>) -> Result<Scope, LineFault>
             Ok(Scope::One(criterion))
         }
     }
+}
+
+/// The assignment of the alternative of this name to classes.
+#[tactic(auto, unfolding(crate::specs::Names::assignment_of))]
+fn assignment_of(
+    table: &Table,
+    name: &Text,
+    lowest: u32,
+    highest: u32,
+) -> Result<Statement, LineFault>
+    ensures exact { result ≡ names.assignment_of table.now name.now lowest highest }
+{
+    let alternative = alternative_of(table, name)?;
+    refuse_if(is_no_class(table, lowest), LineFault::UnknownClass)?;
+    refuse_if(is_no_class(table, highest), LineFault::UnknownClass)?;
+    refuse_if(highest < lowest, LineFault::BadInterval)?;
+    Ok(Statement::Class(alternative, lowest, highest))
+}
+
+/// The alternative of this name, where the table has the class.
+#[tactic(auto, unfolding(crate::specs::Names::member_of))]
+fn member_of(table: &Table, name: &Text, class: u32) -> Result<usize, LineFault>
+    ensures exact { result ≡ names.member_of table.now name.now class }
+{
+    let alternative = alternative_of(table, name)?;
+    refuse_if(is_no_class(table, class), LineFault::UnknownClass)?;
+    Ok(alternative)
+}
+
+/// The alternative of this name, where the table has classes.
+#[tactic(auto, unfolding(crate::specs::Names::sorted_of))]
+fn sorted_of(table: &Table, name: &Text) -> Result<usize, LineFault>
+    ensures exact { result ≡ names.sorted_of table.now name.now }
+{
+    let alternative = alternative_of(table, name)?;
+    refuse_if(table.classes() == 0, LineFault::UnknownClass)?;
+    Ok(alternative)
+}
+
+/// Whether the table lacks the class.
+fn is_no_class(table: &Table, class: u32) -> bool
+    ensures { result ≡ names.is_no_class table.now class }
+{
+    class == 0 || table.classes() < class
 }

@@ -122,7 +122,8 @@ fn names_are_those_of_the_table(rt: HostRuntime) -> Result<(), Fail> {
     let table = read_plain(rt.alloc(), TABLE)
         .ok()
         .ok_or("the text is a table")?;
-    let session = read_session(rt.alloc(), b"prefer c b\nprefer a d\nequal a b b c on r\n")
+    let text = b"prefer c b\nprefer a d\nequal a b b c on r\nclass c 1 1\n";
+    let session = read_session(rt.alloc(), text)
         .ok()
         .ok_or("the text is a session")?;
     let mut stated = Vec::new(rt.alloc());
@@ -137,6 +138,7 @@ fn names_are_those_of_the_table(rt: HostRuntime) -> Result<(), Fail> {
                 Ok(Statement::Prefer(2, 1)),
                 Err(LineFault::UnknownAlternative),
                 Err(LineFault::UnknownCriterion),
+                Err(LineFault::UnknownClass),
             ]
             .as_slice()
     );
