@@ -22,7 +22,7 @@ use Rattle.ror_bench.specs.Blocks.{passed_of, IsBlockOf, with_block}
 use Rattle.ror_bench.specs.Reports.{accepted_of}
 use Rattle.ror_bench.proofs.MakingLemmas.{IsMade, made_nothing, made_more, text_more}
 use Rattle.ror_bench.specs.Replays.{AreBlocksAt, IsReplayedReport, some_lines, all_lines}
-use Rattle.ror_bench.proofs.ReportProofs.{as_many}
+use Rattle.ror_bench.proofs.ReportProofs.{as_many, sums}
 use Rattle.ror_bench.proofs.ReplayLemmas.{replayed_proved}
 use Rattle.ror_bench.proofs.DeskLemmas.{nothing_lawful}
 use Rattle.ror_bench.proofs.Truth.{report_true}
@@ -36,9 +36,6 @@ use Rattle.ror.specs.Replaying.{most, has_wide, AreFirstBlocks, IsBeginningOf, W
 
 some_of_either : (m n : ℕ) → nat_lt 0 (m + n) ≡ (nat_lt 0 m || nat_lt 0 n)
 some_of_either m n = grind arith
-
-sums : {X : Type 0} (f : X → ℕ) (x : X) (xs : List X) → sum_by f (x ∷ xs) ≡ f x + sum_by f xs
-sums f x xs = sum_by-append f (x ∷ []) xs ∙ ap (λ n. n + sum_by f xs) (zero-add (f x))
 
 one_wide : (x : Answer) → is_wide x.verdict ≡ nat_lt 0 (cond (beq (is_wide x.verdict) true) 1 0)
 one_wide x = by (is_wide x.verdict)

@@ -2,8 +2,8 @@
 use Rattle.std.specs.Prelude.{◌≡◌, ℕ, Bool, false, List, [], ◌∷◌, Option, Some, map, codes, if◌then◌else◌}
 use Rattle.std.specs.Str.{bytes_eq}
 use Rattle.std.specs.String.{string_bytes}
-use Rattle.ror.specs.declared.words.Command.{Command}
-use Rattle.ror.specs.declared.words.Command.TheVariants as commands
+use Rattle.ror.specs.declared.words.Task as words
+use Rattle.ror.specs.declared.words.Task.TheVariants as tasks
 use Rattle.ror.specs.declared.words.FileNames.{FileNames}
 use Rattle.ror.specs.declared.words.Names.{Names}
 use Rattle.ror.specs.Words.{InputNames, CheckNames, Task, Replay, Check, names_in}
@@ -15,9 +15,9 @@ inputs_of names = record { table = names.table.now; session = names.session.now 
 abbrev pub check_of : FileNames → List ℕ → CheckNames
 check_of names report = record { inputs = inputs_of names; report = report }
 
-abbrev pub task_with : Command → Task
-task_with (commands.Replay names) = Replay (inputs_of names)
-task_with (commands.Check names report) = Check (check_of names report.now)
+abbrev pub task_with : words.Task → Task
+task_with (tasks.Replay names) = Replay (inputs_of names)
+task_with (tasks.Check names report) = Check (check_of names report.now)
 
 -- the names that are left
 abbrev pub names_left : Names → Option (List (List ℕ))

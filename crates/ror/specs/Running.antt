@@ -183,7 +183,7 @@ Writes told before now (Some (Check names)) old new status =
 Writes told before now None old new status = new ≡ old
 
 -- What is written on standard error, where it is told: the text of the status, or a proper beginning of it where its
--- own count rose, which changes no status.
+-- own count rose. No other clause speaks of that count.
 abbrev pub Says : ℕ → ℕ → Option (List ℕ) → Option (List ℕ) → Status → Type 0
 Says before now old new status =
     ((now ≡ before) × Grew old new (status_text status))

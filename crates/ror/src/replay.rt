@@ -1,11 +1,9 @@
 //! The report of a session: its header, the block of each line, each written before the next line is taken, and its end.
 
-ghost use Rattle.std.specs.Prelude.{◌≡◌, ℕ, length, IsErr};
+ghost use Rattle.std.specs.Prelude.{◌≡◌, length};
 ghost use Rattle.std.specs.List.{AllByRecursion};
 ghost use Rattle.ror_session.specs.Sound.{IsSound};
-ghost use Rattle.ror_report.specs.Text.{answers_of};
 ghost use Rattle.ror_bench.specs.Bench.{LeavesNumbers};
-ghost use Rattle.ror_bench.specs.Blocks.{passed_of};
 ghost use Rattle.ror_bench.specs.Reports.{NamesADesk};
 ghost use Rattle.ror.specs.States.{sink_state};
 ghost use Rattle.ror.specs.Replaying.{WritesReport, MakesBlocks, has_wide};

@@ -8,7 +8,7 @@ ghost use Rattle.ror.specs.Running.{IsRun, Says};
 
 use crate::status::Status;
 use crate::texts::{write_accepted, write_status};
-use crate::words::{Command, command_in};
+use crate::words::{Task, task_in};
 use crate::work::{Stop, check_files, replay_files};
 use ror_bench::Accepted;
 use ror_io::{Shelf, Sink};
@@ -50,13 +50,13 @@ fn status_of<F: Shelf, O: Sink>(
         (sink_state (O.written out.old) (O.faults out.old))
         (sink_state (O.written out.new) (O.faults out.new)) result }
 {
-    match command_in(words) {
-        Some(Command::Replay(names)) => match replay_files(alloc, &names, shelf, out) {
+    match task_in(words) {
+        Some(Task::Replay(names)) => match replay_files(alloc, &names, shelf, out) {
             Ok(false) => Status::Done,
             Ok(true) => Status::DoneWide,
             Err(stop) => Status::from(stop),
         },
-        Some(Command::Check(names, report)) => {
+        Some(Task::Check(names, report)) => {
             let outcome = check_files(alloc, &names, report, shelf);
             conclude(outcome, out)
         }

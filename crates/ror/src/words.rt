@@ -15,7 +15,7 @@ pub struct FileNames<'a> {
 
 /// What the words ask for.
 #[derive(Debug, Drop)]
-pub enum Command<'a> {
+pub enum Task<'a> {
     /// The report of the session is written.
     Replay(FileNames<'a>),
     /// The report with this name is checked.
@@ -24,7 +24,7 @@ pub enum Command<'a> {
 
 /// `replay TABLE SESSION` or `check TABLE SESSION REPORT`, or `None` of all other words. After the command the first `--`
 /// is left out, and every word after it is a name; before it a word of two or more bytes that begins with `-` is none.
-pub fn command_in(words: &[String]) -> Option<Command<'_>>
+pub fn task_in(words: &[String]) -> Option<Task<'_>>
     ensures { option_map task_with result ≡ task_of (map string_bytes words.now) }
 {
     let (command, rest) = words.split_first()?;
@@ -39,7 +39,7 @@ pub fn command_in(words: &[String]) -> Option<Command<'_>>
         if !names.are_over() {
             return None;
         }
-        return Some(Command::Replay(files));
+        return Some(Task::Replay(files));
     }
     if command.as_str() != "check" {
         return None;
@@ -48,7 +48,7 @@ pub fn command_in(words: &[String]) -> Option<Command<'_>>
     if !names.are_over() {
         return None;
     }
-    Some(Command::Check(files, report))
+    Some(Task::Check(files, report))
 }
 
 /// The words after a command's that are left, and whether the first `--` was among those before them.

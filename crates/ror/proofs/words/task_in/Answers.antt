@@ -4,7 +4,7 @@ use Rattle.std.specs.String.{string_bytes}
 use Rattle.std.specs.Str.{bytes_eq}
 use Rattle.ror.specs.Words.{names_in}
 use Rattle.ror.proofs.WordLemmas.{no_words, after_command, no_task, one_name, two_names, two_of_none, three_names, four_names, more_names, other_command, no_check}
-use Rattle.ror.proofs.words.command_in.Goals as goal
+use Rattle.ror.proofs.words.task_in.Goals as goal
 
 pub returns-in_err-command : goal.returns-in_err-command
 returns-in_err-command c =
