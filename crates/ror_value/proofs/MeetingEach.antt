@@ -1,13 +1,13 @@
 -- What a function meets, list by list and place by place.
-use Rattle.std.proofs.Common.{◌≡◌, ◌↔◌, ℕ, ◌<◌, true, false, List, [], ◌∷◌, ◌++◌, Option, Some, None, ℤ, ◌<ℤ◌, refl, subst, sym, ap, inl, inr, option_to_list}
-use Rattle.std.specs.Prelude.{slice_get, nat_lt, if◌then◌else◌}
+use Rattle.std.proofs.Common.{◌≡◌, ◌<◌, true, false, List, Option, Some, None, ℤ, ◌<ℤ◌, refl, subst, option_to_list}
+use Rattle.std.specs.Prelude.{nat_lt}
 use Rattle.std.specs.List.{AllByRecursion, flat_map}
 use Rattle.std.proofs.lemmas.Bool.{lt-ltb, ltb-true}
 use Rattle.ror_text.proofs.Everywhere.{all-append, all-front, all-back, all-pieces, each-piece, all_at, all_by_places}
 use Rattle.ror_statement.specs.declared.comparison.Comparison.{Comparison}
 use Rattle.ror_statement.specs.declared.statement.Assignment.{Assignment}
 use Rattle.ror_statement.specs.declared.statement.Statement.{Statement}
-use Rattle.ror_statement.specs.Statements.{comparison_of, assignment_of, outranks, outranking_by, outranking, class_comparisons}
+use Rattle.ror_statement.specs.Statements.{comparison_of, assignment_of, outranking_by, outranking, class_comparisons}
 use Rattle.ror_table.specs.Table.{DecisionTable}
 use Rattle.ror_value.specs.Value.{value}
 use Rattle.ror_value.specs.Meaning.{Holds, Meets}

@@ -1,5 +1,5 @@
 -- The necessary and the possible preference relation over a list with which some function is compatible.
-use Rattle.std.proofs.Common.{List, ℤ, ◌≤ℤ◌, ◌⊎◌, inl, inr, arith}
+use Rattle.std.proofs.Common.{List, inl, inr, arith}
 use Rattle.std.proofs.lemmas.Int.{ints}
 use Rattle.ror_integers.proofs.Order.{le_cases, le_of_lt}
 use Rattle.ror_statement.specs.declared.statement.Statement.{Statement}

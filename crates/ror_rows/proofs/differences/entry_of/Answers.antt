@@ -1,4 +1,4 @@
-use Rattle.std.proofs.Common.{◌≡◌, ℤ, ◌-ℤ◌, ap₂}
+use Rattle.std.proofs.Common.{ℤ, ◌-ℤ◌, ap₂}
 use Rattle.std.specs.Int.{w128}
 use Rattle.std.proofs.lemmas.Int.{to_z-of_z}
 use Rattle.ror_rows.proofs.FormLemmas.{fits_small, fits_difference, fits_entry}

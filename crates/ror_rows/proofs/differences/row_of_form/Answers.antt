@@ -1,7 +1,6 @@
 use Rattle.std.proofs.Common.{◌≡◌, List, length, ℤ, IfOk, sym, subst, ap, ◌∙◌, arith}
 use Rattle.std.specs.List.{AllByRecursion, flat_map, range_with_len}
 use Rattle.ror_system.specs.System.{IsNarrow}
-use Rattle.ror_rows.specs.Rows.{form_row}
 use Rattle.ror_rows.proofs.FormLemmas.{form_block, form_row-blocks, form_row-narrow, blocks_more}
 use Rattle.ror_rows.proofs.differences.row_of_form.Goals as goal
 

@@ -1,4 +1,4 @@
-use Rattle.std.proofs.Common.{rules, IsTrue}
+use Rattle.std.proofs.Common.{rules}
 use Rattle.std.specs.List.{AllByRecursion, flat_map}
 use Rattle.ror_text.proofs.Everywhere.{pieces-more, pieces-fail}
 use Rattle.ror_statement.specs.Statements.{outranking, class_comparisons}
