@@ -1,8 +1,8 @@
 -- An alternative may belong to a class exactly where the conditions that the assignments make hold.
-use Rattle.std.proofs.Common.{◌≡◌, ◌↔◌, ℕ, ◌<◌, ◌≤◌, true, false, List, [], ◌∷◌, ◌++◌, Option, Some, None, option_to_list, length, take, get_or, map, ℤ, ◌+◌, ◌<ℤ◌, ◌≤ℤ◌, refl, subst, sym, ap, ap₂, ◌∙◌, arith, inl, inr, length-append}
-use Rattle.std.specs.Prelude.{Bool, max, min, nat_lt, int_le, if◌then◌else◌}
-use Rattle.std.specs.List.{AllByRecursion, filter, filter_map, flat_map, fold}
-use Rattle.std.proofs.lemmas.Bool.{lt-ltb, ltb-true, cases_lt}
+use Rattle.std.proofs.Common.{◌≡◌, ◌↔◌, ℕ, ◌<◌, ◌≤◌, true, false, List, [], ◌∷◌, ◌++◌, Option, Some, None, option_to_list, length, take, get_or, ℤ, ◌+◌, refl, sym, ap, ap₂, ◌∙◌, arith, length-append}
+use Rattle.std.specs.Prelude.{Bool, nat_lt}
+use Rattle.std.specs.List.{AllByRecursion, flat_map}
+use Rattle.std.proofs.lemmas.Bool.{ltb-true}
 use Rattle.std.proofs.lemmas.Int.{ints}
 use Rattle.std.proofs.lemmas.List.{take_more}
 use Rattle.std.proofs.lemmas.List.Elements.{filter_map-append}
@@ -12,62 +12,28 @@ use Rattle.ror_text.proofs.Everywhere.{all-append, all-front, all-back, all-by}
 use Rattle.ror_statement.specs.declared.statement.Assignment.{Assignment}
 use Rattle.ror_statement.specs.declared.statement.Statement.{Statement}
 use Rattle.ror_statement.specs.Statements.{assignment_of}
-use Rattle.ror_statement.specs.Names.{IsAssignmentWithin, IsAssignedWithin}
+use Rattle.ror_statement.specs.Names.{IsAssignmentWithin}
 use Rattle.ror_table.specs.Table.{DecisionTable}
 use Rattle.ror_value.specs.Over.{IsValidIn}
 use Rattle.ror_value.specs.Value.{value}
 use Rattle.ror_value.specs.Meaning.{Holds, assignments_of, worst_class, best_class}
+use Rattle.ror_value.specs.Laws.{IsHighEnough, IsLowEnough}
+use Rattle.ror_value.proofs.Classes.{assignments_within, in_class_of_each}
 use Rattle.ror_rows.specs.declared.extra.Extra.{Extra}
 use Rattle.ror_rows.specs.Rows.{comparison_of_extra, class_conditions}
 
--- the greatest of numbers is at most h exactly where each is; the least at least h
-fold-max : (h a : ℕ) (xs : List ℕ) → (fold max a xs ≤ h) ↔ ((a ≤ h) × AllByRecursion (λ x. x ≤ h) xs)
-fold-max h a [] = (λ le. (le, tt), λ both. both.0)
-fold-max h a (x ∷ xs) =
-    let rest = fold-max h (max a x) xs in
-    (λ le. let both = rest.0 le in let top = both.0 in (omega (arith, top), (omega (arith, top), both.1)), λ all. let first = all.0 in let second = all.1.0 in rest.1 (omega (arith, first, second), all.1.1))
-
-fold-min : (h a : ℕ) (xs : List ℕ) → (h ≤ fold min a xs) ↔ ((h ≤ a) × AllByRecursion (λ x. h ≤ x) xs)
-fold-min h a [] = (λ le. (le, tt), λ both. both.0)
-fold-min h a (x ∷ xs) =
-    let rest = fold-min h (min a x) xs in
-    (λ le. let both = rest.0 le in let low = both.0 in (omega (arith, low), (omega (arith, low), both.1)), λ all. let first = all.0 in let second = all.1.0 in rest.1 (omega (arith, first, second), all.1.1))
-
--- of the numbers of those that pass a test, each exactly where each passing one has it
-all-filtered : {X : Type 0} (P : ℕ → Type 0) (f : X → ℕ) (test : X → Bool) (xs : List X) → AllByRecursion P (map f (filter test xs)) ↔ AllByRecursion (λ x. test x ≡ true → P (f x)) xs
-all-filtered P f test [] = (λ all. tt, λ all. tt)
-all-filtered P f test (x ∷ xs) =
-    let rest = all-filtered P f test xs in
-    by_test (test x) refl rest
-  where
-    by_test : (b : Bool) → test x ≡ b → AllByRecursion P (map f (filter test xs)) ↔ AllByRecursion (λ x. test x ≡ true → P (f x)) xs → AllByRecursion P (map f (filter test (x ∷ xs))) ↔ AllByRecursion (λ x. test x ≡ true → P (f x)) (x ∷ xs)
-    by_test true is rest = rw is (λ all. (λ passes. all.0, rest.0 all.1), λ all. (all.0 refl, rest.1 all.1))
-    by_test false is rest = rw is (λ all. (λ passes. absurd cc, rest.0 all), λ all. rest.1 all.1)
-
-le_is : (x y : ℤ) → int_le x y ≡ true → x ≤ℤ y
-le_is x y is = grind (arith, ints)
-
-is_le : (x y : ℤ) → x ≤ℤ y → int_le x y ≡ true
-is_le x y le = grind (arith, ints)
-
 -- what one assignment asks of an alternative that may belong to class h
 abbrev pub Lets : DecisionTable → List ℤ → ℕ → ℕ → Assignment → Type 0
-Lets t w a h x = (int_le (value t w x.alternative) (value t w a) ≡ true → x.lowest ≤ h) × (int_le (value t w a) (value t w x.alternative) ≡ true → h ≤ x.highest)
+Lets t w a h x = IsHighEnough t w a h x × IsLowEnough t w a h x
 
 one_lets : (t : DecisionTable) (w : List ℤ) (a h : ℕ) (x : Assignment) → x.lowest ≤ x.highest → Lets t w a h x ↔ AllByRecursion (λ e. Holds t w (comparison_of_extra e)) (class_conditions a h x)
 one_lets t w a h x some = by_low (nat_lt h x.lowest) refl
   where
-    mine : ℤ
-    mine = value t w a
-
-    other : ℤ
-    other = value t w x.alternative
-
     by_high : (b : Bool) → nat_lt x.highest h ≡ b → nat_lt h x.lowest ≡ false → Lets t w a h x ↔ AllByRecursion (λ e. Holds t w (comparison_of_extra e)) (class_conditions a h x)
     by_high true is low =
         let past = ltb-true x.highest h is in
         let at_least : x.lowest ≤ h = omega (arith, past, some) in
-        rw (low, is) (λ lets. (le_cases (value t w a) (value t w x.alternative) (λ le. absurd (let within = lets.1 (is_le (value t w a) (value t w x.alternative) le) in omega (arith, within, past))) (λ lt. lt), tt), λ all. (λ le. at_least, λ le. absurd (let up = le_is (value t w a) (value t w x.alternative) le in let down = all.0 in omega (arith, ints, up, down))))
+        rw (low, is) (λ lets. (le_cases (value t w a) (value t w x.alternative) (λ le. absurd (let within = lets.1 le in omega (arith, within, past))) (λ lt. lt), tt), λ all. (λ le. at_least, λ le. absurd (let down = all.0 in omega (arith, ints, le, down))))
     by_high false is low =
         let at_least : x.lowest ≤ h = grind (arith, low) in
         let at_most : h ≤ x.highest = grind (arith, is) in
@@ -77,14 +43,8 @@ one_lets t w a h x some = by_low (nat_lt h x.lowest) refl
     by_low true is =
         let under = ltb-true h x.lowest is in
         let at_most : h ≤ x.highest = omega (arith, under, some) in
-        rw is (λ lets. (le_cases (value t w x.alternative) (value t w a) (λ le. absurd (let within = lets.0 (is_le (value t w x.alternative) (value t w a) le) in omega (arith, within, under))) (λ lt. lt), tt), λ all. (λ le. absurd (let up = le_is (value t w x.alternative) (value t w a) le in let down = all.0 in omega (arith, ints, up, down)), λ le. at_most))
+        rw is (λ lets. (le_cases (value t w x.alternative) (value t w a) (λ le. absurd (let within = lets.0 le in omega (arith, within, under))) (λ lt. lt), tt), λ all. (λ le. absurd (let down = all.0 in omega (arith, ints, le, down)), λ le. at_most))
     by_low false is = by_high (nat_lt x.highest h) refl is
-
-all-both : {X : Type 0} (P Q : X → Type 0) (xs : List X) → (AllByRecursion P xs × AllByRecursion Q xs) ↔ AllByRecursion (λ x. P x × Q x) xs
-all-both P Q [] = (λ both. tt, λ all. (tt, tt))
-all-both P Q (x ∷ xs) =
-    let rest = all-both P Q xs in
-    (λ both. ((both.0.0, both.1.0), rest.0 (both.0.1, both.1.1)), λ all. ((all.0.0, (rest.1 all.1).0), (all.0.1, (rest.1 all.1).1)))
 
 all_let : (t : DecisionTable) (w : List ℤ) (a h : ℕ) (xs : List Assignment) → AllByRecursion (λ x. x.lowest ≤ x.highest) xs → AllByRecursion (Lets t w a h) xs ↔ AllByRecursion (λ e. Holds t w (comparison_of_extra e)) (flat_map (class_conditions a h) xs)
 all_let t w a h [] some = (λ all. tt, λ all. tt)
@@ -94,33 +54,14 @@ all_let t w a h (x ∷ xs) some =
     let P : Extra → Type 0 = λ e. Holds t w (comparison_of_extra e) in
     (λ all. all-append P (class_conditions a h x) (flat_map (class_conditions a h) xs) (here.0 all.0) (rest.0 all.1), λ all. (here.1 (all-front P (class_conditions a h x) (flat_map (class_conditions a h) xs) all), rest.1 (all-back P (class_conditions a h x) (flat_map (class_conditions a h) xs) all)))
 
--- assignments of valid statements are to some class, of alternatives of the table
-some_classes_of : (t : DecisionTable) (m : Option Assignment) → IsAssignedWithin (length t.alternatives) t.classes m → (x : Assignment) → m ≡ Some x → IsAssignmentWithin (length t.alternatives) t.classes x
-some_classes_of t None within x is = absurd cc
-some_classes_of t (Some y) within x is = let same : y ≡ x = cc in subst (IsAssignmentWithin (length t.alternatives) t.classes) same within
-
-pub assignments_within : (t : DecisionTable) (list : List Statement) → AllByRecursion (IsValidIn t) list → AllByRecursion (IsAssignmentWithin (length t.alternatives) t.classes) (assignments_of list)
-assignments_within t [] valid = tt
-assignments_within t (s ∷ ss) valid = by_assignment (assignment_of s) refl valid.0.assigned (assignments_within t ss valid.1)
-  where
-    by_assignment : (m : Option Assignment) → assignment_of s ≡ m → IsAssignedWithin (length t.alternatives) t.classes (assignment_of s) → AllByRecursion (IsAssignmentWithin (length t.alternatives) t.classes) (assignments_of ss) → AllByRecursion (IsAssignmentWithin (length t.alternatives) t.classes) (assignments_of (s ∷ ss))
-    by_assignment None is within rest = rw is rest
-    by_assignment (Some x) is within rest = rw is (some_classes_of t (assignment_of s) within x is, rest)
-
 -- the function lets the alternative belong to the class exactly where it has each condition
 pub in_class : (t : DecisionTable) (list : List Statement) (w : List ℤ) (a h : ℕ) → AllByRecursion (IsValidIn t) list → 1 ≤ h → h ≤ t.classes
     → ((worst_class t list w a ≤ h) × (h ≤ best_class t list w a)) ↔ AllByRecursion (λ e. Holds t w (comparison_of_extra e)) (flat_map (class_conditions a h) (assignments_of list))
 in_class t list w a h valid first last =
     let xs = assignments_of list in
-    let below : Assignment → Bool = λ x. int_le (value t w x.alternative) (value t w a) in
-    let above : Assignment → Bool = λ x. int_le (value t w a) (value t w x.alternative) in
-    let low = fold-max h 1 (map (λ (x : Assignment). x.lowest) (filter below xs)) in
-    let high = fold-min h t.classes (map (λ (x : Assignment). x.highest) (filter above xs)) in
-    let lows = all-filtered (λ n. n ≤ h) (λ (x : Assignment). x.lowest) below xs in
-    let highs = all-filtered (λ n. h ≤ n) (λ (x : Assignment). x.highest) above xs in
-    let both = all-both (λ x. below x ≡ true → x.lowest ≤ h) (λ x. above x ≡ true → h ≤ x.highest) xs in
+    let each = in_class_of_each t list w a h first last in
     let lets = all_let t w a h xs (all-by (IsAssignmentWithin (length t.alternatives) t.classes) (λ x. x.lowest ≤ x.highest) xs (λ x is. is.some_class) (assignments_within t list valid)) in
-    (λ between. lets.0 (both.0 (lows.0 (low.0 between.0).1, highs.0 (high.0 between.1).1)), λ all. (low.1 (first, lows.1 (both.1 (lets.1 all)).0), high.1 (last, highs.1 (both.1 (lets.1 all)).1)))
+    (λ between. lets.0 (each.0 between), λ all. each.1 (lets.1 all))
 
 -- one more statement
 pub conditions_more : (g : Assignment → List Extra) (list : List Statement) (i : ℕ) (d : Statement) → i < length list → flat_map g (assignments_of (take (i + 1) list)) ≡ flat_map g (assignments_of (take i list)) ++ flat_map g (option_to_list (assignment_of (get_or list i d)))

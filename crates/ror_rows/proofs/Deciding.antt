@@ -1,14 +1,12 @@
 -- Consistency and answers by which systems have solutions.
 use Rattle.std.proofs.Common.{◌≡◌, ◌↔◌, ◌⊎◌, ℕ, ◌≤◌, List, [], ◌∷◌, length, map, ℤ, true, false, refl, subst, sym, arith, inl, inr}
 use Rattle.std.specs.Prelude.{Bool, ◌<◌, nat_lt}
-use Rattle.std.specs.List.{AllByRecursion, flat_map}
+use Rattle.std.specs.List.{AllByRecursion}
 use Rattle.ror_integers.proofs.Ring.{sums}
 use Rattle.ror_integers.proofs.Order.{le_cases}
-use Rattle.ror_text.proofs.Everywhere.{all-map, all-by, all-pieces, all-append}
+use Rattle.ror_text.proofs.Everywhere.{all-map, all-by, all-pieces}
 use Rattle.ror_statement.specs.declared.comparison.Form.{Form}
-use Rattle.ror_statement.specs.declared.comparison.Form.TheVariants.{Value, Strength}
 use Rattle.ror_statement.specs.declared.statement.Statement.{Statement}
-use Rattle.ror_statement.specs.declared.question.QuestionKind.{QuestionKind}
 use Rattle.ror_statement.specs.declared.question.QuestionKind.TheVariants.{Plain, Any, Every}
 use Rattle.ror_statement.specs.declared.question.Property.{Property}
 use Rattle.ror_statement.specs.declared.question.Property.TheVariants as property
@@ -21,11 +19,12 @@ use Rattle.ror_table.specs.Table.{DecisionTable}
 use Rattle.ror_system.specs.System.{Solves, IsSolvable}
 use Rattle.ror_value.specs.Over.{IsNamedIn, IsLawfulIn, IsAskedIn}
 use Rattle.ror_value.specs.Meaning.{first_quantity, second_quantity, Holds, IsCompatible, IsConsistent, IsContradictory, Has, HoldsOfCompatible, Answers, assignments_of}
+use Rattle.ror_value.proofs.Classes.{assignments_within}
 use Rattle.ror_rows.specs.declared.extra.Extra.{Extra}
-use Rattle.ror_rows.specs.Rows.{turned, system_for, comparison_of_extra, negation_of, class_conditions, conditions_of, systems_by, systems_of_question}
+use Rattle.ror_rows.specs.Rows.{system_for, comparison_of_extra, negation_of, class_conditions, conditions_of, systems_by}
 use Rattle.ror_rows.specs.Laws.{NoneSolvable, OneSolvable}
 use Rattle.ror_rows.proofs.Building.{turned-named}
-use Rattle.ror_rows.proofs.ClassConditions.{assignments_within, class_conditions_number, in_class}
+use Rattle.ror_rows.proofs.ClassConditions.{class_conditions_number, in_class}
 use Rattle.ror_rows.proofs.Holding.{first-turned, second-turned, rows_hold_extra, rows_hold_base}
 
 -- ---- a condition and its negation

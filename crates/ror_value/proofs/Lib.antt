@@ -3,3 +3,5 @@ pub mod Values
 pub mod Walks
 pub mod MeetingEach
 pub mod Relations
+pub mod Ends
+pub mod Classes

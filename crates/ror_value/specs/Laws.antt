@@ -1,19 +1,21 @@
--- The laws of value functions, of meeting a list, of conclusions, and of necessary and possible preference.
+-- The laws of value functions, of meeting a list, of conclusions, of necessary and possible preference, and of classes.
 use Rattle.std.specs.Prelude.{◌≡◌, ◌↔◌, ◌⊎◌, ℕ, ◌<◌, ◌≤◌, List, length, map, slice_get, Some, ℤ, pos, ◌≤ℤ◌, ◌<ℤ◌}
-use Rattle.std.specs.List.{range_with_len}
+use Rattle.std.specs.List.{AllByRecursion, range_with_len}
 use Rattle.ror_integers.specs.Vectors.{dot, total}
 use Rattle.ror_statement.specs.declared.statement.Statement.{Statement}
 use Rattle.ror_statement.specs.declared.statement.Assignment.{Assignment}
 use Rattle.ror_statement.specs.declared.comparison.Comparison.{Comparison}
 use Rattle.ror_statement.specs.declared.question.QuestionKind.TheVariants.{Any, Every}
+use Rattle.ror_statement.specs.declared.question.Property.TheVariants.{InClass}
 use Rattle.ror_statement.specs.declared.question.Question.{Question}
 use Rattle.ror_statement.specs.declared.question.Question.TheVariants.{Necessary, Possible}
 use Rattle.ror_statement.specs.declared.question.Conclusion.{Conclusion}
 use Rattle.ror_statement.specs.Statements.{comparison_of, assignment_of}
 use Rattle.ror_statement.specs.Questions.{property_of}
 use Rattle.ror_table.specs.Table.{DecisionTable, steps}
+use Rattle.ror_value.specs.Over.{IsValidIn}
 use Rattle.ror_value.specs.Value.{IsValueFunction, steps_on, marginal, value, block}
-use Rattle.ror_value.specs.Meaning.{Holds, Meets, IsConsistent, HoldsOfCompatible, Answers}
+use Rattle.ror_value.specs.Meaning.{Holds, Meets, worst_class, best_class, Has, IsConsistent, HoldsOfCompatible, Answers}
 
 -- marginal values start at 0 and never fall, those at the best levels sum to the total, and so each value lies
 -- between 0 and the total
@@ -74,3 +76,51 @@ pub record Relations (t : DecisionTable) (list : List Statement) : Type 0 where
 abbrev pub RelationsOfConsistent : Type 0
 RelationsOfConsistent = (t : DecisionTable) (list : List Statement)
     → IsConsistent t list → Relations t list
+
+-- ---- classes
+
+-- it holds of the assignment of each statement that makes one
+abbrev pub OfEachAssignment : List Statement → (Assignment → Type 0) → Type 0
+OfEachAssignment list P = (k : ℕ) (s : Statement) (x : Assignment) → slice_get list k ≡ Some s
+    → assignment_of s ≡ Some x → P x
+
+-- where the assigned alternative is worth at most as much as a, its lowest class is at most h
+abbrev pub IsHighEnough : DecisionTable → List ℤ → ℕ → ℕ → Assignment → Type 0
+IsHighEnough t w a h x = value t w x.alternative ≤ℤ value t w a → x.lowest ≤ h
+
+-- where the assigned alternative is worth at least as much as a, its highest class is at least h
+abbrev pub IsLowEnough : DecisionTable → List ℤ → ℕ → ℕ → Assignment → Type 0
+IsLowEnough t w a h x = value t w a ≤ℤ value t w x.alternative → h ≤ x.highest
+
+-- The worst class of an alternative is at most h exactly where h is at least 1 and high enough beside each assignment; the
+-- best class is at least h exactly where h is at most the number of classes and low enough beside each. So of the table's
+-- classes the alternative may belong to those that are both.
+pub record ClassByEachAssignment : Type 0 where
+  pub worst : (t : DecisionTable) (list : List Statement) (w : List ℤ) (a h : ℕ)
+      → (worst_class t list w a ≤ h) ↔ ((1 ≤ h) × OfEachAssignment list (IsHighEnough t w a h))
+  pub best : (t : DecisionTable) (list : List Statement) (w : List ℤ) (a h : ℕ)
+      → (h ≤ best_class t list w a)
+      ↔ ((h ≤ t.classes) × OfEachAssignment list (IsLowEnough t w a h))
+  pub in_class : (t : DecisionTable) (list : List Statement) (w : List ℤ) (a h : ℕ)
+      → 1 ≤ h → h ≤ t.classes → Has t list w (InClass a h)
+      ↔ OfEachAssignment list (λ x. IsHighEnough t w a h x × IsLowEnough t w a h x)
+
+-- The interval of classes that a function leaves an alternative: it doesn't pass the table's classes; over valid statements
+-- of a table with classes its ends are classes, and it isn't empty where the function meets the list. That of an assigned
+-- alternative lies within the assignment, and of two alternatives the one that is worth at least as much has no lower end.
+pub record ClassIntervals : Type 0 where
+  pub within_classes : (t : DecisionTable) (list : List Statement) (w : List ℤ) (a : ℕ)
+      → (1 ≤ worst_class t list w a) × (best_class t list w a ≤ t.classes)
+  pub ends_are_classes : (t : DecisionTable) (list : List Statement) (w : List ℤ) (a : ℕ)
+      → 1 ≤ t.classes → AllByRecursion (IsValidIn t) list
+      → (worst_class t list w a ≤ t.classes) × (1 ≤ best_class t list w a)
+  pub not_empty : (t : DecisionTable) (list : List Statement) (w : List ℤ) (a : ℕ)
+      → 1 ≤ t.classes → AllByRecursion (IsValidIn t) list → Meets t w list
+      → worst_class t list w a ≤ best_class t list w a
+  pub within_assigned : (t : DecisionTable) (list : List Statement) (w : List ℤ)
+      → OfEachAssignment list (λ x. (x.lowest ≤ worst_class t list w x.alternative)
+      × (best_class t list w x.alternative ≤ x.highest))
+  pub monotone : (t : DecisionTable) (list : List Statement) (w : List ℤ) (a b : ℕ)
+      → value t w a ≤ℤ value t w b
+      → (worst_class t list w a ≤ worst_class t list w b)
+      × (best_class t list w a ≤ best_class t list w b)

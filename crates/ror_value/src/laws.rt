@@ -1,6 +1,6 @@
 //! Each function here states one law, for all tables and lists, and does nothing.
 
-ghost use Rattle.ror_value.specs.Laws.{MarginalIsDot, MeetingIsOfEach, NormalisedAndMonotone, OneConclusion, RelationsOfConsistent};
+ghost use Rattle.ror_value.specs.Laws.{ClassByEachAssignment, ClassIntervals, MarginalIsDot, MeetingIsOfEach, NormalisedAndMonotone, OneConclusion, RelationsOfConsistent};
 
 /// A value function has marginal values that start at 0 and never fall from one level to the next better one; those
 /// at the best levels sum to its total, so the value of each alternative lies between 0 and the total.
@@ -30,4 +30,18 @@ pub fn meeting_is_of_each()
 /// alternatives the one is necessarily preferred to the other where the other isn't possibly preferred to it (UTA-GMS).
 pub fn relations()
     ensures { RelationsOfConsistent }
+{}
+
+/// A function leaves an alternative the classes of the table that no assignment is against: none is that says of an
+/// alternative of at most this value that it is in better classes alone, or of one of at least this value that it is in
+/// worse classes alone. Each half bounds one end of the interval (UTADIS-GMS).
+pub fn class_by_each_assignment()
+    ensures { ClassByEachAssignment }
+{}
+
+/// The interval of classes that a function leaves an alternative lies within the classes of the table. Over valid class
+/// statements it is never empty where the function meets them. That of an assigned alternative lies within its assignment,
+/// and an alternative that is worth at least as much as another has neither end lower than the other's.
+pub fn class_intervals()
+    ensures { ClassIntervals }
 {}
