@@ -7,12 +7,12 @@ use Rattle.ror_statement.specs.declared.comparison.Comparison.{Comparison}
 use Rattle.ror_statement.specs.declared.question.QuestionKind.TheVariants.{Plain, Any, Every}
 use Rattle.ror_statement.specs.declared.question.Question.{Question}
 use Rattle.ror_statement.specs.declared.question.Conclusion.TheVariants.{Yes}
-use Rattle.ror_statement.specs.Questions.{kind_of}
+use Rattle.ror_statement.specs.Questions.{kind_of, property_of}
 use Rattle.ror_table.specs.Table.{DecisionTable, rank, steps, column, columns}
 use Rattle.ror_system.specs.System.{Solves, IsSolvable}
 use Rattle.ror_value.specs.Over.{IsNamedIn, IsLawfulIn, IsAskedIn}
-use Rattle.ror_value.specs.Meaning.{Holds, IsCompatible, IsConsistent, Answers}
-use Rattle.ror_rows.specs.Rows.{value_row, system_for, systems_of_question}
+use Rattle.ror_value.specs.Meaning.{Holds, Has, IsCompatible, IsConsistent, Answers}
+use Rattle.ror_rows.specs.Rows.{value_row, system_for, comparison_of_extra, conditions_of, systems_of_question}
 
 -- the comparisons name what the table has
 abbrev pub AreNamed : DecisionTable → List Comparison → Type 0
@@ -26,6 +26,13 @@ pub record RowsHold : Type 0 where
       (w : List ℤ) → IsLawfulIn t list → AreNamed t extra
       → (IsCompatible t list w × AllByRecursion (Holds t w) extra)
       ↔ Solves (system_for t list extra) w
+
+-- A function has what a question asks of it exactly where each condition holds of it: so a class lies in the interval that it
+-- leaves an alternative exactly where the rows that the class statements give for this class hold of it.
+abbrev pub ConditionsHold : Type 0
+ConditionsHold = (t : DecisionTable) (list : List Statement) (w : List ℤ) (q : Question)
+    → IsLawfulIn t list → IsAskedIn t q → Has t list w (property_of q)
+    ↔ AllByRecursion (λ e. Holds t w (comparison_of_extra e)) (conditions_of list (property_of q))
 
 -- no system of the question has a solution
 abbrev pub NoneSolvable : DecisionTable → List Statement → Question → Type 0
