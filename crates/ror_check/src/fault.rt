@@ -4,7 +4,7 @@ ghost use Rattle.std.specs.Prelude.{◌≡◌};
 ghost use Rattle.ror_check.specs.declared.fault.CheckFault.TheVariants.{Memory};
 
 use ror_system::Reject;
-use std::alloc::AllocError;
+use std::alloc::{AllocError, AllocFailed};
 use thiserror::Error;
 
 /// Why an answer is not accepted: the first test that fails, in this order.
@@ -57,5 +57,44 @@ impl From<AllocError> for AnswersFault {
 
     fn from(_error: AllocError) -> AnswersFault {
         AnswersFault::Memory
+    }
+}
+
+/// Why a repair is not accepted: the first test that fails, in this order.
+#[derive(Debug, Drop, Error)]
+pub enum RepairCheckFault {
+    /// The dropped statements are not standing ones, each once, in increasing order of number.
+    #[error("the dropped statements are not standing ones in increasing order")]
+    WrongList,
+    /// The base is multipliers, though a statement is kept.
+    #[error("the base is multipliers, though a statement is kept")]
+    WrongKind,
+    /// The multipliers of the dropped statement with this number are the first that are not accepted.
+    #[error("the multipliers of statement {0} are not accepted: {1:?}")]
+    Dropped(u32, Reject),
+    /// The base is not accepted.
+    #[error("the base is not accepted: {0:?}")]
+    Base(Reject),
+    #[error("out of memory")]
+    Memory,
+}
+
+impl From<AllocError> for RepairCheckFault {
+    ghost use Rattle.ror_check.specs.declared.fault.RepairCheckFault.TheVariants as repairs;
+
+    ghost from_gives = { λ _ e. e ≡ repairs.Memory };
+
+    fn from(_error: AllocError) -> RepairCheckFault {
+        RepairCheckFault::Memory
+    }
+}
+
+impl<T: Drop> From<AllocFailed<T>> for RepairCheckFault {
+    ghost use Rattle.ror_check.specs.declared.fault.RepairCheckFault.TheVariants as repairs;
+
+    ghost from_gives = { λ _ e. e ≡ repairs.Memory };
+
+    fn from(_error: AllocFailed<T>) -> RepairCheckFault {
+        RepairCheckFault::Memory
     }
 }

@@ -23,15 +23,22 @@
 //! weighed by 1 each, it and the row of the statement sum to 0 in each column, so no compatible
 //! function is against the answer. With the base 0 0 0 1 the answer is refused: the base's row 1
 //! comes to -1.
+//!
+//! `check_repair` takes the numbered statements that stand, and which of them a repair drops, with multipliers for each that
+//! refute it together with those kept before it and a base of all that is kept. What is accepted is proved
+//! (`IsProvedRepair`), and what is proved is the repair (`laws::proved_repairs_are_true`). Where 1 `a` over `b`,
+//! 2 `b` over `a` and 3 `b` at least `c` stand, 2 is dropped by the multipliers `| 0 1 1`, with the base 0 1 0 0.
 
 mod base;
 mod check;
 mod fault;
 pub mod laws;
+mod repair;
 mod side;
 
 pub use check::{check_answer, check_answers};
-pub use fault::{AnswersFault, CheckFault};
+pub use fault::{AnswersFault, CheckFault, RepairCheckFault};
+pub use repair::check_repair;
 
 #[cfg(test)]
 mod tests;

@@ -1,16 +1,21 @@
 //! Tests of the crate's public calls.
 
-ghost use Rattle.std.specs.Prelude.{IsTrue};
+ghost use Rattle.std.specs.Prelude.{IsTrue, ◌≡◌, IfOk};
 ghost use Rattle.std.specs.List.{AllByRecursion};
+ghost use Rattle.std.specs.List.Sorted.{IsStrictlyIncreasing};
 ghost use Rattle.ror_value.specs.Over.{IsValidIn, IsLawfulIn, IsAskedIn};
+ghost use Rattle.ror_check.specs.Repair.{numbers_in, statements_in};
 
 use super::*;
-use ror_proof::{Answer, read_answer};
+use ror_proof::{Answer, Certificate, Dropped, Kept, read_answer};
 use ror_statement::{
-    MOST_ROWS, MOST_STATEMENTS, Pair, Question, Scope, Statement, row_count, valid, valid_question,
+    MOST_ROWS, MOST_STATEMENTS, Numbered, Pair, Question, Scope, Statement, row_count, valid,
+    valid_question,
 };
+use ror_system::{Multipliers, Solution};
 use ror_table::{Table, read_plain};
-use std::alloc::Global;
+use ror_text::Items;
+use std::alloc::{AllocError, Global};
 use std::test::*;
 
 const TABLE: &[u8] =
@@ -336,6 +341,194 @@ fn each_answer_is_checked_over_one_base(rt: HostRuntime) -> Result<(), Fail> {
     ];
     for (texts, expected) in cases {
         let found = said_of_all(rt.alloc(), &table, A_OVER_B, texts)?;
+        assert_eq!(rt; found.as_str(), expected);
+    }
+    Ok(())
+}
+
+fn statements(alloc: Global, standing: &[Numbered]) -> Result<Vec<Statement>, AllocError>
+    ensures { IfOk result (λ list. list.items ≡ statements_in standing.now) }
+{
+    let mut list = Vec::new(alloc);
+    for numbered in standing {
+        list.push(numbered.statement)?;
+    }
+    Ok(list)
+}
+
+fn are_rising(standing: &[Numbered]) -> bool
+    ensures { IsTrue result → IsStrictlyIncreasing (numbers_in standing.now) }
+{
+    for place in 1..standing.len() {
+        if standing[place - 1].number >= standing[place].number {
+            return false;
+        }
+    }
+    true
+}
+
+fn whole_numbers(alloc: Global, numbers: &[i128]) -> Result<Items<i128>, AllocError> {
+    let mut list = Vec::new(alloc);
+    for number in numbers {
+        list.push(*number)?;
+    }
+    Ok(list.into())
+}
+
+/// The multipliers of weak rows and of strict ones.
+type Weights = (&'static [i128], &'static [i128]);
+
+fn multipliers(alloc: Global, weights: Weights) -> Result<Multipliers, AllocError> {
+    let weak = whole_numbers(alloc, weights.0)?;
+    let strict = whole_numbers(alloc, weights.1)?;
+    Ok(Multipliers { weak, strict })
+}
+
+/// A base: the steps of a solution, or multipliers.
+#[derive(Clone, Copy)]
+enum Given {
+    Steps(&'static [i128]),
+    Weights(Weights),
+}
+
+fn certificate(alloc: Global, given: Given) -> Result<Certificate, AllocError> {
+    match given {
+        Given::Steps(steps) => Ok(Certificate::Solution(Solution {
+            steps: whole_numbers(alloc, steps)?,
+        })),
+        Given::Weights(weights) => Ok(Certificate::Multipliers(multipliers(alloc, weights)?)),
+    }
+}
+
+/// What a check of a repair that drops these statements, with this base, says: the fault, or nothing.
+fn said_of_repair(
+    alloc: Global,
+    table: &Table,
+    standing: &[Numbered],
+    drops: &[(u32, Weights)],
+    base: Given,
+) -> Result<String, Fail> {
+    let mut dropped = Vec::new(alloc);
+    for (number, weights) in drops {
+        let proof = multipliers(alloc, *weights)?;
+        dropped.push(Dropped {
+            number: *number,
+            proof,
+        })?;
+    }
+    let kept = Kept {
+        dropped: dropped.into(),
+        base: certificate(alloc, base)?,
+    };
+    let list = statements(alloc, standing)?;
+    if !is_lawful(table, list.as_slice()) || !are_rising(standing) {
+        return Err(Fail::new("the list is lawful and the numbers rise"));
+    }
+    match check_repair(alloc, table, standing, &kept) {
+        Ok(()) => Ok(String::new(alloc)),
+        Err(fault) => Ok(format!(in alloc; "{fault}")?),
+    }
+}
+
+/// a over b and b over a, which contradict each other, and that b is worth at least c.
+const STANDING: &[Numbered] = &[
+    Numbered {
+        number: 1,
+        statement: Statement::Prefer(0, 1),
+    },
+    Numbered {
+        number: 2,
+        statement: Statement::Prefer(1, 0),
+    },
+    Numbered {
+        number: 4,
+        statement: Statement::AtLeast(1, 2),
+    },
+];
+
+const REFUTED: (u32, Weights) = (2, (&[], &[0, 1, 1]));
+
+const NOT_STANDING: &str = "the dropped statements are not standing ones in increasing order";
+
+/// The statement of a over b has the row (0, 1, 0, -1), that of b over a its negative, and that of b and c (1, 0, 1, 1).
+#[test]
+fn a_repair_is_accepted_with_its_proof_alone(rt: HostRuntime) -> Result<(), Fail> {
+    let table = read_plain(rt.alloc(), TABLE)?;
+    let cases: [(&[(u32, Weights)], Given, &str); 9] = [
+        (&[REFUTED], Given::Steps(&[0, 1, 0, 0]), ""),
+        // a number that does not stand, one twice, and two in falling order
+        (
+            &[(3, (&[], &[0, 1, 1]))],
+            Given::Steps(&[0, 1, 0, 0]),
+            NOT_STANDING,
+        ),
+        (
+            &[REFUTED, REFUTED],
+            Given::Steps(&[0, 1, 0, 0]),
+            NOT_STANDING,
+        ),
+        (
+            &[(4, (&[0], &[0, 0])), REFUTED],
+            Given::Steps(&[0, 1, 0, 0]),
+            NOT_STANDING,
+        ),
+        // before any multipliers are tested
+        (
+            &[(2, (&[], &[0, 1, 0]))],
+            Given::Weights((&[0], &[0, 0])),
+            "the base is multipliers, though a statement is kept",
+        ),
+        // multipliers that refute nothing, and those for a list with the statement after it
+        (
+            &[(2, (&[], &[0, 1, 0]))],
+            Given::Steps(&[0, 0, 0, 1]),
+            "the multipliers of statement 2 are not accepted: Column(1)",
+        ),
+        (
+            &[(2, (&[0], &[0, 1, 1]))],
+            Given::Steps(&[0, 1, 0, 0]),
+            "the multipliers of statement 2 are not accepted: Length",
+        ),
+        (
+            &[REFUTED],
+            Given::Steps(&[0, 0, 0, 1]),
+            "the base is not accepted: Row(2)",
+        ),
+        // the list is contradictory
+        (
+            &[],
+            Given::Steps(&[0, 1, 0, 0]),
+            "the base is not accepted: Row(3)",
+        ),
+    ];
+    for (drops, base, expected) in cases {
+        let found = said_of_repair(rt.alloc(), &table, STANDING, drops, base)?;
+        assert_eq!(rt; found.as_str(), expected, "{drops:?}");
+    }
+    Ok(())
+}
+
+/// A table with one alternative has no column, so no value function has a positive total, and each statement is dropped.
+#[test]
+fn where_nothing_is_kept_the_base_may_be_multipliers(rt: HostRuntime) -> Result<(), Fail> {
+    let table = read_plain(
+        rt.alloc(),
+        b"ror-table 1\ncriterion q max\nalternative a 3\n",
+    )?;
+    let standing = [Numbered {
+        number: 7,
+        statement: Statement::AtLeast(0, 0),
+    }];
+    let cases: [(Given, &str); 2] = [
+        (Given::Weights((&[], &[1])), ""),
+        (
+            Given::Weights((&[], &[0])),
+            "the base is not accepted: NoStrict",
+        ),
+    ];
+    for (base, expected) in cases {
+        let drops: [(u32, Weights); 1] = [(7, (&[0], &[1]))];
+        let found = said_of_repair(rt.alloc(), &table, &standing, &drops, base)?;
         assert_eq!(rt; found.as_str(), expected);
     }
     Ok(())

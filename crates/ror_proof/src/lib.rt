@@ -2,6 +2,7 @@
 #![tactic(auto)]
 
 mod answer;
+mod kept;
 pub mod laws;
 pub mod names;
 mod print;
@@ -10,6 +11,7 @@ mod read;
 pub mod words;
 
 pub use answer::{Answer, Certificate, Part, Pivot, PlaceText, Proof, Verdict, WideText};
+pub use kept::{Dropped, Kept};
 pub use print::{print_answer, write_answer};
 pub use read::{ProofFault, read_answer};
 

@@ -5,3 +5,4 @@ pub mod MeetingEach
 pub mod Relations
 pub mod Ends
 pub mod Classes
+pub mod FewerStatements
