@@ -51,7 +51,7 @@ use Rattle.ror_proof.proofs.LineWords.{certificate_are_words, certificate_again,
 -- ---- a line
 
 -- a line of these words is read as its words are
-ended_again : {A : Type 0} (read : ℕ → List (List ℕ) → Result A ProofFault) (place : ℕ) (word : List ℕ) (words : List (List ℕ)) (rest : List ℕ) (x : A) → are_words (word ∷ words) ≡ true → read place (word ∷ words) ≡ Ok x
+pub ended_again : {A : Type 0} (read : ℕ → List (List ℕ) → Result A ProofFault) (place : ℕ) (word : List ℕ) (words : List (List ℕ)) (rest : List ℕ) (x : A) → are_words (word ∷ words) ≡ true → read place (word ∷ words) ≡ Ok x
     → ended (record { place = place; rest = line_text (word ∷ words) ++ rest }) (read place (line_words (record { place = place; rest = line_text (word ∷ words) ++ rest }))) ≡ Ok (x, record { place = place + length (line_text (word ∷ words)); rest = rest })
 unfolding ended
 ended_again read place word words rest x are one =
@@ -59,11 +59,11 @@ ended_again read place word words rest x are one =
     rw (line.0, one, line.1) refl
 
 -- what is read of a line was read of its words
-record WasRead {A : Type 0} (c : Cursor) (reading : Result A ProofFault) (x : A × Cursor) : Type 0 where
-  words : reading ≡ Ok x.0
-  line : line_after c ≡ Some x.1
+pub record WasRead {A : Type 0} (c : Cursor) (reading : Result A ProofFault) (x : A × Cursor) : Type 0 where
+  pub words : reading ≡ Ok x.0
+  pub line : line_after c ≡ Some x.1
 
-ended_sound : {A : Type 0} (c : Cursor) (reading : Result A ProofFault) (x : A × Cursor) → ended c reading ≡ Ok x → WasRead c reading x
+pub ended_sound : {A : Type 0} (c : Cursor) (reading : Result A ProofFault) (x : A × Cursor) → ended c reading ≡ Ok x → WasRead c reading x
 unfolding ended
 ended_sound c reading x e =
     let a = bind_ok reading (λ value. need (BadLine c.place) (line_after c) >>= λ next. done (value, next)) x e in
@@ -158,7 +158,7 @@ base_words_again : (place : ℕ) (b : Certificate) → IsNarrowCertificate b →
 unfolding base_words
 base_words_again place b narrow = rw (after_word_again place (codes "base") (certificate_words b)) (certificate_again place b narrow)
 
-base_again : (place : ℕ) (b : Certificate) (rest : List ℕ) → IsNarrowCertificate b → base_line (record { place = place; rest = base_text b ++ rest }) ≡ Ok (b, record { place = place + length (base_text b); rest = rest })
+pub base_again : (place : ℕ) (b : Certificate) (rest : List ℕ) → IsNarrowCertificate b → base_line (record { place = place; rest = base_text b ++ rest }) ≡ Ok (b, record { place = place + length (base_text b); rest = rest })
 base_again place b rest narrow =
     ended_again base_words place (codes "base") (certificate_words b) rest b (certificate_are_words b narrow) (base_words_again place b narrow)
 
@@ -169,7 +169,7 @@ base_words_sound place words b e =
     let certificate = certificate_sound place a.0 b a.2 in
     (after_word_sound place (codes "base") words a.0 a.1 ∙ ap (λ (ws : List (List ℕ)). codes "base" ∷ ws) certificate.0, certificate.1)
 
-base_sound : (c : Cursor) (x : Certificate × Cursor) → base_line c ≡ Ok x → Spans c (base_text x.0) x.1 × IsNarrowCertificate x.0
+pub base_sound : (c : Cursor) (x : Certificate × Cursor) → base_line c ≡ Ok x → Spans c (base_text x.0) x.1 × IsNarrowCertificate x.0
 base_sound c x e =
     let read = ended_sound c (base_words c.place (line_words c)) x e in
     let words = base_words_sound c.place (line_words c) x.0 read.words in

@@ -126,11 +126,11 @@ one_after t expected c a b p q = same a b (sym p.ended ∙ q.ended)
     same a b e = cc
 
 -- a reader of a line, whose fault is that of the line
-record ReadsLine {A : Type 0} (t : DecisionTable) (expected : List (List ℕ) → List Expected) (c : Cursor) (reading : Result (A × Cursor) ProofFault) : Type 0 where
-  err : (f : ProofFault) → reading ≡ Err f → IsFaultOfLine t expected c f
-  ok : (x : A × Cursor) → reading ≡ Ok x → IsLine t expected c x.1
+pub record ReadsLine {A : Type 0} (t : DecisionTable) (expected : List (List ℕ) → List Expected) (c : Cursor) (reading : Result (A × Cursor) ProofFault) : Type 0 where
+  pub err : (f : ProofFault) → reading ≡ Err f → IsFaultOfLine t expected c f
+  pub ok : (x : A × Cursor) → reading ≡ Ok x → IsLine t expected c x.1
 
-reads_line : {A : Type 0} (t : DecisionTable) (expected : List (List ℕ) → List Expected) (c : Cursor) (reading : Result A ProofFault) → Ends t c.place reading (expected (line_words c)) (line_words c) → ReadsLine t expected c (ended c reading)
+pub reads_line : {A : Type 0} (t : DecisionTable) (expected : List (List ℕ) → List Expected) (c : Cursor) (reading : Result A ProofFault) → Ends t c.place reading (expected (line_words c)) (line_words c) → ReadsLine t expected c (ended c reading)
 unfolding ended
 reads_line t expected c reading ends = record {
   err = λ f e. elim (bind_err reading (λ value. need (BadLine c.place) (line_after c) >>= λ next. done (value, next)) f e) [
@@ -147,18 +147,18 @@ reads_line t expected c reading ends = record {
       record { words = ends.stands a.0 a.1; ended = need_ok (BadLine c.place) (line_after c) b.0 b.1 ∙ ap (λ y. Some y.1) (ok_is (a.0, b.0) x b.2) };
 }
 
-line_fails : {A : Type 0} (t : DecisionTable) (expected : List (List ℕ) → List Expected) (c : Cursor) (reading : Result (A × Cursor) ProofFault) (f : ProofFault) → ReadsLine t expected c reading → IsFaultOfLine t expected c f → reading ≡ Err f
+pub line_fails : {A : Type 0} (t : DecisionTable) (expected : List (List ℕ) → List Expected) (c : Cursor) (reading : Result (A × Cursor) ProofFault) (f : ProofFault) → ReadsLine t expected c reading → IsFaultOfLine t expected c f → reading ≡ Err f
 line_fails t expected c (Ok x) f reads fault = absurd (line_not_faulty t expected c x.1 f (reads.ok x refl) fault)
 line_fails t expected c (Err g) f reads fault = ap Err (two_line_faults t expected c g f (reads.err g refl) fault)
 
-line_goes : {A : Type 0} (t : DecisionTable) (expected : List (List ℕ) → List Expected) (c after : Cursor) (reading : Result (A × Cursor) ProofFault) → ReadsLine t expected c reading → IsLine t expected c after → (x : A) × (reading ≡ Ok (x, after))
+pub line_goes : {A : Type 0} (t : DecisionTable) (expected : List (List ℕ) → List Expected) (c after : Cursor) (reading : Result (A × Cursor) ProofFault) → ReadsLine t expected c reading → IsLine t expected c after → (x : A) × (reading ≡ Ok (x, after))
 line_goes t expected c after (Ok x) reads line = (x.0, ap (λ (n : Cursor). Ok (x.0, n)) (one_after t expected c x.1 after (reads.ok x refl) line))
 line_goes t expected c after (Err g) reads line = absurd (line_not_faulty t expected c after g line (reads.err g refl))
 
 answer_reads : (t : DecisionTable) (c : Cursor) → ReadsLine t expected_answer c (answer_line t c)
 answer_reads t c = reads_line t expected_answer c (answer_words t c.place (line_words c)) (answer_ends t c.place (line_words c))
 
-base_reads : (t : DecisionTable) (c : Cursor) → ReadsLine t expected_base c (base_line c)
+pub base_reads : (t : DecisionTable) (c : Cursor) → ReadsLine t expected_base c (base_line c)
 base_reads t c = reads_line t expected_base c (base_words c.place (line_words c)) (base_ends t c.place (line_words c))
 
 part_reads : (t : DecisionTable) (c : Cursor) → ReadsLine t expected_part c (part_line c)

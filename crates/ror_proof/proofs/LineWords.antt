@@ -12,6 +12,7 @@ use Rattle.ror_text.specs.SpacedLines.{is_word, are_words}
 use Rattle.ror_text.proofs.NumberLemmas.{is_word-decimal, is_word-signed_decimal}
 use Rattle.ror_text.proofs.ReadingLemmas.{bind_ok}
 use Rattle.ror_system.specs.System.{IsNarrow}
+use Rattle.ror_system.specs.declared.accept.Multipliers.{Multipliers}
 use Rattle.ror_proof.specs.declared.answer.Certificate.{Certificate}
 use Rattle.ror_proof.specs.declared.answer.Certificate.TheVariants as certificates
 use Rattle.ror_proof.specs.declared.answer.Pivot.{Pivot}
@@ -22,9 +23,9 @@ use Rattle.ror_proof.specs.declared.names.PlaceName.{PlaceName}
 use Rattle.ror_proof.specs.declared.names.PlaceName.TheVariants as named
 use Rattle.ror_proof.specs.declared.read.ProofFault.{ProofFault}
 use Rattle.ror_proof.specs.Names.{place_word, place_names}
-use Rattle.ror_proof.specs.Text.{multipliers_words, certificate_words, place_words, place_numbers, pivot_word, IsNarrowCertificate, IsPrintablePivot}
+use Rattle.ror_proof.specs.Text.{multipliers_words, certificate_words, place_words, place_numbers, pivot_word, AreNarrow, IsNarrowCertificate, IsPrintablePivot}
 use Rattle.ror_proof.specs.Words.{after_word, name_at, small_number_at, numbers_at, numbers_before_bar, pivots_at, pivot_in}
-use Rattle.ror_proof.specs.Reading.{solution_at, multipliers_at, certificate_at, entry_at, numbered_at, place_at, note_at}
+use Rattle.ror_proof.specs.Reading.{solution_at, multipliers_at, refutation_at, certificate_at, entry_at, numbered_at, place_at, note_at}
 use Rattle.ror_proof.proofs.WordLemmas.{done, ok_is, after_word_again, after_word_sound, name_again, name_sound, small_number_again, small_number_sound, all_again, all_sound, numbers_again, numbers_sound, before_bar_again, before_bar_sound}
 use Rattle.ror_proof.proofs.PivotLemmas.{pivot_again, pivot_sound, pivot_is_word}
 
@@ -34,15 +35,25 @@ numbers_are_words : (zs : List ℤ) → AllByRecursion IsNarrow zs → are_words
 numbers_are_words [] narrow = refl
 numbers_are_words (z ∷ zs) narrow = and_from _ _ (is_word-signed_decimal z (omega (arith, narrow.0))) (numbers_are_words zs narrow.1)
 
-pub certificate_are_words : (c : Certificate) → IsNarrowCertificate c → are_words (certificate_words c) ≡ true
-certificate_are_words (certificates.Solution x) narrow = numbers_are_words x.steps narrow
-certificate_are_words (certificates.Multipliers m) narrow =
+pub multipliers_are_words : (m : Multipliers) → AreNarrow m → are_words (multipliers_words m.weak m.strict) ≡ true
+multipliers_are_words m narrow =
     list_all-append is_word (map signed_decimal m.weak) (codes "|" ∷ map signed_decimal m.strict) ∙ and_from _ _ (numbers_are_words m.weak narrow.0) (numbers_are_words m.strict narrow.1)
 
+pub certificate_are_words : (c : Certificate) → IsNarrowCertificate c → are_words (certificate_words c) ≡ true
+certificate_are_words (certificates.Solution x) narrow = numbers_are_words x.steps narrow
+certificate_are_words (certificates.Multipliers m) narrow = multipliers_are_words m narrow
+
+multipliers_again : (place : ℕ) (m : Multipliers) → AreNarrow m → multipliers_at place (map signed_decimal m.weak ++ codes "|" ∷ map signed_decimal m.strict) ≡ Ok m
+unfolding multipliers_at
+multipliers_again place m narrow = rw (before_bar_again place m.weak (map signed_decimal m.strict) narrow.0, numbers_again place m.strict narrow.1) refl
+
 pub certificate_again : (place : ℕ) (c : Certificate) → IsNarrowCertificate c → certificate_at place (certificate_words c) ≡ Ok c
-unfolding certificate_at solution_at multipliers_at
+unfolding certificate_at solution_at
 certificate_again place (certificates.Solution x) narrow = rw (numbers_again place x.steps narrow) refl
-certificate_again place (certificates.Multipliers m) narrow = rw (before_bar_again place m.weak (map signed_decimal m.strict) narrow.0, numbers_again place m.strict narrow.1) refl
+certificate_again place (certificates.Multipliers m) narrow = rw (multipliers_again place m narrow) refl
+
+abbrev pub multipliers_read : List ℤ → List ℤ → Result Multipliers ProofFault
+multipliers_read weak strict = Ok (record { weak = weak; strict = strict })
 
 solution_sound : (place : ℕ) (words : List (List ℕ)) (c : Certificate) → solution_at place words ≡ Ok c → (codes "solution" ∷ words ≡ certificate_words c) × IsNarrowCertificate c
 unfolding solution_at
@@ -51,15 +62,26 @@ solution_sound place words c e =
     let numbers = numbers_sound place words a.0 a.1 in
     subst (λ (d : Certificate). (codes "solution" ∷ words ≡ certificate_words d) × IsNarrowCertificate d) (ok_is (certificates.Solution (record { steps = a.0 })) c a.2) (ap (λ (ws : List (List ℕ)). codes "solution" ∷ ws) numbers.0, numbers.1)
 
-multipliers_sound : (place : ℕ) (words : List (List ℕ)) (c : Certificate) → multipliers_at place words ≡ Ok c → (codes "multipliers" ∷ words ≡ certificate_words c) × IsNarrowCertificate c
+multipliers_sound : (place : ℕ) (words : List (List ℕ)) (m : Multipliers) → multipliers_at place words ≡ Ok m → (codes "multipliers" ∷ words ≡ multipliers_words m.weak m.strict) × AreNarrow m
 unfolding multipliers_at
-multipliers_sound place words c e =
-    let a = bind_ok (numbers_before_bar place words) (λ weak. numbers_at place weak.1 >>= λ strict. Ok (certificates.Multipliers (record { weak = weak.0; strict = strict }))) c e in
-    let b = bind_ok (numbers_at place a.0.1) (λ strict. Ok (certificates.Multipliers (record { weak = a.0.0; strict = strict }))) c a.2 in
+multipliers_sound place words m e =
+    let a = bind_ok (numbers_before_bar place words) (λ weak. numbers_at place weak.1 >>= λ strict. multipliers_read weak.0 strict) m e in
+    let b = bind_ok (numbers_at place a.0.1) (λ strict. multipliers_read a.0.0 strict) m a.2 in
     let weak = before_bar_sound place words a.0 a.1 in
     let strict = numbers_sound place a.0.1 b.0 b.1 in
     let both : codes "multipliers" ∷ words ≡ multipliers_words a.0.0 b.0 = ap (λ (ws : List (List ℕ)). codes "multipliers" ∷ ws) (weak.0 ∙ ap (λ (ws : List (List ℕ)). map signed_decimal a.0.0 ++ codes "|" ∷ ws) strict.0) in
-    subst (λ (d : Certificate). (codes "multipliers" ∷ words ≡ certificate_words d) × IsNarrowCertificate d) (ok_is (certificates.Multipliers (record { weak = a.0.0; strict = b.0 })) c b.2) (both, (weak.1, strict.1))
+    subst (λ (n : Multipliers). (codes "multipliers" ∷ words ≡ multipliers_words n.weak n.strict) × AreNarrow n) (ok_is (record { weak = a.0.0; strict = b.0 }) m b.2) (both, (weak.1, strict.1))
+
+pub refutation_again : (place : ℕ) (m : Multipliers) → AreNarrow m → refutation_at place (multipliers_words m.weak m.strict) ≡ Ok m
+unfolding refutation_at
+refutation_again place m narrow = rw (after_word_again place (codes "multipliers") (map signed_decimal m.weak ++ codes "|" ∷ map signed_decimal m.strict)) (multipliers_again place m narrow)
+
+pub refutation_sound : (place : ℕ) (words : List (List ℕ)) (m : Multipliers) → refutation_at place words ≡ Ok m → (words ≡ multipliers_words m.weak m.strict) × AreNarrow m
+unfolding refutation_at
+refutation_sound place words m e =
+    let a = bind_ok (after_word place (codes "multipliers") words) (λ numbers. multipliers_at place numbers) m e in
+    let sound = multipliers_sound place a.0 m a.2 in
+    (after_word_sound place (codes "multipliers") words a.0 a.1 ∙ sound.0, sound.1)
 
 pub certificate_sound : (place : ℕ) (words : List (List ℕ)) (c : Certificate) → certificate_at place words ≡ Ok c → (words ≡ certificate_words c) × IsNarrowCertificate c
 unfolding certificate_at
@@ -74,8 +96,10 @@ certificate_sound place (form ∷ words) c e =
           elim (cases_Bool (bytes_eq form (codes "multipliers"))) [
             | inl multipliers ↦
                 let is : form ≡ codes "multipliers" = (bytes_eq-Decides form (codes "multipliers")).0 multipliers in
-                let s = multipliers_sound place words c (sym (cond-true _ _ _ multipliers) ∙ f) in
-                (ap (λ (w : List ℕ). w ∷ words) is ∙ s.0, s.1)
+                let a = bind_ok (multipliers_at place words) (λ m. done (certificates.Multipliers m)) c (sym (cond-true _ _ _ multipliers) ∙ f) in
+                let s = multipliers_sound place words a.0 a.1 in
+                let made : (form ∷ words ≡ certificate_words (certificates.Multipliers a.0)) × AreNarrow a.0 = (ap (λ (w : List ℕ). w ∷ words) is ∙ s.0, s.1) in
+                subst (λ (d : Certificate). (form ∷ words ≡ certificate_words d) × IsNarrowCertificate d) (ok_is (certificates.Multipliers a.0) c a.2) made
             | inr neither ↦ absurd (let none = sym (cond-false _ _ _ neither) ∙ f in cc)
           ]
     ]

@@ -1,10 +1,10 @@
 -- Text that is printed piece by piece.
-use Rattle.std.proofs.Common.{◌≡◌, ℕ, suc, ◌+◌, ◌<◌, ◌≤◌, List, [], ◌∷◌, ◌++◌, append_assoc, drop, length, get_or, Result, Ok, Err, sym, ap, ◌∙◌, arith, drop-cons}
+use Rattle.std.proofs.Common.{◌≡◌, ℕ, suc, Bool, true, false, cond, ◌+◌, ◌<◌, ◌≤◌, List, [], ◌∷◌, ◌++◌, append_assoc, drop, length, get_or, Result, Ok, Err, sym, ap, ◌∙◌, arith, drop-cons}
 use Rattle.std.specs.Prelude.{OnOk}
 use Rattle.std.proofs.lemmas.Grind.{flat_map-append}
 use Rattle.std.proofs.lemmas.List.{append-nil, drop_all}
 use Rattle.ror_text.specs.SpacedLines.{join_words, line_text}
-use Rattle.ror_proof.specs.Printing.{spaced}
+use Rattle.ror_proof.specs.Printing.{spaced, StandsInFront}
 
 -- ---- one after the other: what is left is printed after what was printed
 
@@ -44,3 +44,20 @@ line_made start begun text word ws e f =
 pub on_ok : {A E P Q : Type 0} (r : Result A E) → OnOk r P → (P → Q) → OnOk r Q
 on_ok (Ok x) h f = f h
 on_ok (Err e) h f = h
+
+-- ---- what was there stays in front
+
+pub front_same : (before now : List ℕ) → now ≡ before → StandsInFront before now
+front_same before now e = record { added = []; is = e ∙ sym (append-nil before) }
+
+pub front_added : (before now bytes : List ℕ) → now ≡ before ++ bytes → StandsInFront before now
+front_added before now bytes e = record { added = bytes; is = e }
+
+pub front_tried : (done : Bool) (before now bytes : List ℕ) → now ≡ cond done (before ++ bytes) before → StandsInFront before now
+front_tried true before now bytes e = front_added before now bytes e
+front_tried false before now bytes e = front_same before now e
+
+pub front_then : (a b c : List ℕ) → StandsInFront a b → StandsInFront b c → StandsInFront a c
+front_then a b c ab bc = record { added = ab.added ++ bc.added; is = bc.is ∙ ap (λ l. l ++ bc.added) ab.is ∙ append_assoc a ab.added bc.added }
+
+pub ruleset in_front = (front_same, front_added, front_tried, front_then)

@@ -1,4 +1,4 @@
--- The text of an answer is UTF-8.
+-- The texts of answers and of repairs are UTF-8.
 use Rattle.std.proofs.Common.{◌≡◌, ℕ, suc, true, ltb, ◌<◌, ◌^◌, List, [], ◌∷◌, ◌++◌, length, map, refl, arith, ℤ, pos, negsuc}
 use Rattle.std.specs.Prelude.{codes}
 use Rattle.std.specs.Fmt.{decimal, signed_decimal}
@@ -21,6 +21,7 @@ use Rattle.ror_statement.specs.declared.question.Property.TheVariants.{Compatibl
 use Rattle.ror_statement.specs.Names.{NamesWithin, PairWithin, ScopeWithin}
 use Rattle.ror_statement.specs.Questions.{property_of}
 use Rattle.ror_system.specs.System.{IsNarrow}
+use Rattle.ror_system.specs.declared.accept.Multipliers.{Multipliers}
 use Rattle.ror_table.specs.Table.{DecisionTable, IsTable, id_of, criterion_id_of}
 use Rattle.ror_table.proofs.NameLemmas.{id_of_is_id, criterion_id_of_is_id}
 use Rattle.ror_proof.specs.declared.answer.Answer.{Answer}
@@ -32,6 +33,8 @@ use Rattle.ror_proof.specs.declared.answer.Proof.{Proof}
 use Rattle.ror_proof.specs.declared.answer.Verdict.{Verdict}
 use Rattle.ror_proof.specs.declared.answer.Verdict.TheVariants as verdicts
 use Rattle.ror_proof.specs.declared.answer.WideText.{WideText}
+use Rattle.ror_proof.specs.declared.kept.Dropped.{Dropped}
+use Rattle.ror_proof.specs.declared.kept.Kept.{Kept}
 use Rattle.ror_proof.specs.declared.names.QuestionName.{QuestionName}
 use Rattle.ror_proof.specs.declared.names.QuestionName.TheVariants as asked
 use Rattle.ror_proof.specs.declared.names.VerdictName.{VerdictName}
@@ -39,7 +42,7 @@ use Rattle.ror_proof.specs.declared.names.VerdictName.TheVariants as said
 use Rattle.ror_proof.specs.declared.names.PlaceName.{PlaceName}
 use Rattle.ror_proof.specs.declared.names.PlaceName.TheVariants as named
 use Rattle.ror_proof.specs.Names.{question_name, question_word, verdict_name, verdict_word, place_name, place_word}
-use Rattle.ror_proof.specs.Text.{pair_words, scope_words, form_words, property_words, question_words, certificate_words, place_numbers, place_words, pivot_word, head_text, base_text, part_text, proof_text, wide_text, verdict_text, answer_text, HasWords, IsNarrowCertificate, IsPrintablePart, IsPrintableProof, IsPrintablePivot, IsPrintableNote, IsPrintableVerdict, IsPrintable}
+use Rattle.ror_proof.specs.Text.{pair_words, scope_words, form_words, property_words, question_words, multipliers_words, certificate_words, place_numbers, place_words, pivot_word, head_text, base_text, part_text, proof_text, wide_text, verdict_text, answer_text, repaired_text, dropped_text, kept_text, HasWords, AreNarrow, IsNarrowCertificate, IsPrintablePart, IsPrintableProof, IsPrintablePivot, IsPrintableNote, IsPrintableVerdict, IsPrintable, IsPrintableDropped, IsPrintableKept}
 
 are_below : (bs : List ℕ) → list_all (λ b. ltb b 128) bs ≡ true → AllByRecursion (λ b. b < 128) bs
 are_below [] h = tt
@@ -75,10 +78,13 @@ numbers_are_texts : (zs : List ℤ) → AllByRecursion IsNarrow zs → AreTexts 
 numbers_are_texts [] narrow = tt
 numbers_are_texts (z ∷ zs) narrow = (signed_is_utf8 z narrow.0, numbers_are_texts zs narrow.1)
 
+multipliers_are_texts : (m : Multipliers) → AreNarrow m → AreTexts (multipliers_words m.weak m.strict)
+multipliers_are_texts m narrow =
+    (ascii_is_utf8 (codes "multipliers") refl, texts_append (map signed_decimal m.weak) (codes "|" ∷ map signed_decimal m.strict) (numbers_are_texts m.weak narrow.0) (ascii_is_utf8 (codes "|") refl, numbers_are_texts m.strict narrow.1))
+
 certificate_are_texts : (c : Certificate) → IsNarrowCertificate c → AreTexts (certificate_words c)
 certificate_are_texts (certificates.Solution x) narrow = (ascii_is_utf8 (codes "solution") refl, numbers_are_texts x.steps narrow)
-certificate_are_texts (certificates.Multipliers m) narrow =
-    (ascii_is_utf8 (codes "multipliers") refl, texts_append (map signed_decimal m.weak) (codes "|" ∷ map signed_decimal m.strict) (numbers_are_texts m.weak narrow.0) (ascii_is_utf8 (codes "|") refl, numbers_are_texts m.strict narrow.1))
+certificate_are_texts (certificates.Multipliers m) narrow = multipliers_are_texts m narrow
 
 -- ---- questions
 
@@ -124,9 +130,12 @@ parts_are_utf8 : (ps : List Part) → AllByRecursion IsPrintablePart ps → IsUt
 parts_are_utf8 [] printable = IsUtf8-nil
 parts_are_utf8 (p ∷ ps) printable = IsUtf8-append (part_text p) (flat_map part_text ps) (part_is_utf8 p printable.0) (parts_are_utf8 ps printable.1)
 
+base_is_utf8 : (c : Certificate) → IsNarrowCertificate c → IsUtf8 (base_text c)
+base_is_utf8 c narrow = line_text_is_utf8 (codes "base" ∷ certificate_words c) (ascii_is_utf8 (codes "base") refl, certificate_are_texts c narrow)
+
 proof_is_utf8 : (p : Proof) → IsPrintableProof p → IsUtf8 (proof_text p)
 proof_is_utf8 p printable =
-    IsUtf8-append (base_text p.base) (flat_map part_text p.parts) (line_text_is_utf8 (codes "base" ∷ certificate_words p.base) (ascii_is_utf8 (codes "base") refl, certificate_are_texts p.base printable.base)) (parts_are_utf8 p.parts printable.parts)
+    IsUtf8-append (base_text p.base) (flat_map part_text p.parts) (base_is_utf8 p.base printable.base) (parts_are_utf8 p.parts printable.parts)
 
 -- ---- numbers too wide
 
@@ -169,3 +178,21 @@ answer_text_is_utf8 t x table printable =
     let asked : AreTexts (question_words t q) = (question_word_is_text (question_name q), property_are_texts t (property_of q) table printable.named) in
     let head = line_text_is_utf8 (codes "answer" ∷ words) (ascii_is_utf8 (codes "answer") refl, texts_append (question_words t q) (verdict_word name ∷ []) asked (verdict_is_text name, tt)) in
     IsUtf8-append (head_text t q name) (verdict_text x.verdict) head (verdict_text_is_utf8 x.verdict printable.concluded)
+
+-- ---- repairs
+
+dropped_is_utf8 : (d : Dropped) → IsPrintableDropped d → IsUtf8 (dropped_text d)
+dropped_is_utf8 d printable =
+    line_text_is_utf8 (codes "dropped" ∷ decimal d.number ∷ multipliers_words d.proof.weak d.proof.strict) (ascii_is_utf8 (codes "dropped") refl, (decimal_is_utf8 d.number (omega (arith, printable.number)), multipliers_are_texts d.proof printable.narrow))
+
+dropped_are_utf8 : (ds : List Dropped) → AllByRecursion IsPrintableDropped ds → IsUtf8 (flat_map dropped_text ds)
+dropped_are_utf8 [] printable = IsUtf8-nil
+dropped_are_utf8 (d ∷ ds) printable = IsUtf8-append (dropped_text d) (flat_map dropped_text ds) (dropped_is_utf8 d printable.0) (dropped_are_utf8 ds printable.1)
+
+pub kept_text_is_utf8 : (x : Kept) → IsPrintableKept x → IsUtf8 (kept_text x)
+unfolding kept_text
+kept_text_is_utf8 x printable =
+    let count = length x.dropped in
+    let lines = flat_map dropped_text x.dropped in
+    let head = line_text_is_utf8 (codes "repaired" ∷ decimal count ∷ []) (ascii_is_utf8 (codes "repaired") refl, (decimal_is_utf8 count (omega (arith, printable.few)), tt)) in
+    IsUtf8-append (repaired_text count) (lines ++ base_text x.base) head (IsUtf8-append lines (base_text x.base) (dropped_are_utf8 x.dropped printable.dropped) (base_is_utf8 x.base printable.base))

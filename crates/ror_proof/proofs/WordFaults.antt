@@ -10,6 +10,7 @@ use Rattle.ror_text.specs.Numbers.{number_of, small_number_of}
 use Rattle.ror_text.specs.Reading.{◌>>=◌, refuse, need}
 use Rattle.ror_text.proofs.NumberLemmas.{number_of-signed_decimal, number_of-sound, signed_decimal_some, small_number_of-decimal, small_number_of-sound, decimal_some}
 use Rattle.ror_text.proofs.ReadingLemmas.{bind_ok, bind_err, refuse_err, need_ok, need_err}
+use Rattle.ror_system.specs.declared.accept.Multipliers.{Multipliers}
 use Rattle.ror_table.specs.Table.{DecisionTable, alternative_ids, alternative_named, criterion_ids, criterion_named}
 use Rattle.ror_table.proofs.NameLemmas.{placed-there, not_placed-absent}
 use Rattle.ror_proof.specs.declared.answer.Certificate.{Certificate}
@@ -18,11 +19,12 @@ use Rattle.ror_proof.specs.declared.read.ProofFault.{ProofFault}
 use Rattle.ror_proof.specs.declared.read.ProofFault.TheVariants.{BadLine, BadNumber}
 use Rattle.ror_proof.specs.Names.{name_of}
 use Rattle.ror_proof.specs.Words.{first_word, after_word, no_more, number_in, pivot_in, all_at, numbers_at, numbers_before_bar}
-use Rattle.ror_proof.specs.Reading.{solution_at, multipliers_at, certificate_at}
+use Rattle.ror_proof.specs.Reading.{solution_at, multipliers_at, refutation_at, certificate_at}
 use Rattle.ror_proof.specs.Expected.{IsNumber, all_of, expected_numbers, expected_multipliers, expected_certificate, Expected, MayStand, MayEnd, AllStand, IsFirstFaultyWord, number_fault, fault_of_word}
 use Rattle.ror_proof.specs.Expected.Expected.{the_word, one_of, an_id, a_criterion, a_small_number, a_number, a_pivot, the_end}
 use Rattle.ror_proof.proofs.NameLemmas.{named-there, not_named-absent}
 use Rattle.ror_proof.proofs.PivotLemmas.{pivot_again, pivot_sound, pivot_err}
+use Rattle.ror_proof.proofs.LineWords.{multipliers_read}
 use Rattle.ror_proof.proofs.WordLemmas.{done, ok_is, after_word_sound, number_sound}
 
 -- ---- a line has one first faulty word, or all its words may stand
@@ -381,31 +383,47 @@ solution_ok t place words x e =
 multipliers_err : (t : DecisionTable) (place : ℕ) (words : List (List ℕ)) (f : ProofFault) → multipliers_at place words ≡ Err f → IsFirstFaultyWord t (expected_multipliers words) words place f
 unfolding multipliers_at
 multipliers_err t place words f e =
-    elim (bind_err (numbers_before_bar place words) (λ weak. numbers_at place weak.1 >>= λ strict. done (certificates.Multipliers (record { weak = weak.0; strict = strict }))) f e) [
+    elim (bind_err (numbers_before_bar place words) (λ weak. numbers_at place weak.1 >>= λ strict. multipliers_read weak.0 strict) f e) [
       | inl here ↦ bar_err t place words f here
       | inr later ↦
-          elim (bind_err (numbers_at place later.0.1) (λ strict. done (certificates.Multipliers (record { weak = later.0.0; strict = strict }))) f later.2) [
+          elim (bind_err (numbers_at place later.0.1) (λ strict. multipliers_read later.0.0 strict) f later.2) [
             | inl deeper ↦ (past_bar t place words later.0 later.1).faults f ((number_ends t place later.0.1).fails f deeper)
             | inr none ↦ absurd (no_fault _ f none.2)
           ]
     ]
 
-multipliers_ok : (t : DecisionTable) (place : ℕ) (words : List (List ℕ)) (x : Certificate) → multipliers_at place words ≡ Ok x → AllStand t (expected_multipliers words) words
+multipliers_ok : (t : DecisionTable) (place : ℕ) (words : List (List ℕ)) (x : Multipliers) → multipliers_at place words ≡ Ok x → AllStand t (expected_multipliers words) words
 unfolding multipliers_at
 multipliers_ok t place words x e =
-    let a = bind_ok (numbers_before_bar place words) (λ weak. numbers_at place weak.1 >>= λ strict. done (certificates.Multipliers (record { weak = weak.0; strict = strict }))) x e in
-    let b = bind_ok (numbers_at place a.0.1) (λ strict. done (certificates.Multipliers (record { weak = a.0.0; strict = strict }))) x a.2 in
+    let a = bind_ok (numbers_before_bar place words) (λ weak. numbers_at place weak.1 >>= λ strict. multipliers_read weak.0 strict) x e in
+    let b = bind_ok (numbers_at place a.0.1) (λ strict. multipliers_read a.0.0 strict) x a.2 in
     (past_bar t place words a.0 a.1).stands ((number_ends t place a.0.1).stands b.0 b.1)
 
+multipliers_ends : (t : DecisionTable) (place : ℕ) (words : List (List ℕ)) → Ends t place (multipliers_at place words) (expected_multipliers words) words
+multipliers_ends t place words = record { fails = multipliers_err t place words; stands = multipliers_ok t place words }
+
+pub refutation_ends : (t : DecisionTable) (place : ℕ) (words : List (List ℕ)) → Ends t place (refutation_at place words) (the_word (codes "multipliers") ∷ expected_multipliers (drop 1 words)) words
+unfolding refutation_at
+refutation_ends t place words =
+    word_then_ends t place (codes "multipliers") (multipliers_at place) (expected_multipliers (drop 1 words)) words
+    (λ numbers is. subst (λ (ws : List (List ℕ)). Ends t place (multipliers_at place numbers) (expected_multipliers ws) numbers) (ap (λ (ws : List (List ℕ)). drop 1 ws) (sym is)) (multipliers_ends t place numbers))
+
+-- multipliers made into a certificate
+abbrev refuting : ℕ → List (List ℕ) → Result Certificate ProofFault
+refuting place words = multipliers_at place words >>= λ m. done (certificates.Multipliers m)
+
+refuting_ends : (t : DecisionTable) (place : ℕ) (words : List (List ℕ)) → Ends t place (refuting place words) (expected_multipliers words) words
+refuting_ends t place words = made_ends t place (multipliers_at place words) (λ (m : Multipliers). certificates.Multipliers m) (expected_multipliers words) words (multipliers_ends t place words)
+
 certificate_err_by : (t : DecisionTable) (place : ℕ) (word : List ℕ) (words : List (List ℕ)) (f : ProofFault) (b1 b2 : Bool) → bytes_eq word (codes "solution") ≡ b1 → bytes_eq word (codes "multipliers") ≡ b2
-    → cond b1 (solution_at place words) (cond b2 (multipliers_at place words) (Err (BadLine place))) ≡ Err f → IsFirstFaultyWord t (expected_certificate (word ∷ words)) (word ∷ words) place f
+    → cond b1 (solution_at place words) (cond b2 (refuting place words) (Err (BadLine place))) ≡ Err f → IsFirstFaultyWord t (expected_certificate (word ∷ words)) (word ∷ words) place f
 certificate_err_by t place word words f true b2 p q e =
     let is : word ≡ codes "solution" = (bytes_eq-Decides word (codes "solution")).0 p in
     let other : bytes_eq word (codes "multipliers") ≡ false = ap (λ (w : List ℕ). bytes_eq w (codes "multipliers")) is in
     inr (inl is, rw other (solution_err t place words f e))
 certificate_err_by t place word words f false true p q e =
     let is : word ≡ codes "multipliers" = (bytes_eq-Decides word (codes "multipliers")).0 q in
-    inr (inr is, rw q (multipliers_err t place words f e))
+    inr (inr is, rw q ((refuting_ends t place words).fails f e))
 certificate_err_by t place word words f false false p q e =
     let at : f ≡ BadLine place = cc in
     inl (no_form word p q, at)
@@ -420,14 +438,14 @@ certificate_err t place [] f e = (λ h. h, cc)
 certificate_err t place (word ∷ words) f e = certificate_err_by t place word words f (bytes_eq word (codes "solution")) (bytes_eq word (codes "multipliers")) refl refl e
 
 certificate_ok_by : (t : DecisionTable) (place : ℕ) (word : List ℕ) (words : List (List ℕ)) (x : Certificate) (b1 b2 : Bool) → bytes_eq word (codes "solution") ≡ b1 → bytes_eq word (codes "multipliers") ≡ b2
-    → cond b1 (solution_at place words) (cond b2 (multipliers_at place words) (Err (BadLine place))) ≡ Ok x → AllStand t (expected_certificate (word ∷ words)) (word ∷ words)
+    → cond b1 (solution_at place words) (cond b2 (refuting place words) (Err (BadLine place))) ≡ Ok x → AllStand t (expected_certificate (word ∷ words)) (word ∷ words)
 certificate_ok_by t place word words x true b2 p q e =
     let is : word ≡ codes "solution" = (bytes_eq-Decides word (codes "solution")).0 p in
     let other : bytes_eq word (codes "multipliers") ≡ false = ap (λ (w : List ℕ). bytes_eq w (codes "multipliers")) is in
     (inl is, rw other (solution_ok t place words x e))
 certificate_ok_by t place word words x false true p q e =
     let is : word ≡ codes "multipliers" = (bytes_eq-Decides word (codes "multipliers")).0 q in
-    (inr is, rw q (multipliers_ok t place words x e))
+    (inr is, rw q ((refuting_ends t place words).stands x e))
 certificate_ok_by t place word words x false false p q e = absurd cc
 
 pub certificate_ok : (t : DecisionTable) (place : ℕ) (words : List (List ℕ)) (x : Certificate) → certificate_at place words ≡ Ok x → AllStand t (expected_certificate words) words

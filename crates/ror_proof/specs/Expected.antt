@@ -1,5 +1,5 @@
--- What a line of an answer may be, word by word, and the first word at fault.
-use Rattle.std.specs.Prelude.{◌≡◌, ◌⊎◌, ℕ, ◌<◌, ◌^◌, ℤ, List, [], ◌∷◌, ◌++◌, length, map, drop, codes, Contains, decimal, Bool, true, false, Option, None, Some, nat_le, if◌then◌else◌}
+-- What a line of an answer or of a repair may be, word by word, and the first word at fault.
+use Rattle.std.specs.Prelude.{◌≡◌, ◌⊎◌, ℕ, zero, suc, ◌<◌, ◌^◌, ℤ, List, [], ◌∷◌, ◌++◌, length, map, drop, codes, Contains, decimal, Bool, true, false, Option, None, Some, nat_le, if◌then◌else◌}
 use Rattle.std.specs.Fmt.{signed_decimal}
 use Rattle.std.specs.Str.{bytes_eq}
 use Rattle.ror_text.specs.Cursor.{Cursor, line_words, line_after}
@@ -190,6 +190,18 @@ expected_note (word ∷ words) =
 abbrev pub expected_wide : List (List ℕ) → List Expected
 expected_wide words = the_word (codes "wide") ∷ a_small_number ∷ expected_note (drop 2 words)
 
+-- `repaired COUNT`
+abbrev pub expected_repaired : List (List ℕ) → List Expected
+expected_repaired words = the_word (codes "repaired") ∷ a_small_number ∷ the_end ∷ []
+
+-- `dropped NUMBER multipliers ..`
+abbrev pub expected_dropped : List (List ℕ) → List Expected
+expected_dropped words =
+    the_word (codes "dropped")
+    ∷ a_small_number
+    ∷ the_word (codes "multipliers")
+    ∷ expected_multipliers (drop 3 words)
+
 -- ---- lines
 
 -- the line that begins here is as expected, and a line feed ends it, after which the next one
@@ -229,3 +241,35 @@ pub data IsFaultOfAnswer (t : DecisionTable) (c : Cursor) (fault : ProofFault) :
   part_after_wide : (wide after : Cursor) → IsLine t expected_answer c wide
       → says_wide (line_words c) ≡ true → IsLine t expected_wide wide after
       → begins_part after.rest ≡ true → fault ≡ BadLine after.place → IsFaultOfAnswer t c fault
+
+-- ---- repairs: no word of them is of a table, so that any table may be taken
+
+-- the line that begins here says how many statements are dropped, and a line feed ends it, after
+-- which the next one begins
+pub record SaysCount (c : Cursor) (count : ℕ) (after : Cursor) : Type 0 where
+  pub small : count < 2 ^ 32
+  pub words : line_words c ≡ codes "repaired" ∷ decimal count ∷ []
+  pub ended : line_after c ≡ Some after
+
+-- so many lines from here on are of dropped statements, and the next one begins after them
+abbrev pub AreDropped : DecisionTable → ℕ → Cursor → Cursor → Type 0
+AreDropped t zero c after = c ≡ after
+AreDropped t (suc count) c after =
+    (next : Cursor) × IsLine t expected_dropped c next × AreDropped t count next after
+
+-- the fault of the first faulty line among so many of dropped statements
+abbrev pub IsFaultOfDropped : DecisionTable → ℕ → Cursor → ProofFault → Type 0
+IsFaultOfDropped t zero c fault = ⊥
+IsFaultOfDropped t (suc count) c fault =
+    IsFaultOfLine t expected_dropped c fault
+    ⊎ ((next : Cursor) × IsLine t expected_dropped c next × IsFaultOfDropped t count next fault)
+
+-- the fault of the first faulty line of the repair that begins here: as many dropped statements as
+-- the first line says, and a base
+pub data IsFaultOfKept (t : DecisionTable) (c : Cursor) (fault : ProofFault) : Type 0 where
+  in_count : IsFaultOfLine t expected_repaired c fault → IsFaultOfKept t c fault
+  in_dropped : (count : ℕ) (dropped : Cursor) → SaysCount c count dropped
+      → IsFaultOfDropped t count dropped fault → IsFaultOfKept t c fault
+  in_base_of_kept : (count : ℕ) (dropped base : Cursor) → SaysCount c count dropped
+      → AreDropped t count dropped base → IsFaultOfLine t expected_base base fault
+      → IsFaultOfKept t c fault

@@ -1,10 +1,11 @@
--- Reading an answer: the answer and where it ends, or the first fault.
+-- Reading an answer, or a repair: what it is and where it ends, or the first fault.
 use Rattle.std.specs.Prelude.{ℕ, ◌≤◌, Bool, zero, suc, List, [], ◌∷◌, length, Option, Some, None, Result, Ok, Err, codes, nat_eq, if◌then◌else◌}
 use Rattle.std.specs.List.{starts_with}
 use Rattle.std.specs.Str.{bytes_eq}
 use Rattle.ror_text.specs.Cursor.{Cursor, line_words, line_after}
 use Rattle.ror_text.specs.Reading.{◌>>=◌, refuse, need}
 use Rattle.ror_statement.specs.declared.question.Question.{Question}
+use Rattle.ror_system.specs.declared.accept.Multipliers.{Multipliers}
 use Rattle.ror_table.specs.Table.{DecisionTable}
 use Rattle.ror_proof.specs.declared.answer.Answer.{Answer}
 use Rattle.ror_proof.specs.declared.answer.Certificate.{Certificate}
@@ -16,6 +17,8 @@ use Rattle.ror_proof.specs.declared.answer.Proof.{Proof}
 use Rattle.ror_proof.specs.declared.answer.Verdict.{Verdict}
 use Rattle.ror_proof.specs.declared.answer.Verdict.TheVariants as verdicts
 use Rattle.ror_proof.specs.declared.answer.WideText.{WideText}
+use Rattle.ror_proof.specs.declared.kept.Dropped.{Dropped}
+use Rattle.ror_proof.specs.declared.kept.Kept.{Kept}
 use Rattle.ror_proof.specs.declared.names.PlaceName.{PlaceName}
 use Rattle.ror_proof.specs.declared.names.PlaceName.TheVariants as named
 use Rattle.ror_proof.specs.declared.names.VerdictName.{VerdictName}
@@ -46,19 +49,26 @@ solution_at place words = do
   Ok (certificates.Solution (record { steps = steps }))
 
 -- `multipliers` is before these words
-unfoldable pub multipliers_at : ℕ → List (List ℕ) → Result Certificate ProofFault
+unfoldable pub multipliers_at : ℕ → List (List ℕ) → Result Multipliers ProofFault
 multipliers_at place words = do
   weak ← numbers_before_bar place words
   strict ← numbers_at place weak.1
-  Ok (certificates.Multipliers (record { weak = weak.0; strict = strict }))
+  Ok (record { weak = weak.0; strict = strict })
+
+-- `multipliers` and their numbers, up to the end of the line
+unfoldable pub refutation_at : ℕ → List (List ℕ) → Result Multipliers ProofFault
+refutation_at place words = do
+  numbers ← after_word place (codes "multipliers") words
+  multipliers_at place numbers
 
 -- a certificate, up to the end of its line
 unfoldable pub certificate_at : ℕ → List (List ℕ) → Result Certificate ProofFault
 certificate_at place words = do
   form ← first_word place words
   if bytes_eq form.0 (codes "solution") then solution_at place form.1
-      else (if bytes_eq form.0 (codes "multipliers") then multipliers_at place form.1
-      else Err (faults.BadLine place))
+      else (if bytes_eq form.0 (codes "multipliers") then (do
+        multipliers ← multipliers_at place form.1
+        Ok (certificates.Multipliers multipliers)) else Err (faults.BadLine place))
 
 -- a row and a column
 unfoldable pub entry_at : ℕ → List (List ℕ) → Result ((ℕ × ℕ) × List (List ℕ)) ProofFault
@@ -129,6 +139,20 @@ wide_words place words = do
   note ← note_at place system.1
   Ok (system.0, note)
 
+unfoldable pub repaired_words : ℕ → List (List ℕ) → Result ℕ ProofFault
+repaired_words place words = do
+  more ← after_word place (codes "repaired") words
+  count ← small_number_at place more
+  _ ← no_more place count.1
+  Ok count.0
+
+unfoldable pub dropped_words : ℕ → List (List ℕ) → Result Dropped ProofFault
+dropped_words place words = do
+  more ← after_word place (codes "dropped") words
+  number ← small_number_at place more
+  proof ← refutation_at place number.1
+  Ok (record { number = number.0; proof = proof })
+
 -- ---- line by line
 
 -- what was read of a line's words, where a line feed ends the line, and where the next one begins
@@ -151,6 +175,14 @@ part_line c = ended c (part_words c.place (line_words c))
 
 abbrev pub wide_line : Cursor → Result ((ℕ × WideText) × Cursor) ProofFault
 wide_line c = ended c (wide_words c.place (line_words c))
+
+abbrev pub repaired_line : Cursor → Result (ℕ × Cursor) ProofFault
+repaired_line c = ended c (repaired_words c.place (line_words c))
+
+abbrev pub dropped_line : Cursor → Result (Dropped × Cursor) ProofFault
+dropped_line c = ended c (dropped_words c.place (line_words c))
+
+-- ---- answers
 
 abbrev pub begins_part : List ℕ → Bool
 begins_part bytes = starts_with nat_eq bytes (codes "part ")
@@ -196,3 +228,21 @@ answer_at t c = do
   head ← answer_line t c
   verdict ← verdict_at head.0.1 head.1
   Ok (record { question = head.0.0; verdict = verdict.0 }, verdict.1)
+
+-- ---- repairs
+
+-- so many lines of dropped statements
+unfoldable pub dropped_lines : ℕ → Cursor → Result (List Dropped × Cursor) ProofFault
+dropped_lines zero c = Ok ([], c)
+dropped_lines (suc count) c = do
+  first ← dropped_line c
+  others ← dropped_lines count first.1
+  Ok (first.0 ∷ others.0, others.1)
+
+-- how many statements are dropped, as many lines, and the base
+unfoldable pub kept_at : Cursor → Result (Kept × Cursor) ProofFault
+kept_at c = do
+  count ← repaired_line c
+  dropped ← dropped_lines count.0 count.1
+  base ← base_line dropped.1
+  Ok (record { dropped = dropped.0; base = base.0 }, base.1)

@@ -1,4 +1,4 @@
--- The one text of an answer: words joined by single spaces, line by line.
+-- The one text of an answer and of a repair: words joined by single spaces, line by line.
 use Rattle.std.specs.Prelude.{ℕ, ◌<◌, ◌^◌, List, [], ◌∷◌, ◌++◌, length, map, ℤ, codes, decimal}
 use Rattle.std.specs.Fmt.{signed_decimal}
 use Rattle.std.specs.List.{flat_map, AllByRecursion}
@@ -14,6 +14,7 @@ use Rattle.ror_statement.specs.declared.question.Property.TheVariants.{Compatibl
 use Rattle.ror_statement.specs.Questions.{property_of}
 use Rattle.ror_statement.specs.Names.{NamesWithin}
 use Rattle.ror_system.specs.System.{IsNarrow}
+use Rattle.ror_system.specs.declared.accept.Multipliers.{Multipliers}
 use Rattle.ror_table.specs.Table.{DecisionTable, id_of, criterion_id_of}
 use Rattle.ror_proof.specs.declared.answer.Certificate.{Certificate}
 use Rattle.ror_proof.specs.declared.answer.Certificate.TheVariants as certificates
@@ -26,6 +27,8 @@ use Rattle.ror_proof.specs.declared.answer.WideText.{WideText}
 use Rattle.ror_proof.specs.declared.answer.Verdict.{Verdict}
 use Rattle.ror_proof.specs.declared.answer.Verdict.TheVariants.{Yes, No, Contradiction, Wide}
 use Rattle.ror_proof.specs.declared.answer.Answer.{Answer}
+use Rattle.ror_proof.specs.declared.kept.Dropped.{Dropped}
+use Rattle.ror_proof.specs.declared.kept.Kept.{Kept}
 use Rattle.ror_proof.specs.declared.names.VerdictName.{VerdictName}
 use Rattle.ror_proof.specs.Names.{question_name, question_word, verdict_name, verdict_word, place_name, place_word}
 
@@ -73,11 +76,14 @@ abbrev pub certificate_words : Certificate → List (List ℕ)
 certificate_words (certificates.Solution x) = solution_words x.steps
 certificate_words (certificates.Multipliers m) = multipliers_words m.weak m.strict
 
--- the numbers of a certificate are of absolute value at most 2^127 - 1
+-- the numbers are of absolute value at most 2^127 - 1
+abbrev pub AreNarrow : Multipliers → Type 0
+AreNarrow m = AllByRecursion IsNarrow m.weak × AllByRecursion IsNarrow m.strict
+
+-- the same of those of a certificate
 abbrev pub IsNarrowCertificate : Certificate → Type 0
 IsNarrowCertificate (certificates.Solution x) = AllByRecursion IsNarrow x.steps
-IsNarrowCertificate (certificates.Multipliers m) =
-    AllByRecursion IsNarrow m.weak × AllByRecursion IsNarrow m.strict
+IsNarrowCertificate (certificates.Multipliers m) = AreNarrow m
 
 -- ---- proofs
 
@@ -170,3 +176,36 @@ IsPrintableVerdict (Wide system note) = IsPrintableNote system note
 pub record IsPrintable (t : DecisionTable) (x : Answer) : Type 0 where
   pub named : IsNamed t x.question
   pub concluded : IsPrintableVerdict x.verdict
+
+-- ---- repairs
+
+-- the line of how many statements are dropped
+abbrev pub repaired_text : ℕ → List ℕ
+repaired_text count = line_text (codes "repaired" ∷ decimal count ∷ [])
+
+-- a dropped statement, and the multipliers that refute it with what is kept before it
+abbrev pub dropped_text : Dropped → List ℕ
+dropped_text d =
+    line_text
+    (codes "dropped" ∷ decimal d.number ∷ multipliers_words d.proof.weak d.proof.strict)
+
+-- how many statements are dropped, a line for each, and the line of the base
+unfoldable pub kept_text : Kept → List ℕ
+kept_text x =
+    repaired_text (length x.dropped) ++ (flat_map dropped_text x.dropped ++ base_text x.base)
+
+-- the numbers of the base and of all multipliers are of absolute value at most 2^127 - 1
+abbrev pub IsNarrowKept : Kept → Type 0
+IsNarrowKept x =
+    IsNarrowCertificate x.base
+    × AllByRecursion (λ dropped. AreNarrow dropped.proof) x.dropped
+
+pub record IsPrintableDropped (d : Dropped) : Type 0 where
+  pub number : d.number < 2 ^ 32
+  pub narrow : AreNarrow d.proof
+
+-- the repairs that have a text: numbers that a report may hold
+pub record IsPrintableKept (x : Kept) : Type 0 where
+  pub few : length x.dropped < 2 ^ 32
+  pub dropped : AllByRecursion IsPrintableDropped x.dropped
+  pub base : IsNarrowCertificate x.base

@@ -1,4 +1,4 @@
-//! Answers with their proofs, and the one text of each.
+//! Answers and repairs with their proofs, and the one text of each.
 #![tactic(auto)]
 
 mod answer;
@@ -12,8 +12,8 @@ pub mod words;
 
 pub use answer::{Answer, Certificate, Part, Pivot, PlaceText, Proof, Verdict, WideText};
 pub use kept::{Dropped, Kept};
-pub use print::{print_answer, write_answer};
-pub use read::{ProofFault, read_answer};
+pub use print::{print_answer, print_kept, write_answer, write_kept};
+pub use read::{ProofFault, read_answer, read_kept};
 
 #[cfg(test)]
 mod tests;

@@ -1,18 +1,21 @@
-//! The printer of an answer's text.
+//! The printers of an answer's text and of a repair's.
+#![tactic(auto, using(crate::proofs::PrintLemmas::in_front))]
 
-ghost use Rattle.std.specs.Prelude.{◌≡◌, ◌<◌, [], ◌∷◌, ◌++◌, length, map, codes, IfOk, OnOk};
+ghost use Rattle.std.specs.Prelude.{◌≡◌, ◌<◌, ◌^◌, [], ◌∷◌, ◌++◌, length, map, codes, IfOk, OnOk};
 ghost use Rattle.std.specs.List.{flat_map};
 ghost use Rattle.ror_text.specs.SpacedLines.{line_text};
 ghost use Rattle.ror_statement.specs.Names.{PairWithin, ScopeWithin, NamesWithin, IsPropertyWithin, IsValidQuestion};
 ghost use Rattle.ror_table.specs.Table.{id_of, criterion_id_of};
 ghost use Rattle.ror_proof.specs.Names.{verdict_name};
-ghost use Rattle.ror_proof.specs.Printing.{spaced};
-ghost use Rattle.ror_proof.specs.Text.{pair_words, scope_words, form_words, property_words, question_words, certificate_words, base_text, part_text, proof_text, place_words, pivot_word, wide_text, verdict_text, head_text, answer_text, IsNarrowVerdict};
+ghost use Rattle.ror_proof.specs.Printing.{spaced, StandsInFront};
+ghost use Rattle.ror_proof.specs.Text.{pair_words, scope_words, form_words, property_words, question_words, multipliers_words, certificate_words, base_text, part_text, proof_text, place_words, pivot_word, wide_text, verdict_text, head_text, answer_text, repaired_text, dropped_text, kept_text, IsNarrowKept, IsNarrowVerdict};
 
 use crate::answer::{Answer, Certificate, Part, Pivot, PlaceText, Proof, Verdict, WideText};
+use crate::kept::{Dropped, Kept};
 use crate::names::{Name, PlaceName, QuestionName, VerdictName};
 use itoa::{Buffer, Integer};
 use ror_statement::{Form, Pair, Property, Question, Scope};
+use ror_system::Multipliers;
 use ror_table::Table;
 use std::alloc::{AllocError, Global};
 
@@ -28,25 +31,84 @@ pub fn print_answer(alloc: Global, table: &Table, answer: &Answer) -> Result<Vec
     Ok(text)
 }
 
-/// Writes the text of an answer behind what is there. It asks that the question is valid for the table, and that every
-/// number of a certificate is of absolute value at most 2^127 - 1, so that the text is read again.
-#[tactic(auto, unfolding(crate::specs::Text::answer_text))]
+/// Writes the text of an answer behind what is there, which stays in front also where memory runs out. It asks that the
+/// question is valid for the table, and that every number of a certificate is of absolute value at most 2^127 - 1, so that
+/// the text is read again.
+#[tactic(auto, using(crate::proofs::PrintLemmas::in_front), unfolding(crate::specs::Text::answer_text))]
 pub fn write_answer(text: &mut Vec<u8>, table: &Table, answer: &Answer) -> Result<(), AllocError>
     requires valid { IsValidQuestion (length table.now.alternatives) (length table.now.criteria)
         table.now.classes answer.now.question }
     requires narrow { IsNarrowVerdict answer.now.verdict }
-    ensures { OnOk result (text.new.items ≡ text.old.items ++ answer_text table.now answer.now) }
+    ensures ok { OnOk result (text.new.items ≡ text.old.items ++ answer_text table.now answer.now) }
+    ensures front { StandsInFront text.old.items text.new.items }
 {
     write_head(text, table, answer)?;
     write_verdict(text, &answer.verdict)
+}
+
+/// The text of a repair. It asks what `write_kept` asks.
+pub fn print_kept(alloc: Global, kept: &Kept) -> Result<Vec<u8>, AllocError>
+    requires few { length kept.now.dropped < 2 ^ 32 }
+    requires narrow { IsNarrowKept kept.now }
+    ensures { IfOk result (λ text. text.items ≡ kept_text kept.now) }
+{
+    let mut text = Vec::new(alloc);
+    write_kept(&mut text, kept)?;
+    Ok(text)
+}
+
+/// Writes the text of a repair behind what is there, which stays in front also where memory runs out. It asks that at
+/// most 2^32 - 1 statements are dropped, and that every number of the base and of the multipliers is of absolute value at
+/// most 2^127 - 1, so that the text is read again.
+#[tactic(auto, using(crate::proofs::PrintLemmas::in_front), unfolding(crate::specs::Text::kept_text))]
+pub fn write_kept(text: &mut Vec<u8>, kept: &Kept) -> Result<(), AllocError>
+    requires few { length kept.now.dropped < 2 ^ 32 }
+    requires narrow { IsNarrowKept kept.now }
+    ensures ok { OnOk result (text.new.items ≡ text.old.items ++ kept_text kept.now) }
+    ensures front { StandsInFront text.old.items text.new.items }
+{
+    write_repaired_line(text, kept.dropped.len())?;
+    write_dropped_lines(text, kept.dropped.as_slice())?;
+    write_base(text, &kept.base)
+}
+
+/// The line of the number of dropped statements.
+fn write_repaired_line(text: &mut Vec<u8>, count: usize) -> Result<(), AllocError>
+    ensures ok { OnOk result (text.new.items ≡ text.old.items ++ repaired_text count) }
+    ensures front { StandsInFront text.old.items text.new.items }
+{
+    text.extend_from_slice(b"repaired")?;
+    write_number(text, count)?;
+    end_line(text)
+}
+
+fn write_dropped_lines(text: &mut Vec<u8>, dropped: &[Dropped]) -> Result<(), AllocError>
+    ensures ok { OnOk result (text.new.items ≡ text.old.items ++ flat_map dropped_text dropped.now) }
+    ensures front { StandsInFront text.old.items text.new.items }
+{
+    'dropped: for statement in dropped {
+        write_dropped_line(text, statement)?;
+    }
+    Ok(())
+}
+
+fn write_dropped_line(text: &mut Vec<u8>, dropped: &Dropped) -> Result<(), AllocError>
+    ensures ok { OnOk result (text.new.items ≡ text.old.items ++ dropped_text dropped.now) }
+    ensures front { StandsInFront text.old.items text.new.items }
+{
+    text.extend_from_slice(b"dropped")?;
+    write_number(text, dropped.number)?;
+    write_multipliers(text, &dropped.proof)?;
+    end_line(text)
 }
 
 /// The line of the question and the verdict.
 fn write_head(text: &mut Vec<u8>, table: &Table, answer: &Answer) -> Result<(), AllocError>
     requires { IsValidQuestion (length table.now.alternatives) (length table.now.criteria)
         table.now.classes answer.now.question }
-    ensures { OnOk result (text.new.items ≡ text.old.items
+    ensures ok { OnOk result (text.new.items ≡ text.old.items
         ++ head_text table.now answer.now.question (verdict_name answer.now.verdict)) }
+    ensures front { StandsInFront text.old.items text.new.items }
 {
     text.extend_from_slice(b"answer")?;
     write_question(text, table, answer.question)?;
@@ -58,8 +120,9 @@ fn write_head(text: &mut Vec<u8>, table: &Table, answer: &Answer) -> Result<(), 
 fn write_question(text: &mut Vec<u8>, table: &Table, question: Question) -> Result<(), AllocError>
     requires { IsValidQuestion (length table.now.alternatives) (length table.now.criteria)
         table.now.classes question }
-    ensures { OnOk result (text.new.items
+    ensures ok { OnOk result (text.new.items
         ≡ text.old.items ++ spaced (question_words table.now question)) }
+    ensures front { StandsInFront text.old.items text.new.items }
 {
     write_word(text, QuestionName::of(question).word())?;
     write_property(text, table, question.property())
@@ -69,8 +132,9 @@ fn write_question(text: &mut Vec<u8>, table: &Table, question: Question) -> Resu
 fn write_property(text: &mut Vec<u8>, table: &Table, property: Property) -> Result<(), AllocError>
     requires { IsPropertyWithin (length table.now.alternatives) (length table.now.criteria)
         table.now.classes property }
-    ensures { OnOk result (text.new.items
+    ensures ok { OnOk result (text.new.items
         ≡ text.old.items ++ spaced (property_words table.now property)) }
+    ensures front { StandsInFront text.old.items text.new.items }
 {
     match property {
         Property::Compatible => Ok(()),
@@ -84,7 +148,8 @@ fn write_property(text: &mut Vec<u8>, table: &Table, property: Property) -> Resu
 
 fn write_form(text: &mut Vec<u8>, table: &Table, form: Form) -> Result<(), AllocError>
     requires { NamesWithin (length table.now.alternatives) (length table.now.criteria) form }
-    ensures { OnOk result (text.new.items ≡ text.old.items ++ spaced (form_words table.now form)) }
+    ensures ok { OnOk result (text.new.items ≡ text.old.items ++ spaced (form_words table.now form)) }
+    ensures front { StandsInFront text.old.items text.new.items }
 {
     match form {
         Form::Value(first, second) => write_pair(text, table, Pair { first, second }),
@@ -98,7 +163,8 @@ fn write_form(text: &mut Vec<u8>, table: &Table, form: Form) -> Result<(), Alloc
 
 fn write_pair(text: &mut Vec<u8>, table: &Table, pair: Pair) -> Result<(), AllocError>
     requires { PairWithin (length table.now.alternatives) pair }
-    ensures { OnOk result (text.new.items ≡ text.old.items ++ spaced (pair_words table.now pair)) }
+    ensures ok { OnOk result (text.new.items ≡ text.old.items ++ spaced (pair_words table.now pair)) }
+    ensures front { StandsInFront text.old.items text.new.items }
 {
     write_alternative(text, table, pair.first)?;
     write_alternative(text, table, pair.second)
@@ -106,8 +172,9 @@ fn write_pair(text: &mut Vec<u8>, table: &Table, pair: Pair) -> Result<(), Alloc
 
 fn write_scope(text: &mut Vec<u8>, table: &Table, scope: Scope) -> Result<(), AllocError>
     requires { ScopeWithin (length table.now.criteria) scope }
-    ensures { OnOk result (text.new.items
+    ensures ok { OnOk result (text.new.items
         ≡ text.old.items ++ spaced (scope_words table.now scope)) }
+    ensures front { StandsInFront text.old.items text.new.items }
 {
     match scope {
         Scope::Whole => Ok(()),
@@ -124,23 +191,26 @@ fn write_alternative(
     alternative: usize,
 ) -> Result<(), AllocError>
     requires { alternative < length table.now.alternatives }
-    ensures { OnOk result (text.new.items
+    ensures ok { OnOk result (text.new.items
         ≡ text.old.items ++ 32 ∷ id_of table.now alternative) }
+    ensures front { StandsInFront text.old.items text.new.items }
 {
     write_word(text, table.alternative_id(alternative).as_bytes())
 }
 
 fn write_criterion(text: &mut Vec<u8>, table: &Table, criterion: usize) -> Result<(), AllocError>
     requires { criterion < length table.now.criteria }
-    ensures { OnOk result (text.new.items
+    ensures ok { OnOk result (text.new.items
         ≡ text.old.items ++ 32 ∷ criterion_id_of table.now criterion) }
+    ensures front { StandsInFront text.old.items text.new.items }
 {
     write_word(text, table.criterion_id(criterion).as_bytes())
 }
 
 /// What follows the line of the question.
 fn write_verdict(text: &mut Vec<u8>, verdict: &Verdict) -> Result<(), AllocError>
-    ensures { OnOk result (text.new.items ≡ text.old.items ++ verdict_text verdict.now) }
+    ensures ok { OnOk result (text.new.items ≡ text.old.items ++ verdict_text verdict.now) }
+    ensures front { StandsInFront text.old.items text.new.items }
 {
     match verdict {
         Verdict::Yes(proof) | Verdict::No(proof) | Verdict::Contradiction(proof) => {
@@ -152,14 +222,16 @@ fn write_verdict(text: &mut Vec<u8>, verdict: &Verdict) -> Result<(), AllocError
 
 /// The line of the base, and a line for each part.
 fn write_proof(text: &mut Vec<u8>, proof: &Proof) -> Result<(), AllocError>
-    ensures { OnOk result (text.new.items ≡ text.old.items ++ proof_text proof.now) }
+    ensures ok { OnOk result (text.new.items ≡ text.old.items ++ proof_text proof.now) }
+    ensures front { StandsInFront text.old.items text.new.items }
 {
     write_base(text, &proof.base)?;
     write_parts(text, proof.parts.as_slice())
 }
 
 fn write_base(text: &mut Vec<u8>, base: &Certificate) -> Result<(), AllocError>
-    ensures { OnOk result (text.new.items ≡ text.old.items ++ base_text base.now) }
+    ensures ok { OnOk result (text.new.items ≡ text.old.items ++ base_text base.now) }
+    ensures front { StandsInFront text.old.items text.new.items }
 {
     text.extend_from_slice(b"base")?;
     write_certificate(text, base)?;
@@ -167,7 +239,8 @@ fn write_base(text: &mut Vec<u8>, base: &Certificate) -> Result<(), AllocError>
 }
 
 fn write_parts(text: &mut Vec<u8>, parts: &[Part]) -> Result<(), AllocError>
-    ensures { OnOk result (text.new.items ≡ text.old.items ++ flat_map part_text parts.now) }
+    ensures ok { OnOk result (text.new.items ≡ text.old.items ++ flat_map part_text parts.now) }
+    ensures front { StandsInFront text.old.items text.new.items }
 {
     'parts: for part in parts {
         write_part(text, part)?;
@@ -176,7 +249,8 @@ fn write_parts(text: &mut Vec<u8>, parts: &[Part]) -> Result<(), AllocError>
 }
 
 fn write_part(text: &mut Vec<u8>, part: &Part) -> Result<(), AllocError>
-    ensures { OnOk result (text.new.items ≡ text.old.items ++ part_text part.now) }
+    ensures ok { OnOk result (text.new.items ≡ text.old.items ++ part_text part.now) }
+    ensures front { StandsInFront text.old.items text.new.items }
 {
     text.extend_from_slice(b"part")?;
     write_number(text, part.at)?;
@@ -185,26 +259,35 @@ fn write_part(text: &mut Vec<u8>, part: &Part) -> Result<(), AllocError>
 }
 
 fn write_certificate(text: &mut Vec<u8>, certificate: &Certificate) -> Result<(), AllocError>
-    ensures { OnOk result (text.new.items
+    ensures ok { OnOk result (text.new.items
         ≡ text.old.items ++ spaced (certificate_words certificate.now)) }
+    ensures front { StandsInFront text.old.items text.new.items }
 {
     match certificate {
         Certificate::Solution(solution) => {
             write_word(text, b"solution")?;
             write_numbers(text, solution.steps.as_slice())
         }
-        Certificate::Multipliers(multipliers) => {
-            write_word(text, b"multipliers")?;
-            write_numbers(text, multipliers.weak.as_slice())?;
-            write_word(text, b"|")?;
-            write_numbers(text, multipliers.strict.as_slice())
-        }
+        Certificate::Multipliers(multipliers) => write_multipliers(text, multipliers),
     }
+}
+
+/// The multipliers of the weak rows, a bar, and those of the strict rows.
+fn write_multipliers(text: &mut Vec<u8>, multipliers: &Multipliers) -> Result<(), AllocError>
+    ensures ok { OnOk result (text.new.items ≡ text.old.items
+        ++ spaced (multipliers_words multipliers.now.weak multipliers.now.strict)) }
+    ensures front { StandsInFront text.old.items text.new.items }
+{
+    write_word(text, b"multipliers")?;
+    write_numbers(text, multipliers.weak.as_slice())?;
+    write_word(text, b"|")?;
+    write_numbers(text, multipliers.strict.as_slice())
 }
 
 /// The line of a number too wide.
 fn write_wide(text: &mut Vec<u8>, system: u32, note: &WideText) -> Result<(), AllocError>
-    ensures { OnOk result (text.new.items ≡ text.old.items ++ wide_text system note.now) }
+    ensures ok { OnOk result (text.new.items ≡ text.old.items ++ wide_text system note.now) }
+    ensures front { StandsInFront text.old.items text.new.items }
 {
     text.extend_from_slice(b"wide")?;
     write_number(text, system)?;
@@ -215,7 +298,8 @@ fn write_wide(text: &mut Vec<u8>, system: u32, note: &WideText) -> Result<(), Al
 }
 
 fn write_place(text: &mut Vec<u8>, place: PlaceText) -> Result<(), AllocError>
-    ensures { OnOk result (text.new.items ≡ text.old.items ++ spaced (place_words place)) }
+    ensures ok { OnOk result (text.new.items ≡ text.old.items ++ spaced (place_words place)) }
+    ensures front { StandsInFront text.old.items text.new.items }
 {
     write_word(text, PlaceName::of(place).word())?;
     match place {
@@ -229,8 +313,9 @@ fn write_place(text: &mut Vec<u8>, place: PlaceText) -> Result<(), AllocError>
 }
 
 fn write_pivots(text: &mut Vec<u8>, pivots: &[Pivot]) -> Result<(), AllocError>
-    ensures { OnOk result (text.new.items
+    ensures ok { OnOk result (text.new.items
         ≡ text.old.items ++ spaced (map pivot_word pivots.now)) }
+    ensures front { StandsInFront text.old.items text.new.items }
 {
     'pivots: for pivot in pivots {
         write_pivot(text, *pivot)?;
@@ -239,7 +324,8 @@ fn write_pivots(text: &mut Vec<u8>, pivots: &[Pivot]) -> Result<(), AllocError>
 }
 
 fn write_pivot(text: &mut Vec<u8>, pivot: Pivot) -> Result<(), AllocError>
-    ensures { OnOk result (text.new.items ≡ text.old.items ++ 32 ∷ pivot_word pivot) }
+    ensures ok { OnOk result (text.new.items ≡ text.old.items ++ 32 ∷ pivot_word pivot) }
+    ensures front { StandsInFront text.old.items text.new.items }
 {
     write_number(text, pivot.column)?;
     text.push(b':')?;
@@ -247,7 +333,8 @@ fn write_pivot(text: &mut Vec<u8>, pivot: Pivot) -> Result<(), AllocError>
 }
 
 fn write_numbers<N: Integer + Drop>(text: &mut Vec<u8>, numbers: &[N]) -> Result<(), AllocError>
-    ensures { OnOk result (text.new.items ≡ text.old.items ++ spaced (map N.text numbers.now)) }
+    ensures ok { OnOk result (text.new.items ≡ text.old.items ++ spaced (map N.text numbers.now)) }
+    ensures front { StandsInFront text.old.items text.new.items }
 {
     'numbers: for number in numbers {
         write_number(text, *number)?;
@@ -257,28 +344,32 @@ fn write_numbers<N: Integer + Drop>(text: &mut Vec<u8>, numbers: &[N]) -> Result
 
 /// A number, as the next word of a line.
 fn write_number<N: Integer>(text: &mut Vec<u8>, number: N) -> Result<(), AllocError>
-    ensures { OnOk result (text.new.items ≡ text.old.items ++ 32 ∷ N.text number) }
+    ensures ok { OnOk result (text.new.items ≡ text.old.items ++ 32 ∷ N.text number) }
+    ensures front { StandsInFront text.old.items text.new.items }
 {
     text.push(b' ')?;
     write_digits(text, number)
 }
 
 fn write_digits<N: Integer>(text: &mut Vec<u8>, number: N) -> Result<(), AllocError>
-    ensures { OnOk result (text.new.items ≡ text.old.items ++ N.text number) }
+    ensures ok { OnOk result (text.new.items ≡ text.old.items ++ N.text number) }
+    ensures front { StandsInFront text.old.items text.new.items }
 {
     text.extend_from_slice(Buffer::new().format(number).as_bytes())
 }
 
 /// The next word of a line.
 fn write_word(text: &mut Vec<u8>, word: &[u8]) -> Result<(), AllocError>
-    ensures { OnOk result (text.new.items ≡ text.old.items ++ 32 ∷ word.now) }
+    ensures ok { OnOk result (text.new.items ≡ text.old.items ++ 32 ∷ word.now) }
+    ensures front { StandsInFront text.old.items text.new.items }
 {
     text.push(b' ')?;
     text.extend_from_slice(word)
 }
 
 fn end_line(text: &mut Vec<u8>) -> Result<(), AllocError>
-    ensures { OnOk result (text.new.items ≡ text.old.items ++ 10 ∷ []) }
+    ensures ok { OnOk result (text.new.items ≡ text.old.items ++ 10 ∷ []) }
+    ensures front { StandsInFront text.old.items text.new.items }
 {
     text.push(b'\n')?;
     Ok(())

@@ -1,13 +1,14 @@
-//! The reader of an answer's text.
+//! The readers of an answer's text and of a repair's.
 
-ghost use Rattle.std.specs.Prelude.{◌≤◌, ◌<◌, ◌≡◌, ◌-◌, length, IfErr, IfOk};
+ghost use Rattle.std.specs.Prelude.{◌≤◌, ◌<◌, ◌≡◌, ◌-◌, ◌^◌, length, IfErr, IfOk};
 ghost use Rattle.ror_text.specs.Reading.{Gives};
 ghost use Rattle.ror_text.specs.Cursor.{cursor_at};
-ghost use Rattle.ror_proof.specs.Text.{IsNarrowVerdict};
+ghost use Rattle.ror_proof.specs.Text.{IsNarrowKept, IsNarrowVerdict};
 ghost use Rattle.ror_proof.specs.Reading as reading;
-ghost use Rattle.ror_proof.specs.Reading.{answer_at, proof_fault, IsProofFaultWithin};
+ghost use Rattle.ror_proof.specs.Reading.{answer_at, kept_at, proof_fault, IsProofFaultWithin};
 
 use crate::answer::{Answer, Certificate, Part, PlaceText, Proof, Verdict, WideText};
+use crate::kept::{Dropped, Kept};
 use crate::names::{PLACE_NAMES, PlaceName, VERDICT_NAMES, VerdictName};
 use crate::questions::question_at;
 use crate::words::{
@@ -22,7 +23,7 @@ use ror_text::spaced::{Words, line_at};
 use std::alloc::{AllocError, AllocFailed, Global};
 use thiserror::Error;
 
-/// Why no answer was read; the place is the first byte of the faulty line.
+/// Why no answer or repair was read; the place is the first byte of the faulty line.
 #[derive(Debug, Drop, Error)]
 pub enum ProofFault {
     /// A wrong, empty, missing or extra word, an id that the table lacks, no line feed, or a part after a verdict that has
@@ -239,6 +240,85 @@ fn wide_line(alloc: Global, bytes: &[u8], from: usize) -> Result<(u32, WideText,
     Ok((system, note, next))
 }
 
+/// Reads the repair whose text begins at a place, and says where it ends.
+#[tactic(auto, unfolding(crate::specs::Reading::kept_at))]
+pub fn read_kept(alloc: Global, bytes: &[u8], from: usize) -> Result<(Kept, usize), ProofFault>
+    requires { from ≤ length bytes.now }
+    ensures exact { Gives (λ x. (x.0, cursor_at bytes.now x.1)) proof_fault result
+        (kept_at (cursor_at bytes.now from)) }
+    ensures onward { IfOk result (λ x. from < x.1) }
+    ensures within { IfOk result (λ x. x.1 ≤ length bytes.now) }
+    ensures placed { IfErr result (IsProofFaultWithin (length bytes.now)) }
+    ensures few { IfOk result (λ x. length x.0.dropped < 2 ^ 32) }
+    ensures narrow { IfOk result (λ x. IsNarrowKept x.0) }
+{
+    let (count, next) = repaired_line(bytes, from)?;
+    let (dropped, next) = dropped_lines(alloc, count, bytes, next)?;
+    let (base, next) = base_line(alloc, bytes, next)?;
+    let dropped = Items::from(dropped);
+    Ok((Kept { dropped, base }, next))
+}
+
+/// The line of the number of dropped statements, and where the next line begins.
+#[tactic(auto, using(crate::proofs::Places::placed_on), unfolding(crate::specs::Reading::repaired_words, crate::specs::Reading::ended))]
+fn repaired_line(bytes: &[u8], from: usize) -> Result<(u32, usize), ProofFault>
+    requires { from ≤ length bytes.now }
+    ensures exact { Gives (λ x. (x.0, cursor_at bytes.now x.1)) proof_fault result
+        (reading.repaired_line (cursor_at bytes.now from)) }
+    ensures onward { IfOk result (λ x. from < x.1) }
+    ensures within { IfOk result (λ x. x.1 ≤ length bytes.now) }
+    ensures placed { IfErr result (IsProofFaultWithin (length bytes.now)) }
+{
+    let (line, next) = line_at(bytes, from);
+    let words = after_word(from, b"repaired", Words::of(line))?;
+    let (count, words) = small_number_at(from, words)?;
+    no_more(from, words)?;
+    let next = need(next, ProofFault::BadLine(from))?;
+    Ok((count, next))
+}
+
+/// So many lines of dropped statements, and where the next line begins.
+fn dropped_lines(
+    alloc: Global,
+    count: u32,
+    bytes: &[u8],
+    from: usize,
+) -> Result<(Vec<Dropped>, usize), ProofFault>
+    requires { from ≤ length bytes.now }
+    ensures exact { Gives (λ x. (x.0.items, cursor_at bytes.now x.1)) proof_fault result
+        (reading.dropped_lines count (cursor_at bytes.now from)) }
+    ensures onward { IfOk result (λ x. from ≤ x.1) }
+    ensures within { IfOk result (λ x. x.1 ≤ length bytes.now) }
+    ensures placed { IfErr result (IsProofFaultWithin (length bytes.now)) }
+{
+    let mut dropped = Vec::new(alloc);
+    let mut next = from;
+    'dropped: for _ in 0..count {
+        let (statement, after) = dropped_line(alloc, bytes, next)?;
+        dropped.push(statement)?;
+        next = after;
+    }
+    Ok((dropped, next))
+}
+
+/// The line of one dropped statement, and where the next line begins.
+#[tactic(auto, using(crate::proofs::Places::placed_on), unfolding(crate::specs::Reading::dropped_words, crate::specs::Reading::ended))]
+fn dropped_line(alloc: Global, bytes: &[u8], from: usize) -> Result<(Dropped, usize), ProofFault>
+    requires { from ≤ length bytes.now }
+    ensures exact { Gives (λ x. (x.0, cursor_at bytes.now x.1)) proof_fault result
+        (reading.dropped_line (cursor_at bytes.now from)) }
+    ensures onward { IfOk result (λ x. from < x.1) }
+    ensures within { IfOk result (λ x. x.1 ≤ length bytes.now) }
+    ensures placed { IfErr result (IsProofFaultWithin (length bytes.now)) }
+{
+    let (line, next) = line_at(bytes, from);
+    let words = after_word(from, b"dropped", Words::of(line))?;
+    let (number, words) = small_number_at(from, words)?;
+    let proof = refutation_at(alloc, from, words)?;
+    let next = need(next, ProofFault::BadLine(from))?;
+    Ok((Dropped { number, proof }, next))
+}
+
 /// A certificate, up to the end of its line.
 #[tactic(auto, unfolding(crate::specs::Reading::certificate_at))]
 fn certificate_at(alloc: Global, place: usize, words: Words<'_>) -> Result<Certificate, ProofFault>
@@ -247,11 +327,22 @@ fn certificate_at(alloc: Global, place: usize, words: Words<'_>) -> Result<Certi
 {
     match words.next() {
         Some((word, rest)) if word == b"solution".as_slice() => solution_at(alloc, place, rest),
-        Some((word, rest)) if word == b"multipliers".as_slice() => multipliers_at(
-            alloc, place, rest,
-        ),
+        Some((word, rest)) if word == b"multipliers".as_slice() => {
+            let multipliers = multipliers_at(alloc, place, rest)?;
+            Ok(Certificate::Multipliers(multipliers))
+        }
         _ => Err(ProofFault::BadLine(place)),
     }
+}
+
+/// The word of multipliers, and their numbers up to the end of the line.
+#[tactic(auto, unfolding(crate::specs::Reading::refutation_at))]
+fn refutation_at(alloc: Global, place: usize, words: Words<'_>) -> Result<Multipliers, ProofFault>
+    ensures exact { Gives (λ x. x) proof_fault result (reading.refutation_at place words.entry) }
+    ensures placed { IfErr result (IsProofFaultWithin place) }
+{
+    let words = after_word(place, b"multipliers", words)?;
+    multipliers_at(alloc, place, words)
 }
 
 /// The numbers of a solution.
@@ -266,14 +357,14 @@ fn solution_at(alloc: Global, place: usize, words: Words<'_>) -> Result<Certific
 
 /// The multipliers of the weak rows, a bar, and those of the strict rows.
 #[tactic(auto, unfolding(crate::specs::Reading::multipliers_at))]
-fn multipliers_at(alloc: Global, place: usize, words: Words<'_>) -> Result<Certificate, ProofFault>
+fn multipliers_at(alloc: Global, place: usize, words: Words<'_>) -> Result<Multipliers, ProofFault>
     ensures exact { Gives (λ x. x) proof_fault result (reading.multipliers_at place words.entry) }
     ensures placed { IfErr result (IsProofFaultWithin place) }
 {
     let (weak, words) = numbers_before_bar(alloc, place, words)?;
     let weak = Items::from(weak);
     let strict = Items::from(numbers_at(alloc, place, words)?);
-    Ok(Certificate::Multipliers(Multipliers { weak, strict }))
+    Ok(Multipliers { weak, strict })
 }
 
 /// A place, `path` and pivots, up to the end of the line.

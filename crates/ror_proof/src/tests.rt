@@ -3,7 +3,9 @@
 ghost use Rattle.std.specs.Prelude.{IfOk};
 ghost use Rattle.ror_proof.specs.Text.{IsNarrowVerdict};
 
-use crate::{Answer, PlaceText, ProofFault, Verdict, print_answer, read_answer};
+use crate::{
+    Answer, PlaceText, ProofFault, Verdict, print_answer, print_kept, read_answer, read_kept,
+};
 use ror_statement::{Pair, Question, Scope, valid_question};
 use ror_table::{Table, read_plain};
 use std::alloc::Global;
@@ -162,5 +164,48 @@ fn a_faulty_pivot_is_a_bad_line(rt: HostRuntime) -> Result<(), Fail> {
     let text = b"answer consistent wide\nwide 0 rowsum 6 path 5:\n";
     let result = read_answer(rt.alloc(), &table, text, 0);
     assert!(rt; matches!(result, Err(ProofFault::BadLine(23))));
+    Ok(())
+}
+
+#[test]
+fn a_repair_is_read_and_printed_again(rt: HostRuntime) -> Result<(), Fail> {
+    let text = b"repaired 1\ndropped 2 multipliers | 0 1 1\nbase solution 0 1 0 0\n";
+    let (kept, next) = read_kept(rt.alloc(), text, 0)
+        .ok()
+        .ok_or("this is a repair")?;
+    let printed = print_kept(rt.alloc(), &kept)?;
+    assert!(rt; next == 63);
+    assert!(rt; kept.dropped.len() == 1);
+    assert!(rt; printed.as_slice() == text.as_slice());
+    Ok(())
+}
+
+/// Whether a text is refused as a repair with a bad line at this place.
+fn is_bad_line(alloc: Global, text: &[u8], place: usize) -> bool {
+    match read_kept(alloc, text, 0) {
+        Err(ProofFault::BadLine(at)) => at == place,
+        _ => false,
+    }
+}
+
+#[test]
+fn a_repair_has_as_many_dropped_lines_as_it_says(rt: HostRuntime) -> Result<(), Fail> {
+    let one_short = b"repaired 2\ndropped 2 multipliers | 0 1 1\nbase solution 0 1 0 0\n";
+    let one_over = b"repaired 0\ndropped 2 multipliers | 0 1 1\nbase solution 0 1 0 0\n";
+    let all_short = b"repaired 4294967295\n";
+    let not_refuted = b"repaired 1\ndropped 2 solution 1\nbase solution 1\n";
+    assert!(rt; is_bad_line(rt.alloc(), one_short, 41));
+    assert!(rt; is_bad_line(rt.alloc(), one_over, 11));
+    assert!(rt; is_bad_line(rt.alloc(), all_short, 20));
+    assert!(rt; is_bad_line(rt.alloc(), not_refuted, 11));
+    Ok(())
+}
+
+#[test]
+fn a_word_of_a_repair_that_is_no_number_is_a_bad_number(rt: HostRuntime) -> Result<(), Fail> {
+    let wide_count = read_kept(rt.alloc(), b"repaired 4294967296\n", 0);
+    let no_bar = read_kept(rt.alloc(), b"repaired 1\ndropped x multipliers 1\n", 0);
+    assert!(rt; matches!(wide_count, Err(ProofFault::BadNumber(0))));
+    assert!(rt; matches!(no_bar, Err(ProofFault::BadNumber(11))));
     Ok(())
 }

@@ -76,7 +76,11 @@ pub fn small_number_at<'a>(place: usize, words: Words<'a>) -> Result<(u32, Words
 }
 
 /// The numbers up to the end of the line.
-pub fn numbers_at(alloc: Global, place: usize, words: Words<'_>) -> Result<Vec<i128>, ProofFault>
+pub(crate) fn numbers_at(
+    alloc: Global,
+    place: usize,
+    words: Words<'_>,
+) -> Result<Vec<i128>, ProofFault>
     ensures exact { Gives (λ numbers. numbers.items) proof_fault result
         (spec.numbers_at place words.entry) }
     ensures placed { IfErr result (IsProofFaultWithin place) }
@@ -92,7 +96,7 @@ pub fn numbers_at(alloc: Global, place: usize, words: Words<'_>) -> Result<Vec<i
 }
 
 /// The numbers before a bar, and the words after it.
-pub fn numbers_before_bar<'a>(
+pub(crate) fn numbers_before_bar<'a>(
     alloc: Global,
     place: usize,
     words: Words<'a>,
@@ -115,7 +119,11 @@ pub fn numbers_before_bar<'a>(
 }
 
 /// The pivots up to the end of the line.
-pub fn pivots_at(alloc: Global, place: usize, words: Words<'_>) -> Result<Vec<Pivot>, ProofFault>
+pub(crate) fn pivots_at(
+    alloc: Global,
+    place: usize,
+    words: Words<'_>,
+) -> Result<Vec<Pivot>, ProofFault>
     ensures exact { Gives (λ pivots. pivots.items) proof_fault result
         (spec.pivots_at place words.entry) }
     ensures placed { IfErr result (IsProofFaultWithin place) }

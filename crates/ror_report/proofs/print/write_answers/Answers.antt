@@ -24,7 +24,7 @@ answers-preserved c =
     let x = c.answer-item.result in
     let text = c.answers.text.items in
     record {
-      printed = one_more (flat_map (answer_text t)) (answer_text t) (λ x xs. refl) answers i x text c.write_answer.new.text.items (c.args.text.now.items ++ flat_map (answer_text t) answers) c.answers-test.true c.answer-item.is c.in_ok-write_answer.ensures c.answers.invariant.printed;
+      printed = one_more (flat_map (answer_text t)) (answer_text t) (λ x xs. refl) answers i x text c.write_answer.new.text.items (c.args.text.now.items ++ flat_map (answer_text t) answers) c.answers-test.true c.answer-item.is c.in_ok-write_answer.ensures.ok c.answers.invariant.printed;
       valid = (all-rest (HasValidQuestion t) answers i x c.answers-test.true c.answers.invariant.valid).1;
       narrow = (all-rest HasNarrowVerdict answers i x c.answers-test.true c.answers.invariant.narrow).1;
     }
