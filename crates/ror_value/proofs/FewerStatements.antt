@@ -1,5 +1,5 @@
 -- That fewer statements say no more.
-use Rattle.std.proofs.Common.{◌≡◌, inl, inr, List, [], ◌∷◌, sym, subst}
+use Rattle.std.proofs.Common.{inl, inr, List, [], ◌∷◌, sym, subst}
 use Rattle.std.specs.Prelude.{option_to_list}
 use Rattle.std.specs.List.{AllByRecursion, flat_map}
 use Rattle.ror_text.proofs.Everywhere.{all-append, all-front, all-back}
