@@ -92,6 +92,13 @@ same_number f xs i j x y h first second same = by (cases_lt i j) (cases_lt j i)
         let e : Some x ≡ Some y = sym first ∙ here in
         cc
 
+-- where an element stands, none with its number stands before
+pub first_place : {X : Type 0} (f : X → ℕ) (xs : List X) (i j : ℕ) (x y : X) → Rises (map f xs) → slice_get xs i ≡ Some x → slice_get xs j ≡ Some y → f y ≡ f x → i ≤ j
+first_place f xs i j x y h first second same = elim (cases_lt j i) [
+  | inl less ↦ let before = rises-places f xs j i y x h second first less in absurd (omega arith)
+  | inr le ↦ le
+]
+
 -- ---- numbers of a list that rise, each once
 
 abbrev pub AreIn : List ℕ → List ℕ → Type 0
@@ -102,7 +109,7 @@ members_later : (a : ℕ) (all ns : List ℕ) → AllByRecursion (λ m. a < m) n
 members_later a all [] above h = tt
 members_later a all (n ∷ ns) above h = (elim (member-cases a n all h.0) [ inl same ↦ let low = above.0 in absurd (omega arith) | inr later ↦ later ], members_later a all ns above.1 h.1)
 
-members_more : (a : ℕ) (all ns : List ℕ) → AllByRecursion (λ n. is_member nat_eq all n ≡ true) ns → AllByRecursion (λ n. is_member nat_eq (a ∷ all) n ≡ true) ns
+pub members_more : (a : ℕ) (all ns : List ℕ) → AllByRecursion (λ n. is_member nat_eq all n ≡ true) ns → AllByRecursion (λ n. is_member nat_eq (a ∷ all) n ≡ true) ns
 members_more a all [] h = tt
 members_more a all (n ∷ ns) h = (member-later a n all h.0, members_more a all ns h.1)
 
@@ -171,3 +178,30 @@ numbers_among (a ∷ all) (n ∷ ns) up h = elim (cases_eq n a) [
       let inside = (first_not_in a n all ns up other).0 h in
       among_later a n all ns up inside (numbers_among all (n ∷ ns) up.1 inside)
 ]
+
+-- each of a list is a member of it
+pub own_members : (ns : List ℕ) → AllByRecursion (λ n. is_member nat_eq ns n ≡ true) ns
+own_members [] = tt
+own_members (n ∷ ns) = (member-here n ns, members_more n ns ns (own_members ns))
+
+-- the least of two lists with the same members is the same
+same_first : (n m : ℕ) (ns ms : List ℕ) → Rises (n ∷ ns) → Rises (m ∷ ms) → is_member nat_eq (m ∷ ms) n ≡ true → is_member nat_eq (n ∷ ns) m ≡ true → n ≡ m
+same_first n m ns ms a b f g = elim (member-cases m n ms f) [
+  | inl same ↦ same
+  | inr later ↦ elim (member-cases n m ns g) [
+    | inl same ↦ sym same
+    | inr more ↦ let one = above-member m n ms b.0 later in let other = above-member n m ns a.0 more in absurd (omega arith)
+  ]
+]
+
+-- two lists that rise and have the same members are one
+pub same_members : (ns ms : List ℕ) → Rises ns → Rises ms → AllByRecursion (λ n. is_member nat_eq ms n ≡ true) ns → AllByRecursion (λ n. is_member nat_eq ns n ≡ true) ms → ns ≡ ms
+same_members [] [] a b f g = refl
+same_members [] (m ∷ ms) a b f g = absurd (let none = g.0 in cc)
+same_members (n ∷ ns) [] a b f g = absurd (let none = f.0 in cc)
+same_members (n ∷ ns) (m ∷ ms) a b f g =
+    let first : n ≡ m = same_first n m ns ms a b f.0 g.0 in
+    let above : AllByRecursion (λ k. m < k) ns = subst (λ l. AllByRecursion (λ k. l < k) ns) first a.0 in
+    let above' : AllByRecursion (λ k. n < k) ms = subst (λ l. AllByRecursion (λ k. l < k) ms) (sym first) b.0 in
+    let rest = same_members ns ms a.1 b.1 (members_later m ms ns above f.1) (members_later n ns ms above' g.1) in
+    ap (λ l. l ∷ ns) first ∙ ap (λ xs. m ∷ xs) rest

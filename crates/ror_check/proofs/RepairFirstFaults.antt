@@ -1,14 +1,15 @@
 -- That a refusal of a repair names the first test that fails, and that what is refused is not proved.
-use Rattle.std.proofs.Common.{◌≡◌, ◌≢◌, ℕ, ◌<◌, List, Result, Ok, Err, refl, sym, ap, subst, ◌∙◌, arith, inl, inr}
-use Rattle.std.specs.Prelude.{IfErr, OnOk}
+use Rattle.std.proofs.Common.{◌≡◌, ◌≢◌, ℕ, ◌<◌, ◌≤◌, List, Some, Result, Ok, Err, refl, sym, ap, subst, ◌∙◌, arith, inl, inr}
+use Rattle.std.specs.Prelude.{IfErr, OnOk, slice_get}
 use Rattle.ror_text.specs.FirstFault.{IsFirst, IsRefusedBy}
-use Rattle.ror_text.proofs.FirstFaultLemmas.{not_earlier, refused_not_passed}
+use Rattle.ror_text.proofs.FirstFaultLemmas.{first_at, not_earlier, refused_not_passed}
 use Rattle.ror_statement.specs.declared.statement.Numbered.{Numbered}
 use Rattle.ror_statement.specs.declared.statement.Statement.{Statement}
 use Rattle.ror_table.specs.Table.{DecisionTable}
 use Rattle.ror_value.specs.Over.{IsLawfulIn}
 use Rattle.ror_system.specs.System.{LinearSystem}
 use Rattle.ror_system.specs.declared.reject.Reject.{Reject}
+use Rattle.ror_system.proofs.Reasons.{one_solution_reason, one_multiplier_reason}
 use Rattle.ror_system.proofs.SolutionTests as solutions
 use Rattle.ror_system.proofs.MultiplierTests as multipliers
 use Rattle.ror_proof.specs.declared.answer.Certificate.{Certificate}
@@ -21,7 +22,7 @@ use Rattle.ror_check.specs.Proof.{base_system}
 use Rattle.ror_check.specs.Faults.{IsRejectedFor}
 use Rattle.ror_check.specs.Steps.{IsAcceptedFor}
 use Rattle.ror_check.specs.Repair.{AreRefuted, statements_in, AreNumbersIn, kept_of, kept_with, IsRepair, numbers_of, IsBaseKind, IsProvedRepair}
-use Rattle.ror_check.specs.RepairFaults.{FailsDropped, FailsRepair, repair_stage, repair_place, IsEarlierRepairFault}
+use Rattle.ror_check.specs.RepairFaults.{FailsDropped, FailsRepair, IsRefutationRejected, repair_stage, repair_place, IsEarlierRepairFault}
 use Rattle.ror_check.specs.RepairSteps.{RefusesDropped, RefusesBaseOf}
 use Rattle.ror_check.proofs.Repairs.{proved_is_repair}
 
@@ -112,6 +113,49 @@ module _ (t : DecisionTable) (list : List Numbered) (x : Kept) where
     refuted = refuted;
     base = subst (λ xs. IsAcceptedFor (base_system t xs) x.base) is base;
   }
+
+-- ---- a repair has one first fault
+
+pub one_reason : (s : LinearSystem) (body : Certificate) (q r : Reject) → IsRejectedFor s body q → IsRejectedFor s body r → q ≡ r
+one_reason s (certificates.Solution x) q r first second = one_solution_reason s x.steps q r first second
+one_reason s (certificates.Multipliers m) q r first second = one_multiplier_reason s m.weak m.strict q r first second
+
+one_found : {A : Type 0} (xs : List A) (i j : ℕ) (x y : A) → i ≤ j → j ≤ i → slice_get xs i ≡ Some x → slice_get xs j ≡ Some y → y ≡ x
+one_found xs i j x y le ge first second =
+    let place : j ≡ i = omega arith in
+    let both : Some y ≡ Some x = sym (subst (λ k. slice_get xs k ≡ Some y) place second) ∙ first in
+    cc
+
+one_dropped_reason : (t : DecisionTable) (list : List Numbered) (ds : List Dropped) (n : ℕ) (q r : Reject) → FailsDropped t list ds n q → FailsDropped t list ds n r → q ≡ r
+one_dropped_reason t list ds n q r f g =
+    let at = f.dropped_first g.dropped_at g.dropped g.dropped_there g.dropped_number in
+    let at' = g.dropped_first f.dropped_at f.dropped f.dropped_there f.dropped_number in
+    let dropped : g.dropped ≡ f.dropped = one_found ds f.dropped_at g.dropped_at f.dropped g.dropped at at' f.dropped_there g.dropped_there in
+    let le = f.statement_first g.statement_at g.statement g.statement_there g.statement_number in
+    let ge = g.statement_first f.statement_at f.statement f.statement_there f.statement_number in
+    let place : g.statement_at ≡ f.statement_at = omega arith in
+    let statement : g.statement ≡ f.statement = one_found list f.statement_at g.statement_at f.statement g.statement le ge f.statement_there g.statement_there in
+    let over : ℕ → Numbered → Dropped → Type 0 = λ k s d. IsRefutationRejected t (kept_with (numbers_of ds) list k s) d r in
+    let here : over f.statement_at f.statement f.dropped = subst (λ d. over f.statement_at f.statement d) dropped (subst (λ s. over f.statement_at s g.dropped) statement (subst (λ k. over k g.statement g.dropped) place g.rejected)) in
+    one_multiplier_reason (base_system t (kept_with (numbers_of ds) list f.statement_at f.statement)) f.dropped.proof.weak f.dropped.proof.strict q r f.rejected here
+
+module _ (t : DecisionTable) (list : List Numbered) (x : Kept) where
+  one_of_stage : (f g : RepairCheckFault) → FailsRepair t list x f → FailsRepair t list x g → repair_stage f ≡ repair_stage g → repair_place f ≡ repair_place g → f ≡ g
+  one_of_stage faults.Memory g first second stage place = absurd first
+  one_of_stage f faults.Memory first second stage place = absurd second
+  one_of_stage faults.WrongList faults.WrongList first second stage place = refl
+  one_of_stage faults.WrongKind faults.WrongKind first second stage place = refl
+  one_of_stage (faults.Dropped n q) (faults.Dropped m r) first second stage place =
+      let here = subst (λ k. FailsDropped t list x.dropped k r) (sym place) second in
+      ap (λ k. faults.Dropped k q) place ∙ ap (λ y. faults.Dropped m y) (one_dropped_reason t list x.dropped n q r first here)
+  one_of_stage (faults.Base q) (faults.Base r) first second stage place =
+      ap (λ y. faults.Base y) (one_reason (base_system t (statements_in (kept_of (numbers_of x.dropped) list))) x.base q r first second)
+  one_of_stage f g first second stage place = absurd (omega arith)
+
+  pub one_repair_fault : (f g : RepairCheckFault) → IsFirst (FailsRepair t list x) IsEarlierRepairFault f → IsFirst (FailsRepair t list x) IsEarlierRepairFault g → f ≡ g
+  one_repair_fault f g first second =
+      let at = first_at (FailsRepair t list x) repair_stage repair_place f g first second in
+      one_of_stage f g first.fails second.fails at.0 at.1
 
 -- ---- the answer of a check, once the dropped statements are accepted
 

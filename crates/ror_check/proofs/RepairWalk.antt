@@ -22,7 +22,7 @@ use Rattle.ror_check.specs.Repair.{AreRefuted, numbers_in, statements_in, AreNum
 use Rattle.ror_check.specs.RepairFaults.{FailsDropped}
 use Rattle.ror_check.specs.RepairSteps.{AreRefutedBefore, RefusesOne, RefusesDropped}
 use Rattle.ror_check.proofs.Checking.{some_same}
-use Rattle.ror_check.proofs.Numbers.{member-at, Rises, rises, increases, AreIn, first_in, first_not_in, numbers_among, lesser_earlier, same_number}
+use Rattle.ror_check.proofs.Numbers.{first_place, member-at, Rises, rises, increases, AreIn, first_in, first_not_in, numbers_among, lesser_earlier, same_number}
 use Rattle.ror_check.proofs.Repairs.{kept_more, dropped_more, listed_are}
 
 abbrev dropped_number : Dropped → ℕ
@@ -255,10 +255,10 @@ module _ (t : DecisionTable) (list : List Numbered) (ds : List Dropped) (i place
       rest : numbers_of (drop (suc place) ds) ≡ filter (is_member nat_eq (numbers_of ds)) (numbers_in (drop (suc i) list))
       rest = let e : d.number ∷ numbers_of (drop (suc place) ds) ≡ s.number ∷ filter (is_member nat_eq (numbers_of ds)) (numbers_in (drop (suc i) list)) = sym (ap numbers_of (drop-there ds place d there)) ∙ w.left ∙ left_where true among in cc
 
-  pub walk_refuses : (d : Dropped) (e : RepairCheckFault) → Rises (numbers_in list) → slice_get ds place ≡ Some d → d.number ≡ s.number → RefusesOne t (kept ++ s.statement ∷ []) d e → RefusesDropped t list ds e
-  walk_refuses d faults.WrongList up there same h = h
-  walk_refuses d faults.WrongKind up there same h = h
-  walk_refuses d (faults.Dropped n r) up there same h = (fails, none)
+  pub walk_refuses : (d : Dropped) (e : RepairCheckFault) → Rises (numbers_in list) → Rises (numbers_of ds) → slice_get ds place ≡ Some d → d.number ≡ s.number → RefusesOne t (kept ++ s.statement ∷ []) d e → RefusesDropped t list ds e
+  walk_refuses d faults.WrongList up rising there same h = h
+  walk_refuses d faults.WrongKind up rising there same h = h
+  walk_refuses d (faults.Dropped n r) up rising there same h = (fails, none)
     where
       fails : FailsDropped t list ds n r
       fails = record {
@@ -266,10 +266,12 @@ module _ (t : DecisionTable) (list : List Numbered) (ds : List Dropped) (i place
         dropped_at = place;
         dropped_there = there;
         dropped_number = sym h.0;
+        dropped_first = λ j other at number. first_place dropped_number ds place j d other rising there at (number ∙ h.0);
         statement = s;
         statement_at = i;
         statement_there = here;
         statement_number = sym same ∙ sym h.0;
+        statement_first = λ k other at number. first_place standing_number list i k s other up here at (number ∙ h.0 ∙ same);
         rejected = (subst (λ xs. RefusesOne t xs d (faults.Dropped n r)) walk_here h).1;
       }
 
@@ -280,8 +282,8 @@ module _ (t : DecisionTable) (list : List Numbered) (ds : List Dropped) (i place
           let before = lesser_earlier standing_number list f.statement_at i f.statement s up f.statement_there here (omega (arith, number, own, same, less)) in
           multipliers.not_accepted (base_system t (kept_with (numbers_of ds) list f.statement_at f.statement)) f.dropped.proof.weak f.dropped.proof.strict q f.rejected
           (w.refuted f.dropped_at f.statement_at f.dropped f.statement before f.dropped_there f.statement_there (f.dropped_number ∙ sym number))
-  walk_refuses d (faults.Base r) up there same h = h
-  walk_refuses d faults.Memory up there same h = tt
+  walk_refuses d (faults.Base r) up rising there same h = h
+  walk_refuses d faults.Memory up rising there same h = tt
 
 pub walk_ends : (t : DecisionTable) (list : List Numbered) (ds : List Dropped) (i place : ℕ) (kept : List Statement) → Walked t list ds i place kept → length list ≤ i → (kept ≡ statements_in (kept_of (numbers_of ds) list)) × AreRefuted t list ds
 walk_ends t list ds i place kept w end =

@@ -2,11 +2,9 @@
 use Rattle.std.proofs.Common.{◌≡◌, ◌≢◌, ◌↔◌, ◌⊎◌, inl, inr, ℕ, zero, suc, Bool, true, false, List, [], ◌∷◌, ◌++◌, take, drop, length, Option, Some, None, refl, sym, ap, subst, ◌∙◌, arith}
 use Rattle.std.specs.Prelude.{slice_get, nat_eq, not}
 use Rattle.std.specs.List.{AllByRecursion, filter}
-use Rattle.std.specs.List.Sorted.{IsStrictlyIncreasing}
 use Rattle.std.specs.Set.{is_member}
 use Rattle.std.proofs.lemmas.Bool.{cases_Bool, false≢true}
 use Rattle.std.proofs.lemmas.List.Elements.{filter-append}
-use Rattle.ror_text.proofs.Everywhere.{all-map, all_by_places}
 use Rattle.ror_statement.specs.declared.statement.Numbered.{Numbered}
 use Rattle.ror_statement.proofs.Sublists.{IsSublist, sublist-all, sublist-append, sublist-map, sublist-with, sublist-kept, sublist-filter, lawful-sublist}
 use Rattle.ror_table.specs.Table.{DecisionTable}
@@ -23,7 +21,7 @@ use Rattle.ror_check.specs.Proof.{base_system}
 use Rattle.ror_check.specs.Steps.{IsAcceptedFor}
 use Rattle.ror_check.specs.Repair.{numbers_in, statements_in, AreNumbersIn, is_among, kept_of, kept_with, IsRepair, numbers_of, IsBaseKind, IsProvedRepair}
 use Rattle.ror_check.specs.Laws.{IsMaximalRepair}
-use Rattle.ror_check.proofs.Numbers.{member-here, at-member, Rises, rises, AreIn, numbers_among, filter-alike}
+use Rattle.ror_check.proofs.Numbers.{member-here, at-member, rises, AreIn, own_members, same_members}
 
 -- ---- parts of a list
 
@@ -120,17 +118,23 @@ module _ (t : DecisionTable) (list : List Numbered) (ns ms : List ℕ) (r : IsRe
   alike_before zero = refl
   alike_before (suc k) = alike_next k (slice_get list k) refl (alike_before k)
 
-  alike : AllByRecursion (λ x. is_among ns x ≡ is_among ms x) list
-  alike = all_by_places (λ x. is_among ns x ≡ is_among ms x) list (λ k x there. alike_at k x there (alike_before k))
+  -- what is dropped in the one way is dropped in the other
+  dropped_alike : (xs : List ℕ) → AllByRecursion (λ n. is_member nat_eq (numbers_in list) n ≡ true) xs → AllByRecursion (λ n. is_member nat_eq ns n ≡ true) xs → AllByRecursion (λ n. is_member nat_eq ms n ≡ true) xs
+  dropped_alike [] stand among = tt
+  dropped_alike (n ∷ xs) stand among =
+      let at = at-member (λ (x : Numbered). x.number) list n stand.0 in
+      let same = alike_at at.0 at.1 at.2 (alike_before at.0) in
+      let here : is_member nat_eq ns at.1.number ≡ true = subst (λ m. is_member nat_eq ns m ≡ true) (sym at.3) among.0 in
+      (subst (λ m. is_member nat_eq ms m ≡ true) at.3 (sym same ∙ here), dropped_alike xs stand.1 among.1)
 
 pub listed_are : (list : List Numbered) (ns : List ℕ) → AreNumbersIn list ns → AreIn (numbers_in list) ns
 listed_are list ns h = (rises ns h.rising, h.each_stands)
 
-pub one_repair : (t : DecisionTable) (list : List Numbered) (ns ms : List ℕ) → IsStrictlyIncreasing (numbers_in list) → IsRepair t list ns → IsRepair t list ms → ns ≡ ms
-one_repair t list ns ms up r q =
-    let all : Rises (numbers_in list) = rises (numbers_in list) up in
-    let same : AllByRecursion (λ n. is_member nat_eq ns n ≡ is_member nat_eq ms n) (numbers_in list) = (all-map (λ n. is_member nat_eq ns n ≡ is_member nat_eq ms n) (λ (x : Numbered). x.number) list).0 (alike t list ns ms r q) in
-    sym (numbers_among (numbers_in list) ns all (listed_are list ns r.numbers)) ∙ filter-alike (is_member nat_eq ns) (is_member nat_eq ms) (numbers_in list) same ∙ numbers_among (numbers_in list) ms all (listed_are list ms q.numbers)
+pub one_repair : (t : DecisionTable) (list : List Numbered) (ns ms : List ℕ) → IsRepair t list ns → IsRepair t list ms → ns ≡ ms
+one_repair t list ns ms r q =
+    same_members ns ms (rises ns r.numbers.rising) (rises ms q.numbers.rising)
+    (dropped_alike t list ns ms r q ns r.numbers.each_stands (own_members ns))
+    (dropped_alike t list ms ns q r ms q.numbers.each_stands (own_members ms))
 
 -- ---- as much as can be kept
 

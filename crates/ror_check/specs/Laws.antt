@@ -1,6 +1,5 @@
 -- Laws of proofs: they are true, and pass each test. Laws of repairs: a list has one, and it keeps as much as it can.
 use Rattle.std.specs.Prelude.{◌≡◌, ◌≢◌, ◌↔◌, ℕ, suc, true, List, [], ◌∷◌, ◌++◌, take, drop, slice_get, Some}
-use Rattle.std.specs.List.Sorted.{IsStrictlyIncreasing}
 use Rattle.ror_statement.specs.declared.statement.Statement.{Statement}
 use Rattle.ror_statement.specs.declared.statement.Numbered.{Numbered}
 use Rattle.ror_statement.specs.declared.question.Question.{Question}
@@ -13,7 +12,7 @@ use Rattle.ror_check.specs.declared.fault.CheckFault.{CheckFault}
 use Rattle.ror_check.specs.Proof.{IsProvedAnswer, IsTrueVerdict}
 use Rattle.ror_check.specs.Faults.{FailsAnswer}
 use Rattle.ror_check.specs.declared.fault.RepairCheckFault.{RepairCheckFault}
-use Rattle.ror_check.specs.Repair.{numbers_in, statements_in, is_among, kept_of, IsRepair, numbers_of, IsProvedRepair}
+use Rattle.ror_check.specs.Repair.{statements_in, is_among, kept_of, IsRepair, numbers_of, IsProvedRepair}
 use Rattle.ror_check.specs.RepairFaults.{FailsRepair}
 
 abbrev pub ProofsAreTrue : Type 0
@@ -27,10 +26,10 @@ ProvedPassesEachTest = (t : DecisionTable) (list : List Statement) (q : Question
 
 -- ---- repairs
 
--- the statements of a list whose numbers rise are repaired in one way
+-- the statements of a list are repaired in one way
 abbrev pub OneRepair : Type 0
 OneRepair = (t : DecisionTable) (list : List Numbered) (ns ms : List ℕ)
-    → IsStrictlyIncreasing (numbers_in list) → IsRepair t list ns → IsRepair t list ms → ns ≡ ms
+    → IsRepair t list ns → IsRepair t list ms → ns ≡ ms
 
 -- What is kept is consistent, where anything is. No dropped statement can be put back at its place among all that is kept.
 -- A consistent list loses nothing.

@@ -1,5 +1,5 @@
 -- Each test of a repair's proof that may fail, and their order.
-use Rattle.std.specs.Prelude.{◌≡◌, ℕ, List, slice_get, Some}
+use Rattle.std.specs.Prelude.{◌≡◌, ℕ, ◌≤◌, List, slice_get, Some}
 use Rattle.ror_text.specs.FirstFault.{IsFirst, IsEarlier}
 use Rattle.ror_statement.specs.declared.statement.Numbered.{Numbered}
 use Rattle.ror_statement.specs.declared.statement.Statement.{Statement}
@@ -20,17 +20,20 @@ IsRefutationRejected t list d r =
     IsFirst (FailsMultipliers (base_system t list) d.proof.weak d.proof.strict) IsEarlierTest r
 
 -- The multipliers of the dropped statement with this number are not accepted for this reason, for the system of those kept
--- before it and itself.
+-- before it and itself. Were there several with the number, the first would count.
 pub record FailsDropped (t : DecisionTable) (list : List Numbered) (ds : List Dropped) (n : ℕ)
     (r : Reject) : Type 0 where
   pub dropped : Dropped
   pub dropped_at : ℕ
   pub dropped_there : slice_get ds dropped_at ≡ Some dropped
   pub dropped_number : dropped.number ≡ n
+  pub dropped_first : (j : ℕ) (d : Dropped) → slice_get ds j ≡ Some d → d.number ≡ n → dropped_at ≤ j
   pub statement : Numbered
   pub statement_at : ℕ
   pub statement_there : slice_get list statement_at ≡ Some statement
   pub statement_number : statement.number ≡ n
+  pub statement_first : (k : ℕ) (s : Numbered) → slice_get list k ≡ Some s → s.number ≡ n
+      → statement_at ≤ k
   pub rejected : IsRefutationRejected t (kept_with (numbers_of ds) list statement_at statement)
       dropped r
 

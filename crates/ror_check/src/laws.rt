@@ -12,7 +12,7 @@ pub fn proved_passes_each_test()
     ensures { ProvedPassesEachTest }
 {}
 
-/// A list whose numbers rise has one repair.
+/// A list has one repair.
 pub fn one_repair()
     ensures { OneRepair }
 {}

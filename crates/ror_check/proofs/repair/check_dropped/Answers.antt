@@ -69,7 +69,7 @@ returns-in_err-check_refutation-clause-err c =
     let pushed : c.push.new.self.items ≡ kept ++ s.0.statement ∷ [] = c.in_ok-push.ensures.items ∙ ap (λ (x : Numbered). kept ++ x.statement ∷ []) (s.2 _) in
     let is = c.as_slice.ensures.value ∙ pushed in
     let exit = err_from_is_err_and c.from_residual-in_err-check_refutation.result c.from_residual-in_err-check_refutation.ensures.1 in
-    rw (exit.1, exit.2) (walk_refuses t list ds i place kept c.loop-numbered.invariant s.0 s.1 c.in-Some.next.now c.in_err-check_refutation.field-0.0 (rises _ c.requires.rising) next (c.if-next-numbered.false ∙ ap (λ (x : Numbered). x.number) (s.2 _))
+    rw (exit.1, exit.2) (walk_refuses t list ds i place kept c.loop-numbered.invariant s.0 s.1 c.in-Some.next.now c.in_err-check_refutation.field-0.0 (rises _ c.requires.rising) (rises (numbers_of ds) c.requires.numbers.rising) next (c.if-next-numbered.false ∙ ap (λ (x : Numbered). x.number) (s.2 _))
     (subst (λ xs. RefusesOne t xs c.in-Some.next.now c.in_err-check_refutation.field-0.0) is c.in_err-check_refutation.ensures.err))
 
 pub loop-numbered-preserved : goal.loop-numbered-preserved
