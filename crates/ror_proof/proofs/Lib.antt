@@ -9,6 +9,7 @@ pub mod AnswerLemmas
 pub mod WordFaults
 pub mod QuestionFaults
 pub mod LineFaults
+pub mod WideLines
 pub mod RepairLemmas
 pub mod RepairFaults
 pub mod Utf8Lemmas

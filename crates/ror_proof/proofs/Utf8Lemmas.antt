@@ -155,7 +155,7 @@ pivots_are_texts [] printable = tt
 pivots_are_texts (p ∷ ps) printable =
     (IsUtf8-append (decimal p.column) (58 ∷ decimal p.row) (decimal_is_utf8 p.column (omega (arith, printable.0.column))) (IsUtf8-append (58 ∷ []) (decimal p.row) (ascii_is_utf8 (58 ∷ []) refl) (decimal_is_utf8 p.row (omega (arith, printable.0.row)))), pivots_are_texts ps printable.1)
 
-wide_is_utf8 : (system : ℕ) (note : WideText) → IsPrintableNote system note → IsUtf8 (wide_text system note)
+pub wide_is_utf8 : (system : ℕ) (note : WideText) → IsPrintableNote system note → IsUtf8 (wide_text system note)
 wide_is_utf8 system note printable =
     let place : AreTexts (place_words note.place) = (place_word_is_text (place_name note.place), small_numbers_are_texts (place_numbers note.place) printable.place) in
     let path : AreTexts (codes "path" ∷ map pivot_word note.path) = (ascii_is_utf8 (codes "path") refl, pivots_are_texts note.path printable.path) in

@@ -30,6 +30,8 @@ pub data Expected : Type 0 where
   a_certificate : Expected
   -- the number of a system or the like
   a_small_number : Expected
+  -- this number
+  the_number : ℕ → Expected
   -- a number, or the line's end
   a_number : Expected
   -- a number or `|`
@@ -51,6 +53,7 @@ MayStand t an_id word = Contains (alternative_ids t) word
 MayStand t a_criterion word = Contains (criterion_ids t) word
 MayStand t a_certificate word = (word ≡ codes "solution") ⊎ (word ≡ codes "multipliers")
 MayStand t a_small_number word = (n : ℕ) × (n < 2 ^ 32) × (word ≡ decimal n)
+MayStand t (the_number n) word = word ≡ decimal n
 MayStand t a_number word = IsNumber word
 MayStand t a_number_or_bar word = (word ≡ codes "|") ⊎ IsNumber word
 MayStand t a_pivot word = (p : Pivot) × IsPrintablePivot p × (word ≡ pivot_word p)
@@ -72,6 +75,7 @@ number_fault (byte ∷ bytes) place = BadNumber place
 -- place
 abbrev pub fault_of_word : Expected → List ℕ → ℕ → ProofFault
 fault_of_word a_small_number word place = number_fault word place
+fault_of_word (the_number n) word place = number_fault word place
 fault_of_word a_number word place = number_fault word place
 fault_of_word a_number_or_bar word place = number_fault word place
 fault_of_word _ word place = BadLine place
@@ -189,6 +193,11 @@ expected_note (word ∷ words) =
 -- `wide SYSTEM PLACE path PIVOT ..`
 abbrev pub expected_wide : List (List ℕ) → List Expected
 expected_wide words = the_word (codes "wide") ∷ a_small_number ∷ expected_note (drop 2 words)
+
+-- the same of this system
+abbrev pub expected_wide_of : ℕ → List (List ℕ) → List Expected
+expected_wide_of system words =
+    the_word (codes "wide") ∷ the_number system ∷ expected_note (drop 2 words)
 
 -- `repaired COUNT`
 abbrev pub expected_repaired : List (List ℕ) → List Expected

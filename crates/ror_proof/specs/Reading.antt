@@ -27,7 +27,7 @@ use Rattle.ror_proof.specs.declared.read.ProofFault.{ProofFault}
 use Rattle.ror_proof.specs.declared.read.ProofFault.TheVariants as faults
 use Rattle.ror_proof.specs.Names.{place_word, place_names, verdict_word, verdict_names}
 use Rattle.ror_proof.specs.Questions.{question_at}
-use Rattle.ror_proof.specs.Words.{first_word, after_word, name_at, no_more, small_number_at, numbers_at, numbers_before_bar, pivots_at}
+use Rattle.ror_proof.specs.Words.{first_word, after_word, name_at, no_more, small_number_at, the_number_at, numbers_at, numbers_before_bar, pivots_at}
 
 -- the fault that an error names: none for want of memory
 abbrev pub proof_fault : ProofFault → Option ProofFault
@@ -139,6 +139,13 @@ wide_words place words = do
   note ← note_at place system.1
   Ok (system.0, note)
 
+-- the same of this system
+unfoldable pub wide_words_of : ℕ → ℕ → List (List ℕ) → Result WideText ProofFault
+wide_words_of system place words = do
+  more ← after_word place (codes "wide") words
+  note ← the_number_at place system more
+  note_at place note
+
 unfoldable pub repaired_words : ℕ → List (List ℕ) → Result ℕ ProofFault
 repaired_words place words = do
   more ← after_word place (codes "repaired") words
@@ -175,6 +182,9 @@ part_line c = ended c (part_words c.place (line_words c))
 
 abbrev pub wide_line : Cursor → Result ((ℕ × WideText) × Cursor) ProofFault
 wide_line c = ended c (wide_words c.place (line_words c))
+
+abbrev pub wide_line_of : ℕ → Cursor → Result (WideText × Cursor) ProofFault
+wide_line_of system c = ended c (wide_words_of system c.place (line_words c))
 
 abbrev pub repaired_line : Cursor → Result (ℕ × Cursor) ProofFault
 repaired_line c = ended c (repaired_words c.place (line_words c))

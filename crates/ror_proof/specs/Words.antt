@@ -1,6 +1,6 @@
 -- The words of a report's line, read one by one from the left: the value of each, or the line's
 -- first fault.
-use Rattle.std.specs.Prelude.{ℕ, ◌+◌, List, [], ◌∷◌, length, take, drop, position, Option, Result, Ok, Err, ℤ, codes, ◌==◌, if◌then◌else◌}
+use Rattle.std.specs.Prelude.{ℕ, ◌+◌, not, List, [], ◌∷◌, length, take, drop, position, Option, Result, Ok, Err, ℤ, codes, ◌==◌, if◌then◌else◌}
 use Rattle.std.specs.Option.{option_map}
 use Rattle.std.specs.Str.{bytes_eq}
 use Rattle.ror_text.specs.Numbers.{number_of, small_number_of}
@@ -49,6 +49,13 @@ small_number_at place words = do
   word ← first_word place words
   number ← number_in small_number_of place word.0
   Ok (number, word.1)
+
+-- the words after this number, which has to come first; any other is a bad number
+unfoldable pub the_number_at : ℕ → ℕ → List (List ℕ) → Result (List (List ℕ)) ProofFault
+the_number_at place expected words = do
+  number ← small_number_at place words
+  _ ← refuse (BadNumber place) (not (number.0 == expected))
+  Ok number.1
 
 -- the bytes before the first `:`, and those after it
 abbrev pub split_pivot : List ℕ → Option (List ℕ × List ℕ)

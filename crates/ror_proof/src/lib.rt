@@ -12,8 +12,8 @@ pub mod words;
 
 pub use answer::{Answer, Certificate, Part, Pivot, PlaceText, Proof, Verdict, WideText};
 pub use kept::{Dropped, Kept};
-pub use print::{print_answer, print_kept, write_answer, write_kept};
-pub use read::{ProofFault, read_answer, read_kept};
+pub use print::{print_answer, print_kept, write_answer, write_kept, write_wide};
+pub use read::{ProofFault, read_answer, read_kept, read_wide};
 
 #[cfg(test)]
 mod tests;

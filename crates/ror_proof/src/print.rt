@@ -284,8 +284,9 @@ fn write_multipliers(text: &mut Vec<u8>, multipliers: &Multipliers) -> Result<()
     write_numbers(text, multipliers.strict.as_slice())
 }
 
-/// The line of a number too wide.
-fn write_wide(text: &mut Vec<u8>, system: u32, note: &WideText) -> Result<(), AllocError>
+/// Writes the line of a number too wide on the way to the certificate of this system behind what is
+/// there, which stays in front also where memory runs out.
+pub fn write_wide(text: &mut Vec<u8>, system: u32, note: &WideText) -> Result<(), AllocError>
     ensures ok { OnOk result (text.new.items ≡ text.old.items ++ wide_text system note.now) }
     ensures front { StandsInFront text.old.items text.new.items }
 {

@@ -5,7 +5,7 @@ ghost use Rattle.ror_text.specs.Reading.{Gives};
 ghost use Rattle.ror_text.specs.Cursor.{cursor_at};
 ghost use Rattle.ror_proof.specs.Text.{IsNarrowKept, IsNarrowVerdict};
 ghost use Rattle.ror_proof.specs.Reading as reading;
-ghost use Rattle.ror_proof.specs.Reading.{answer_at, kept_at, proof_fault, IsProofFaultWithin};
+ghost use Rattle.ror_proof.specs.Reading.{answer_at, kept_at, wide_line_of, proof_fault, IsProofFaultWithin};
 
 use crate::answer::{Answer, Certificate, Part, PlaceText, Proof, Verdict, WideText};
 use crate::kept::{Dropped, Kept};
@@ -13,6 +13,7 @@ use crate::names::{PLACE_NAMES, PlaceName, VERDICT_NAMES, VerdictName};
 use crate::questions::question_at;
 use crate::words::{
     after_word, name_at, no_more, numbers_at, numbers_before_bar, pivots_at, small_number_at,
+    the_number_at,
 };
 use ror_statement::Question;
 use ror_system::{Multipliers, Solution};
@@ -238,6 +239,30 @@ fn wide_line(alloc: Global, bytes: &[u8], from: usize) -> Result<(u32, WideText,
     let note = note_at(alloc, from, words)?;
     let next = need(next, ProofFault::BadLine(from))?;
     Ok((system, note, next))
+}
+
+/// Reads the line that begins at a place: of a number too wide on the way to the certificate of this
+/// system, for which another system there is a bad number. Says where the next line begins.
+#[tactic(auto, using(crate::proofs::Places::placed_on), unfolding(crate::specs::Reading::wide_words_of, crate::specs::Reading::ended))]
+pub fn read_wide(
+    alloc: Global,
+    system: u32,
+    bytes: &[u8],
+    from: usize,
+) -> Result<(WideText, usize), ProofFault>
+    requires { from ≤ length bytes.now }
+    ensures exact { Gives (λ x. (x.0, cursor_at bytes.now x.1)) proof_fault result
+        (wide_line_of system (cursor_at bytes.now from)) }
+    ensures onward { IfOk result (λ x. from < x.1) }
+    ensures within { IfOk result (λ x. x.1 ≤ length bytes.now) }
+    ensures placed { IfErr result (IsProofFaultWithin (length bytes.now)) }
+{
+    let (line, next) = line_at(bytes, from);
+    let words = after_word(from, b"wide", Words::of(line))?;
+    let words = the_number_at(from, system, words)?;
+    let note = note_at(alloc, from, words)?;
+    let next = need(next, ProofFault::BadLine(from))?;
+    Ok((note, next))
 }
 
 /// Reads the repair whose text begins at a place, and says where it ends.

@@ -5,6 +5,7 @@ ghost use Rattle.ror_proof.specs.Text.{IsNarrowVerdict};
 
 use crate::{
     Answer, PlaceText, ProofFault, Verdict, print_answer, print_kept, read_answer, read_kept,
+    read_wide, write_wide,
 };
 use ror_statement::{Pair, Question, Scope, valid_question};
 use ror_table::{Table, read_plain};
@@ -177,6 +178,21 @@ fn a_repair_is_read_and_printed_again(rt: HostRuntime) -> Result<(), Fail> {
     assert!(rt; next == 63);
     assert!(rt; kept.dropped.len() == 1);
     assert!(rt; printed.as_slice() == text.as_slice());
+    Ok(())
+}
+
+#[test]
+fn a_wide_line_of_one_system_is_read_and_printed_again(rt: HostRuntime) -> Result<(), Fail> {
+    let text = b"wide 2 rowsum 6 path 5:4\n";
+    let (note, next) = read_wide(rt.alloc(), 2, text, 0)
+        .ok()
+        .ok_or("this is a wide line")?;
+    let mut printed = Vec::new(rt.alloc());
+    write_wide(&mut printed, 2, &note)?;
+    assert!(rt; next == 25);
+    assert!(rt; printed.as_slice() == text.as_slice());
+    let other = read_wide(rt.alloc(), 1, b"wide 2 frob\n", 0);
+    assert!(rt; matches!(other, Err(ProofFault::BadNumber(0))));
     Ok(())
 }
 

@@ -75,6 +75,22 @@ pub fn small_number_at<'a>(place: usize, words: Words<'a>) -> Result<(u32, Words
     }
 }
 
+/// The words after this number, which has to come first; any other is a bad number.
+#[tactic(auto, unfolding(crate::specs::Words::the_number_at))]
+pub(crate) fn the_number_at<'a>(
+    place: usize,
+    expected: u32,
+    words: Words<'a>,
+) -> Result<Words<'a>, ProofFault>
+    ensures exact { Gives (λ rest. rest) proof_fault result
+        (spec.the_number_at place expected words.entry) }
+    ensures placed { IfErr result (IsProofFaultWithin place) }
+{
+    let (number, rest) = small_number_at(place, words)?;
+    refuse_if(number != expected, ProofFault::BadNumber(place))?;
+    Ok(rest)
+}
+
 /// The numbers up to the end of the line.
 pub(crate) fn numbers_at(
     alloc: Global,
