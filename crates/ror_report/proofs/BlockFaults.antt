@@ -15,18 +15,18 @@ use Rattle.ror_proof.proofs.LineFaults.{answer_err, answer_fails}
 use Rattle.ror_report.specs.declared.block.Block.{Block}
 use Rattle.ror_report.specs.declared.block.Body.{Body}
 use Rattle.ror_report.specs.declared.block.Body.TheVariants.{Answers}
-use Rattle.ror_report.specs.declared.names.LineForm.{LineForm}
+use Rattle.ror_report.specs.declared.names.BodyForm.{BodyForm}
 use Rattle.ror_report.specs.declared.read.ReportFault.{ReportFault}
 use Rattle.ror_report.specs.declared.read.ReportFault.TheVariants.{BadLine}
-use Rattle.ror_report.specs.Reading.{numbered_line, read_in_report, form_line, form_of, ends_body, body_answers, one_line_at, answers_at, body_of, body_at, block_at, end_at}
-use Rattle.ror_report.specs.Faults.{expected_number, expected_form, IsFaultOfAnswers, IsFaultOfBlock, IsFaultOfEnd}
+use Rattle.ror_report.specs.Reading.{numbered_line, read_in_report, form_lines, form_of, ends_body, body_answers, formed_at, answers_at, body_of, body_at, block_at, end_at}
+use Rattle.ror_report.specs.Faults.{expected_number, IsFaultOfAnswers, IsFaultOfBlock, IsFaultOfEnd}
 use Rattle.ror_report.specs.Faults.IsFaultOfAnswers.{this_answer, later_answer}
 use Rattle.ror_report.specs.Faults.IsFaultOfBlock.{in_name, in_form, after_form, in_answers}
 use Rattle.ror_report.specs.Faults.IsFaultOfEnd.{in_end, after_end}
 use Rattle.ror_report.proofs.Bodies.{answer_step, no_answers, goes_on_some}
 use Rattle.ror_report.proofs.BlockLemmas.{answer_has_bytes}
 use Rattle.ror_report.proofs.LineForms.{in_report_ok}
-use Rattle.ror_report.proofs.FormFaults.{no_fault, in_report_err, line_fails, line_goes, number_reads, form_reads}
+use Rattle.ror_report.proofs.FormFaults.{no_fault, in_report_err, line_fails, line_goes, number_reads, reads_form}
 
 not_true : (b : Bool) → not b ≡ true → b ≡ false
 not_true true e = absurd cc
@@ -78,21 +78,21 @@ abbrev line_read : Body × Cursor → Result (Body × Cursor) ReportFault
 line_read body = Ok body
 
 -- the fault of a body behind the line that names the session's line
-body_err : (t : DecisionTable) (c at : Cursor) (form : Option LineForm) (f : ReportFault) → IsLine t (expected_number (codes "line")) c at → form_of (line_words at) ≡ form → body_of t form at ≡ Err f → IsFaultOfBlock t c f
-unfolding one_line_at answers_at
+body_err : (t : DecisionTable) (c at : Cursor) (form : Option BodyForm) (f : ReportFault) → IsLine t (expected_number (codes "line")) c at → form_of (line_words at) ≡ form → body_of t form at ≡ Err f → IsFaultOfBlock t c f
+unfolding formed_at answers_at
 body_err t c at None f line found e =
     elim (bind_err (body_answers t (length at.rest) at) (λ answers. answers_read answers) f e) [
       | inl faulty ↦ in_answers at line found (answers_err t (length at.rest) at f faulty)
       | inr none ↦ absurd (no_fault _ f none.2)
     ]
 body_err t c at (Some form) f line found e =
-    elim (bind_err (form_line form at) (λ body. refuse (BadLine body.1.place) (not (ends_body body.1.rest)) >>= λ _. line_read body) f e) [
-      | inl faulty ↦ in_form at form line found ((form_reads t form at).err f faulty)
+    elim (bind_err (form_lines form at) (λ body. refuse (BadLine body.1.place) (not (ends_body body.1.rest)) >>= λ _. line_read body) f e) [
+      | inl faulty ↦ in_form at form line found ((reads_form t form at).err f faulty)
       | inr b ↦
           elim (bind_err (refuse (BadLine b.0.1.place) (not (ends_body b.0.1.rest))) (λ _. line_read b.0) f b.2) [
             | inl more ↦
                 let tested = refuse_err (BadLine b.0.1.place) f (not (ends_body b.0.1.rest)) more in
-                after_form at b.0.1 form line found ((form_reads t form at).ok b.0 b.1) (not_true (ends_body b.0.1.rest) tested.0) tested.1
+                after_form at b.0.1 form line found ((reads_form t form at).ok b.0 b.1) (not_true (ends_body b.0.1.rest) tested.0) tested.1
             | inr none ↦ absurd (no_fault _ f none.2)
           ]
     ]
@@ -110,12 +110,12 @@ block_err t c f e =
     ]
 
 pub block_fails : (t : DecisionTable) (c : Cursor) (f : ReportFault) → IsTable t → IsFaultOfBlock t c f → block_at t c ≡ Err f
-unfolding block_at body_at one_line_at answers_at
+unfolding block_at body_at formed_at answers_at
 block_fails t c f table (in_name fault) = rw (line_fails t (expected_number (codes "line")) c (numbered_line (codes "line") c) f (number_reads t (codes "line") c) fault) refl
 block_fails t c f table (in_form body form line found fault) =
-    rw ((line_goes t (expected_number (codes "line")) c body (numbered_line (codes "line") c) (number_reads t (codes "line") c) line).1, found, line_fails t (expected_form form) body (form_line form body) f (form_reads t form body) fault) refl
+    rw ((line_goes t (expected_number (codes "line")) c body (numbered_line (codes "line") c) (number_reads t (codes "line") c) line).1, found, (reads_form t form body).fails f fault) refl
 block_fails t c f table (after_form body after form line found own more is) =
-    rw ((line_goes t (expected_number (codes "line")) c body (numbered_line (codes "line") c) (number_reads t (codes "line") c) line).1, found, (line_goes t (expected_form form) body after (form_line form body) (form_reads t form body) own).1, more) (ap Err (sym is))
+    rw ((line_goes t (expected_number (codes "line")) c body (numbered_line (codes "line") c) (number_reads t (codes "line") c) line).1, found, ((reads_form t form body).goes after own).1, more) (ap Err (sym is))
 block_fails t c f table (in_answers body line found fault) =
     rw ((line_goes t (expected_number (codes "line")) c body (numbered_line (codes "line") c) (number_reads t (codes "line") c) line).1, found, answers_fail t (length body.rest) body f table (omega arith) fault) refl
 

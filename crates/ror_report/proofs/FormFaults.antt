@@ -1,29 +1,34 @@
--- The first faulty word of a line of a name and a number, and of the line of a body.
-use Rattle.std.proofs.Common.{◌≡◌, ℕ, List, [], ◌∷◌, ◌++◌, map, Result, Ok, Err, refl, sym, ap, ◌∙◌, inl, inr}
-use Rattle.ror_text.specs.Cursor.{Cursor, line_words, line_after}
-use Rattle.ror_text.specs.Reading.{◌>>=◌, need}
-use Rattle.ror_text.proofs.ReadingLemmas.{bind_err, need_err}
+-- The first faulty word of a line of a name and a number, and of the lines of a body.
+use Rattle.std.proofs.Common.{◌≡◌, ℕ, List, [], ◌∷◌, ◌++◌, map, Result, Ok, Err, refl, sym, ap, subst, ◌∙◌, inl, inr}
+use Rattle.std.specs.Prelude.{codes}
+use Rattle.ror_text.specs.Cursor.{Cursor, line_words}
+use Rattle.ror_text.specs.Reading.{◌>>=◌}
+use Rattle.ror_text.proofs.ReadingLemmas.{bind_ok, bind_err}
 use Rattle.ror_table.specs.Table.{DecisionTable}
 use Rattle.ror_proof.specs.declared.read.ProofFault.{ProofFault}
-use Rattle.ror_proof.specs.declared.read.ProofFault.TheVariants as words
+use Rattle.ror_proof.specs.declared.answer.WideText.{WideText}
 use Rattle.ror_proof.specs.Words.{name_at, no_more, small_number_at}
-use Rattle.ror_proof.specs.Reading.{ended}
-use Rattle.ror_proof.specs.Expected.{Expected, IsLine, IsFaultOfLine}
-use Rattle.ror_proof.specs.Expected.IsFaultOfLine.{in_word, no_line_feed}
+use Rattle.ror_proof.specs.Reading.{ended, kept_at, wide_line_of}
+use Rattle.ror_proof.specs.Expected.{Expected, expected_wide_of, IsLine}
 use Rattle.ror_proof.specs.Expected.Expected.{one_of, a_small_number, the_end}
 use Rattle.ror_proof.proofs.WordLemmas as word_lemmas
-use Rattle.ror_proof.proofs.WordFaults as word_faults
 use Rattle.ror_proof.proofs.WordFaults.{Steps, Ends, nothing_read, made_steps, then_ends, word_then_ends, end_ends}
 use Rattle.ror_proof.proofs.QuestionFaults.{small_number_steps, name_steps}
-use Rattle.ror_proof.proofs.LineFaults.{two_line_faults, line_not_faulty, one_after}
-use Rattle.ror_report.specs.declared.block.Body.TheVariants.{Added, Withdrawn, Replaced, Undone, Refused}
+use Rattle.ror_proof.proofs.LineFaults.{ReadsLine, reads_line, two_line_faults, line_not_faulty, one_after}
+use Rattle.ror_proof.proofs.RepairLemmas.{kept_is_text, kept_is_read_iff_text}
+use Rattle.ror_proof.proofs.RepairFaults.{kept_err, kept_fails}
+use Rattle.ror_proof.proofs.WideLines.{wide_of_reads}
+use Rattle.ror_report.specs.declared.block.Body.{Body}
+use Rattle.ror_report.specs.declared.block.Body.TheVariants.{Added, Withdrawn, Replaced, Undone, Repaired, RepairWide, Refused}
+use Rattle.ror_report.specs.declared.names.BodyForm.{BodyForm}
+use Rattle.ror_report.specs.declared.names.BodyForm.TheVariants as bodies
 use Rattle.ror_report.specs.declared.names.LineForm.{LineForm}
 use Rattle.ror_report.specs.declared.names.LineForm.TheVariants as forms
 use Rattle.ror_report.specs.declared.read.ReportFault.{ReportFault}
 use Rattle.ror_report.specs.Names.{form_word, fault_word, line_faults}
-use Rattle.ror_report.specs.Reading.{fault_of_answer, read_in_report, number_words, numbered_line, operand_at, form_words, form_line}
-use Rattle.ror_report.specs.Faults.{expected_number, expected_operand, expected_form, IsFaultInReport}
-use Rattle.ror_report.proofs.LineForms.{done, line_is_read}
+use Rattle.ror_report.specs.Reading.{fault_of_answer, read_in_report, number_words, numbered_line, operand_at, form_words, form_line, repaired_lines, repair_wide_lines, form_lines}
+use Rattle.ror_report.specs.Faults.{expected_number, expected_operand, expected_form, expected_repair_wide, AreFormLines, IsFaultInReport, IsFaultOfForm}
+use Rattle.ror_report.proofs.LineForms.{base_is_small, done, ok_is, in_report_ok}
 
 pub no_fault : {A : Type 0} (x : A) (f : ReportFault) → done x ≡ Err f → ⊥
 no_fault x f e = cc
@@ -67,29 +72,22 @@ pub record ReadsInReport {A : Type 0} (t : DecisionTable) (expected : List (List
   pub err : (fault : ReportFault) → reading ≡ Err fault → IsFaultInReport t expected c fault
   pub ok : (x : A × Cursor) → reading ≡ Ok x → IsLine t expected c x.1
 
--- the fault of its words, or no line feed after words that may all stand
-ended_err : {A : Type 0} (t : DecisionTable) (expected : List (List ℕ) → List Expected) (c : Cursor) (reading : Result A ProofFault) (f : ProofFault) → Ends t c.place reading (expected (line_words c)) (line_words c) → ended c reading ≡ Err f → IsFaultOfLine t expected c f
-unfolding ended
-ended_err t expected c reading f ends e = elim (bind_err reading (λ value. need (words.BadLine c.place) (line_after c) >>= λ next. word_lemmas.done (value, next)) f e) [
-  | inl here ↦ in_word (ends.fails f here)
-  | inr a ↦
-      elim (bind_err (need (words.BadLine c.place) (line_after c)) (λ next. word_lemmas.done (a.0, next)) f a.2) [
-        | inl here ↦ let none = need_err (words.BadLine c.place) f (line_after c) here in no_line_feed (ends.stands a.0 a.1) none.0 none.1
-        | inr none ↦ absurd (word_faults.no_fault _ f none.2)
-      ]
-]
-
-reads_in_report : {A : Type 0} (t : DecisionTable) (expected : List (List ℕ) → List Expected) (c : Cursor) (reading : Result A ProofFault) → Ends t c.place reading (expected (line_words c)) (line_words c) → ReadsInReport t expected c (read_in_report (ended c reading))
-reads_in_report t expected c reading ends = record {
-  err = λ fault e. let handed = in_report_err (ended c reading) fault e in (handed.first, ended_err t expected c reading handed.first ends handed.is, handed.becomes);
-  ok = λ x e. let line = line_is_read c reading x e in record { words = ends.stands x.0 line.0; ended = line.1 };
+reads_in_report : {A : Type 0} (t : DecisionTable) (expected : List (List ℕ) → List Expected) (c : Cursor) (reading : Result (A × Cursor) ProofFault) → ReadsLine t expected c reading → ReadsInReport t expected c (read_in_report reading)
+reads_in_report t expected c reading reads = record {
+  err = λ fault e. let handed = in_report_err reading fault e in (handed.first, reads.err handed.first handed.is, handed.becomes);
+  ok = λ x e. reads.ok x (in_report_ok reading x e);
 }
 
 pub number_reads : (t : DecisionTable) (name : List ℕ) (c : Cursor) → ReadsInReport t (expected_number name) c (numbered_line name c)
-number_reads t name c = reads_in_report t (expected_number name) c (number_words name c.place (line_words c)) (number_ends t name c.place (line_words c))
+number_reads t name c =
+    reads_in_report t (expected_number name) c (ended c (number_words name c.place (line_words c))) (reads_line t (expected_number name) c (number_words name c.place (line_words c)) (number_ends t name c.place (line_words c)))
 
 pub form_reads : (t : DecisionTable) (form : LineForm) (c : Cursor) → ReadsInReport t (expected_form form) c (form_line form c)
-form_reads t form c = reads_in_report t (expected_form form) c (form_words form c.place (line_words c)) (form_ends t form c.place (line_words c))
+form_reads t form c =
+    reads_in_report t (expected_form form) c (ended c (form_words form c.place (line_words c))) (reads_line t (expected_form form) c (form_words form c.place (line_words c)) (form_ends t form c.place (line_words c)))
+
+wide_reads : (t : DecisionTable) (c : Cursor) → ReadsInReport t (expected_wide_of 0) c (read_in_report (wide_line_of 0 c))
+wide_reads t c = reads_in_report t (expected_wide_of 0) c (wide_line_of 0 c) (wide_of_reads t 0 c base_is_small)
 
 -- a line at fault is refused
 pub line_fails : {A : Type 0} (t : DecisionTable) (expected : List (List ℕ) → List Expected) (c : Cursor) (reading : Result (A × Cursor) ReportFault) (fault : ReportFault) → ReadsInReport t expected c reading → IsFaultInReport t expected c fault → reading ≡ Err fault
@@ -102,3 +100,97 @@ line_fails t expected c (Err g) fault reads h =
 pub line_goes : {A : Type 0} (t : DecisionTable) (expected : List (List ℕ) → List Expected) (c after : Cursor) (reading : Result (A × Cursor) ReportFault) → ReadsInReport t expected c reading → IsLine t expected c after → (x : A) × (reading ≡ Ok (x, after))
 line_goes t expected c after (Ok x) reads line = (x.0, ap (λ (n : Cursor). Ok (x.0, n)) (one_after t expected c x.1 after (reads.ok x refl) line))
 line_goes t expected c after (Err g) reads line = let found = reads.err g refl in absurd (line_not_faulty t expected c after found.0 line found.1)
+
+-- ---- the lines of a body
+
+-- a reader of the lines of a body, whose fault is that of the lines
+pub record ReadsForm (t : DecisionTable) (form : BodyForm) (c : Cursor) : Type 0 where
+  pub err : (fault : ReportFault) → form_lines form c ≡ Err fault → IsFaultOfForm t form c fault
+  pub fails : (fault : ReportFault) → IsFaultOfForm t form c fault → form_lines form c ≡ Err fault
+  pub ok : (x : Body × Cursor) → form_lines form c ≡ Ok x → AreFormLines t form c x.1
+  pub goes : (after : Cursor) → AreFormLines t form c after → (body : Body) × (form_lines form c ≡ Ok (body, after))
+
+repaired_err : (t : DecisionTable) (c : Cursor) (fault : ReportFault) → repaired_lines c ≡ Err fault → IsFaultOfForm t bodies.Repaired c fault
+unfolding repaired_lines
+repaired_err t c fault e = elim (bind_err (read_in_report (kept_at c)) (λ kept. done (Repaired kept.0, kept.1)) fault e) [
+  | inl here ↦ let handed = in_report_err (kept_at c) fault here in (handed.first, kept_err t c handed.first handed.is, handed.becomes)
+  | inr none ↦ absurd (no_fault _ fault none.2)
+]
+
+repaired_fails : (t : DecisionTable) (c : Cursor) (fault : ReportFault) → IsFaultOfForm t bodies.Repaired c fault → repaired_lines c ≡ Err fault
+unfolding repaired_lines
+repaired_fails t c fault h = rw (kept_fails t c h.0 h.1) (ap Err (sym h.2))
+
+repaired_ok : (t : DecisionTable) (c : Cursor) (x : Body × Cursor) → repaired_lines c ≡ Ok x → AreFormLines t bodies.Repaired c x.1
+unfolding repaired_lines
+repaired_ok t c x e =
+    let a = bind_ok (read_in_report (kept_at c)) (λ kept. done (Repaired kept.0, kept.1)) x e in
+    let same : a.0.1 ≡ x.1 = ap (λ (y : Body × Cursor). y.1) (ok_is (Repaired a.0.0, a.0.1) x a.2) in
+    subst (λ (after : Cursor). AreFormLines t bodies.Repaired c after) same (a.0.0, kept_is_text c a.0.0 a.0.1 (in_report_ok (kept_at c) a.0 a.1))
+
+repaired_goes : (t : DecisionTable) (c after : Cursor) → AreFormLines t bodies.Repaired c after → (body : Body) × (repaired_lines c ≡ Ok (body, after))
+unfolding repaired_lines
+repaired_goes t c after h = (Repaired h.0, rw ((kept_is_read_iff_text c h.0 after).1 h.1) refl)
+
+abbrev wide_made : ℕ → WideText × Cursor → Result (Body × Cursor) ReportFault
+wide_made n note = Ok (RepairWide n note.0, note.1)
+
+abbrev wide_after : ℕ × Cursor → Result (Body × Cursor) ReportFault
+wide_after number = read_in_report (wide_line_of 0 number.1) >>= λ note. wide_made number.0 note
+
+repair_wide_err : (t : DecisionTable) (c : Cursor) (fault : ReportFault) → repair_wide_lines c ≡ Err fault → IsFaultOfForm t bodies.RepairWide c fault
+unfolding repair_wide_lines
+repair_wide_err t c fault e =
+    let number = number_reads t (codes "repair-wide") c in
+    elim (bind_err (numbered_line (codes "repair-wide") c) (λ number. wide_after number) fault e) [
+      | inl here ↦ inl (number.err fault here)
+      | inr a ↦
+          elim (bind_err (read_in_report (wide_line_of 0 a.0.1)) (λ note. wide_made a.0.0 note) fault a.2) [
+            | inl here ↦ inr (a.0.1, number.ok a.0 a.1, (wide_reads t a.0.1).err fault here)
+            | inr none ↦ absurd (no_fault _ fault none.2)
+          ]
+    ]
+
+repair_wide_fails : (t : DecisionTable) (c : Cursor) (fault : ReportFault) → IsFaultOfForm t bodies.RepairWide c fault → repair_wide_lines c ≡ Err fault
+unfolding repair_wide_lines
+repair_wide_fails t c fault (inl h) = rw (line_fails t expected_repair_wide c (numbered_line (codes "repair-wide") c) fault (number_reads t (codes "repair-wide") c) h) refl
+repair_wide_fails t c fault (inr h) =
+    rw ((line_goes t expected_repair_wide c h.0 (numbered_line (codes "repair-wide") c) (number_reads t (codes "repair-wide") c) h.1).1, line_fails t (expected_wide_of 0) h.0 (read_in_report (wide_line_of 0 h.0)) fault (wide_reads t h.0) h.2) refl
+
+repair_wide_ok : (t : DecisionTable) (c : Cursor) (x : Body × Cursor) → repair_wide_lines c ≡ Ok x → AreFormLines t bodies.RepairWide c x.1
+unfolding repair_wide_lines
+repair_wide_ok t c x e =
+    let a = bind_ok (numbered_line (codes "repair-wide") c) (λ number. wide_after number) x e in
+    let b = bind_ok (read_in_report (wide_line_of 0 a.0.1)) (λ note. wide_made a.0.0 note) x a.2 in
+    let same : b.0.1 ≡ x.1 = ap (λ (y : Body × Cursor). y.1) (ok_is (RepairWide a.0.0 b.0.0, b.0.1) x b.2) in
+    subst (λ (after : Cursor). AreFormLines t bodies.RepairWide c after) same (a.0.1, (number_reads t (codes "repair-wide") c).ok a.0 a.1, (wide_reads t a.0.1).ok b.0 b.1)
+
+both_lines_read : (c wide after : Cursor) (n : ℕ) (note : WideText) → numbered_line (codes "repair-wide") c ≡ Ok (n, wide) → read_in_report (wide_line_of 0 wide) ≡ Ok (note, after) → repair_wide_lines c ≡ Ok (RepairWide n note, after)
+unfolding repair_wide_lines
+both_lines_read c wide after n note number line = rw (number, line) refl
+
+repair_wide_goes : (t : DecisionTable) (c after : Cursor) → AreFormLines t bodies.RepairWide c after → (body : Body) × (repair_wide_lines c ≡ Ok (body, after))
+repair_wide_goes t c after h =
+    let number = line_goes t expected_repair_wide c h.0 (numbered_line (codes "repair-wide") c) (number_reads t (codes "repair-wide") c) h.1 in
+    let note = line_goes t (expected_wide_of 0) h.0 after (read_in_report (wide_line_of 0 h.0)) (wide_reads t h.0) h.2 in
+    (RepairWide number.0 note.0, both_lines_read c h.0 after number.0 note.0 number.1 note.1)
+
+pub reads_form : (t : DecisionTable) (form : BodyForm) (c : Cursor) → ReadsForm t form c
+reads_form t (bodies.OneLine form) c = record {
+  err = λ fault e. (form_reads t form c).err fault e;
+  fails = λ fault h. line_fails t (expected_form form) c (form_line form c) fault (form_reads t form c) h;
+  ok = λ x e. (form_reads t form c).ok x e;
+  goes = λ after h. line_goes t (expected_form form) c after (form_line form c) (form_reads t form c) h;
+}
+reads_form t bodies.Repaired c = record {
+  err = repaired_err t c;
+  fails = repaired_fails t c;
+  ok = repaired_ok t c;
+  goes = repaired_goes t c;
+}
+reads_form t bodies.RepairWide c = record {
+  err = repair_wide_err t c;
+  fails = repair_wide_fails t c;
+  ok = repair_wide_ok t c;
+  goes = repair_wide_goes t c;
+}

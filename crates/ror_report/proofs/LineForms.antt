@@ -1,4 +1,4 @@
--- Lines of a name and a number and bodies of one line, both ways, and how the pieces of a report begin.
+-- Lines of a name and a number, bodies of one line and repairs, both ways, and how the pieces of a report begin.
 use Rattle.std.proofs.Common.{◌≡◌, ℕ, suc, ◌<◌, ◌^◌, ◌+◌, Bool, true, false, not, eqb, List, [], ◌∷◌, ◌++◌, length, drop, Option, Some, None, Result, Ok, Err, refl, sym, ap, subst, ◌∙◌, arith, inl, inr}
 use Rattle.std.specs.Prelude.{codes, nat_eq}
 use Rattle.std.specs.Fmt.{decimal}
@@ -28,12 +28,18 @@ use Rattle.ror_report.specs.declared.block.Body.{Body}
 use Rattle.ror_report.specs.declared.block.Body.TheVariants.{Added, Withdrawn, Replaced, Undone, Refused}
 use Rattle.ror_report.specs.declared.block.LineFault.{LineFault}
 use Rattle.ror_report.specs.declared.block.LineFault.TheVariants as faults
+use Rattle.ror_report.specs.declared.names.BodyForm.{BodyForm}
+use Rattle.ror_report.specs.declared.names.BodyForm.TheVariants as bodies
 use Rattle.ror_report.specs.declared.names.LineForm.{LineForm}
 use Rattle.ror_report.specs.declared.names.LineForm.TheVariants as forms
 use Rattle.ror_report.specs.declared.read.ReportFault.{ReportFault}
-use Rattle.ror_report.specs.Names.{form_word, line_forms, fault_word, line_faults}
-use Rattle.ror_report.specs.Text.{body_words, body_text, block_text, end_text, IsPrintableBody}
+use Rattle.ror_report.specs.Names.{form_word, body_word, body_forms, fault_word, line_faults}
+use Rattle.ror_report.specs.Text.{numbered_text, body_text, block_text, end_text, IsPrintableBody}
 use Rattle.ror_report.specs.Reading.{read_in_report, number_words, numbered_line, operand_at, form_words, form_of, begins_block, begins_end, ends_body}
+
+-- the number of a base system
+pub base_is_small : 0 < 2 ^ 32
+base_is_small = omega arith
 
 abbrev pub done : {A : Type 0} → A → Result A ReportFault
 done x = Ok x
@@ -71,9 +77,6 @@ line_is_read c reading x e =
 
 -- ---- a line of a name and a number
 
-abbrev pub numbered_text : List ℕ → ℕ → List ℕ
-numbered_text name n = line_text (name ∷ decimal n ∷ [])
-
 number_words_again : (name : List ℕ) (place n : ℕ) → n < 2 ^ 32 → number_words name place (name ∷ decimal n ∷ []) ≡ Ok n
 unfolding number_words
 number_words_again name place n small = rw (after_word_again place name (decimal n ∷ []), small_number_again place n [] small) refl
@@ -103,7 +106,7 @@ numbered_sound name c x e =
 
 -- ---- a body of one line
 
-pub form_found : (form : LineForm) → name_of form_word line_forms (form_word form) ≡ Some form
+pub form_found : (form : LineForm) → name_of body_word body_forms (form_word form) ≡ Some (bodies.OneLine form)
 form_found forms.Added = refl
 form_found forms.Withdrawn = refl
 form_found forms.Replaced = refl
@@ -133,43 +136,43 @@ fault_is_word faults.TooManyRows = refl
 fault_is_word faults.TooManyPairs = refl
 
 -- the form of a body of one line, and what follows its first word and is read as the body again
-pub record IsOneLine (body : Body) : Type 0 where
+pub record IsOneLine (t : DecisionTable) (body : Body) : Type 0 where
   pub form : LineForm
   pub operand : List (List ℕ)
-  pub written : body_words body ≡ Some (form_word form ∷ operand)
+  pub written : body_text t body ≡ line_text (form_word form ∷ operand)
   pub are : are_words (form_word form ∷ operand) ≡ true
   pub read : (place : ℕ) → operand_at form place operand ≡ Ok (body, [])
 
 number_are_words : (word : List ℕ) (n : ℕ) → is_word word ≡ true → n < 2 ^ 32 → are_words (word ∷ decimal n ∷ []) ≡ true
 number_are_words word n is small = and_from _ _ is (and_from _ _ (is_word-decimal n (omega (arith, small))) refl)
 
-pub added_line : (n : ℕ) → n < 2 ^ 32 → IsOneLine (Added n)
-added_line n small = record { form = forms.Added; operand = decimal n ∷ []; written = refl; are = number_are_words (form_word forms.Added) n refl small; read = λ place. rw (small_number_again place n [] small) refl }
+pub added_line : (t : DecisionTable) (n : ℕ) → n < 2 ^ 32 → IsOneLine t (Added n)
+added_line t n small = record { form = forms.Added; operand = decimal n ∷ []; written = refl; are = number_are_words (form_word forms.Added) n refl small; read = λ place. rw (small_number_again place n [] small) refl }
 
-pub withdrawn_line : (n : ℕ) → n < 2 ^ 32 → IsOneLine (Withdrawn n)
-withdrawn_line n small = record { form = forms.Withdrawn; operand = decimal n ∷ []; written = refl; are = number_are_words (form_word forms.Withdrawn) n refl small; read = λ place. rw (small_number_again place n [] small) refl }
+pub withdrawn_line : (t : DecisionTable) (n : ℕ) → n < 2 ^ 32 → IsOneLine t (Withdrawn n)
+withdrawn_line t n small = record { form = forms.Withdrawn; operand = decimal n ∷ []; written = refl; are = number_are_words (form_word forms.Withdrawn) n refl small; read = λ place. rw (small_number_again place n [] small) refl }
 
-pub replaced_line : (n : ℕ) → n < 2 ^ 32 → IsOneLine (Replaced n)
-replaced_line n small = record { form = forms.Replaced; operand = decimal n ∷ []; written = refl; are = number_are_words (form_word forms.Replaced) n refl small; read = λ place. rw (small_number_again place n [] small) refl }
+pub replaced_line : (t : DecisionTable) (n : ℕ) → n < 2 ^ 32 → IsOneLine t (Replaced n)
+replaced_line t n small = record { form = forms.Replaced; operand = decimal n ∷ []; written = refl; are = number_are_words (form_word forms.Replaced) n refl small; read = λ place. rw (small_number_again place n [] small) refl }
 
-pub undone_line : IsOneLine Undone
-undone_line = record { form = forms.Undone; operand = []; written = refl; are = refl; read = λ place. refl }
+pub undone_line : (t : DecisionTable) → IsOneLine t Undone
+undone_line t = record { form = forms.Undone; operand = []; written = refl; are = refl; read = λ place. refl }
 
-pub refused_line : (fault : LineFault) → IsOneLine (Refused fault)
-refused_line fault = record { form = forms.Refused; operand = fault_word fault ∷ []; written = refl; are = and_from (is_word (form_word forms.Refused)) _ refl (and_from _ _ (fault_is_word fault) refl); read = λ place. rw (name_again fault_word line_faults place fault [] (fault_found fault)) refl }
+pub refused_line : (t : DecisionTable) (fault : LineFault) → IsOneLine t (Refused fault)
+refused_line t fault = record { form = forms.Refused; operand = fault_word fault ∷ []; written = refl; are = and_from (is_word (form_word forms.Refused)) _ refl (and_from _ _ (fault_is_word fault) refl); read = λ place. rw (name_again fault_word line_faults place fault [] (fault_found fault)) refl }
 
-pub form_words_again : (body : Body) (is : IsOneLine body) (place : ℕ) → form_words is.form place (form_word is.form ∷ is.operand) ≡ Ok body
+pub form_words_again : (t : DecisionTable) (body : Body) (is : IsOneLine t body) (place : ℕ) → form_words is.form place (form_word is.form ∷ is.operand) ≡ Ok body
 unfolding form_words
-form_words_again body is place = rw (after_word_again place (form_word is.form) is.operand, is.read place) refl
+form_words_again t body is place = rw (after_word_again place (form_word is.form) is.operand, is.read place) refl
 
 -- what was read after the first word
 record IsReadOperand (t : DecisionTable) (form : LineForm) (more : List (List ℕ)) (y : Body × List (List ℕ)) : Type 0 where
   operand : List (List ℕ)
-  written : body_words y.0 ≡ Some (form_word form ∷ operand)
+  written : body_text t y.0 ≡ line_text (form_word form ∷ operand)
   is : more ≡ operand ++ y.1
   printable : IsPrintableBody t y.0
 
-number_operand : (t : DecisionTable) (form : LineForm) (make : ℕ → Body) → ((n : ℕ) → body_words (make n) ≡ Some (form_word form ∷ decimal n ∷ [])) → ((n : ℕ) → n < 2 ^ 32 → IsPrintableBody t (make n))
+number_operand : (t : DecisionTable) (form : LineForm) (make : ℕ → Body) → ((n : ℕ) → body_text t (make n) ≡ numbered_text (form_word form) n) → ((n : ℕ) → n < 2 ^ 32 → IsPrintableBody t (make n))
     → (place : ℕ) (more : List (List ℕ)) (y : Body × List (List ℕ)) → (small_number_at place more >>= λ number. word_lemmas.done (make number.0, number.1)) ≡ Ok y → IsReadOperand t form more y
 number_operand t form make written printable place more y e =
     let a = bind_ok (small_number_at place more) (λ number. word_lemmas.done (make number.0, number.1)) y e in
@@ -187,7 +190,7 @@ operand_sound t forms.Refused place more y e =
     subst (IsReadOperand t forms.Refused more) (word_lemmas.ok_is (Refused a.0.0, a.0.1) y a.2) (record { operand = fault_word a.0.0 ∷ []; written = refl; is = name; printable = tt })
 
 -- the words of what was read as a body of this form
-pub form_words_sound : (t : DecisionTable) (form : LineForm) (place : ℕ) (ws : List (List ℕ)) (body : Body) → form_words form place ws ≡ Ok body → (body_words body ≡ Some ws) × IsPrintableBody t body
+pub form_words_sound : (t : DecisionTable) (form : LineForm) (place : ℕ) (ws : List (List ℕ)) (body : Body) → form_words form place ws ≡ Ok body → (body_text t body ≡ line_text ws) × IsPrintableBody t body
 unfolding form_words
 form_words_sound t form place ws body e =
     let last = λ (y : Body × List (List ℕ)). no_more place y.1 >>= λ _. word_lemmas.done y.0 in
@@ -197,7 +200,7 @@ form_words_sound t form place ws body e =
     let read = operand_sound t form place a.0 b.0 b.1 in
     let all : a.0 ≡ read.operand = read.is ∙ ap (λ (more : List (List ℕ)). read.operand ++ more) (no_more_sound place b.0.1 d.0 d.1) ∙ append-nil read.operand in
     let is : ws ≡ form_word form ∷ read.operand = after_word_sound place (form_word form) ws a.0 a.1 ∙ ap (λ (more : List (List ℕ)). form_word form ∷ more) all in
-    subst (λ (x : Body). (body_words x ≡ Some ws) × IsPrintableBody t x) (word_lemmas.ok_is b.0.0 body d.2) (read.written ∙ ap Some (sym is), read.printable)
+    subst (λ (x : Body). (body_text t x ≡ line_text ws) × IsPrintableBody t x) (word_lemmas.ok_is b.0.0 body d.2) (read.written ∙ ap line_text (sym is), read.printable)
 
 -- ---- how the pieces begin
 
@@ -211,6 +214,10 @@ block_begins t b =
     let body = body_text t b.body in
     let head = line_begins b.line in
     (head.0 ++ body, ap (λ (l : List ℕ). l ++ body) head.1)
+
+pub repair_wide_begins : (n : ℕ) → (more : List ℕ) × (numbered_text (codes "repair-wide") n ≡ codes "repair-wide " ++ more)
+unfolding line_text
+repair_wide_begins n = (drop 12 (numbered_text (codes "repair-wide") n), refl)
 
 pub end_begins : (n : ℕ) → (more : List ℕ) × (end_text n ≡ codes "end " ++ more)
 unfolding end_text line_text
@@ -245,9 +252,9 @@ ends_no_part (b ∷ bs) ends =
       | inr miss ↦ rw miss refl
     ]
 
--- ---- where no body of one line begins
+-- ---- where a body begins that its first word tells, and where none does
 
-abbrev form_at : ℕ → List ℕ → Option LineForm
+abbrev form_at : ℕ → List ℕ → Option BodyForm
 form_at place rest = form_of (line_words (record { place = place; rest = rest }))
 
 -- the line goes on behind its first bytes
@@ -266,6 +273,13 @@ form_at_front place front more h = ap (λ (line : List ℕ). form_of (spaced_wor
 pub no_form_at_answer : (place : ℕ) (more : List ℕ) → form_at place (codes "answer " ++ more) ≡ None
 no_form_at_answer place more = form_at_front place (codes "answer ") more refl
 
+-- a repair begins with its form's word
+pub form_at_repaired : (place : ℕ) (more : List ℕ) → form_at place (codes "repaired " ++ more) ≡ Some bodies.Repaired
+form_at_repaired place more = form_at_front place (codes "repaired ") more refl
+
+pub form_at_repair_wide : (place : ℕ) (more : List ℕ) → form_at place (codes "repair-wide " ++ more) ≡ Some bodies.RepairWide
+form_at_repair_wide place more = form_at_front place (codes "repair-wide ") more refl
+
 no_form_at_line : (place : ℕ) (more : List ℕ) → form_at place (codes "line " ++ more) ≡ None
 no_form_at_line place more = form_at_front place (codes "line ") more refl
 
@@ -279,7 +293,7 @@ no_form_at_nothing place = refl
 begun : (rest front : List ℕ) → starts_with nat_eq rest front ≡ true → rest ≡ front ++ drop (length front) rest
 begun rest front begins = (starts_is Decides-eqb rest front (starts_with nat_eq rest front) refl).0 begins
 
--- what ends a body is no body of one line
+-- what ends a body begins none
 pub ends_no_form : (place : ℕ) (rest : List ℕ) → ends_body rest ≡ true → form_at place rest ≡ None
 ends_no_form place [] ends = no_form_at_nothing place
 ends_no_form place (b ∷ bs) ends =

@@ -7,17 +7,16 @@ use Rattle.std.specs.Str.{IsUtf8}
 use Rattle.std.proofs.lemmas.Str.{IsUtf8-append, IsUtf8-nil}
 use Rattle.ror_table.specs.Table.{DecisionTable, IsTable}
 use Rattle.ror_proof.specs.declared.answer.Answer.{Answer}
-use Rattle.ror_proof.specs.Text.{answer_text, IsPrintable}
-use Rattle.ror_proof.proofs.Utf8Lemmas.{ascii_is_utf8, decimal_is_utf8, line_text_is_utf8, answer_text_is_utf8}
+use Rattle.ror_proof.specs.Text.{answer_text, wide_text, IsPrintable}
+use Rattle.ror_proof.proofs.Utf8Lemmas.{ascii_is_utf8, decimal_is_utf8, line_text_is_utf8, wide_is_utf8, answer_text_is_utf8, kept_text_is_utf8}
 use Rattle.ror_report.specs.declared.block.Block.{Block}
 use Rattle.ror_report.specs.declared.block.Body.{Body}
-use Rattle.ror_report.specs.declared.block.Body.TheVariants.{Added, Withdrawn, Replaced, Undone, Answers, Refused}
+use Rattle.ror_report.specs.declared.block.Body.TheVariants.{Added, Withdrawn, Replaced, Undone, Repaired, RepairWide, Answers, Refused}
 use Rattle.ror_report.specs.declared.block.LineFault.{LineFault}
 use Rattle.ror_report.specs.declared.block.LineFault.TheVariants as faults
 use Rattle.ror_report.specs.declared.names.LineForm.TheVariants as forms
 use Rattle.ror_report.specs.Names.{form_word, fault_word}
-use Rattle.ror_report.specs.Text.{body_text, block_text, header_text, end_text, report_text, IsPrintableBody, IsPrintableBlock}
-use Rattle.ror_report.proofs.LineForms.{numbered_text}
+use Rattle.ror_report.specs.Text.{numbered_text, body_text, block_text, header_text, end_text, report_text, IsPrintableBody, IsPrintableBlock}
 
 numbered_is_utf8 : (name : List ℕ) (n : ℕ) → IsUtf8 name → n < 2 ^ 32 → IsUtf8 (numbered_text name n)
 numbered_is_utf8 name n text small = line_text_is_utf8 (name ∷ decimal n ∷ []) (text, (decimal_is_utf8 n (omega (arith, small)), tt))
@@ -42,6 +41,9 @@ body_is_utf8 t (Added n) table small = numbered_is_utf8 (form_word forms.Added) 
 body_is_utf8 t (Withdrawn n) table small = numbered_is_utf8 (form_word forms.Withdrawn) n (ascii_is_utf8 (form_word forms.Withdrawn) refl) small
 body_is_utf8 t (Replaced n) table small = numbered_is_utf8 (form_word forms.Replaced) n (ascii_is_utf8 (form_word forms.Replaced) refl) small
 body_is_utf8 t Undone table printable = line_text_is_utf8 (form_word forms.Undone ∷ []) (ascii_is_utf8 (form_word forms.Undone) refl, tt)
+body_is_utf8 t (Repaired x) table printable = kept_text_is_utf8 x printable
+body_is_utf8 t (RepairWide n note) table printable =
+    IsUtf8-append (numbered_text (codes "repair-wide") n) (wide_text 0 note) (numbered_is_utf8 (codes "repair-wide") n (ascii_is_utf8 (codes "repair-wide") refl) printable.0) (wide_is_utf8 0 note printable.1)
 body_is_utf8 t (Refused fault) table printable = line_text_is_utf8 (form_word forms.Refused ∷ fault_word fault ∷ []) (ascii_is_utf8 (form_word forms.Refused) refl, (fault_is_utf8 fault, tt))
 body_is_utf8 t (Answers xs) table printable = answers_are_utf8 t xs table printable
 

@@ -1,11 +1,13 @@
--- The words that stand for the forms of a body of one line, and for the reasons of a refusal.
+-- The words that stand for the forms of a body, and for the reasons of a refusal.
 use Rattle.std.specs.Prelude.{ℕ, List, [], ◌∷◌, codes}
 use Rattle.ror_report.specs.declared.block.LineFault.{LineFault}
 use Rattle.ror_report.specs.declared.block.LineFault.TheVariants as faults
+use Rattle.ror_report.specs.declared.names.BodyForm.{BodyForm}
+use Rattle.ror_report.specs.declared.names.BodyForm.TheVariants.{OneLine, Repaired, RepairWide}
 use Rattle.ror_report.specs.declared.names.LineForm.{LineForm}
 use Rattle.ror_report.specs.declared.names.LineForm.TheVariants as forms
 
--- the first word of a body of this form
+-- the first word of a body of one line of this form
 abbrev pub form_word : LineForm → List ℕ
 form_word forms.Added = codes "added"
 form_word forms.Withdrawn = codes "withdrawn"
@@ -13,9 +15,16 @@ form_word forms.Replaced = codes "replaced"
 form_word forms.Undone = codes "undone"
 form_word forms.Refused = codes "refused"
 
-abbrev pub line_forms : List LineForm
-line_forms =
-    forms.Added ∷ forms.Withdrawn ∷ forms.Replaced ∷ forms.Undone ∷ forms.Refused ∷ []
+-- the first word of a body of this form
+abbrev pub body_word : BodyForm → List ℕ
+body_word (OneLine form) = form_word form
+body_word Repaired = codes "repaired"
+body_word RepairWide = codes "repair-wide"
+
+abbrev pub body_forms : List BodyForm
+body_forms =
+    OneLine forms.Added ∷ OneLine forms.Withdrawn ∷ OneLine forms.Replaced ∷ OneLine forms.Undone
+    ∷ Repaired ∷ RepairWide ∷ OneLine forms.Refused ∷ []
 
 -- the name of a reason
 abbrev pub fault_word : LineFault → List ℕ

@@ -7,18 +7,20 @@ use Rattle.ror_table.specs.Table.{DecisionTable}
 use Rattle.ror_text.specs.Cursor.{Cursor, line_words}
 use Rattle.ror_proof.specs.Names.{name_of}
 use Rattle.ror_proof.specs.Words.{after_word, name_at, no_more, small_number_at}
-use Rattle.ror_proof.specs.Reading.{answer_at, ended}
+use Rattle.ror_proof.specs.Reading.{answer_at, ended, kept_at, wide_line_of}
 use Rattle.ror_proof.specs.declared.answer.Answer.{Answer}
 use Rattle.ror_proof.specs.declared.read.ProofFault.{ProofFault}
 use Rattle.ror_proof.specs.declared.read.ProofFault.TheVariants as answers
 use Rattle.ror_report.specs.declared.block.Block.{Block}
 use Rattle.ror_report.specs.declared.block.Body.{Body}
-use Rattle.ror_report.specs.declared.block.Body.TheVariants.{Added, Withdrawn, Replaced, Undone, Answers, Refused}
+use Rattle.ror_report.specs.declared.block.Body.TheVariants.{Added, Withdrawn, Replaced, Undone, Repaired, RepairWide, Answers, Refused}
+use Rattle.ror_report.specs.declared.names.BodyForm.{BodyForm}
+use Rattle.ror_report.specs.declared.names.BodyForm.TheVariants as bodies
 use Rattle.ror_report.specs.declared.names.LineForm.{LineForm}
 use Rattle.ror_report.specs.declared.names.LineForm.TheVariants as forms
 use Rattle.ror_report.specs.declared.read.ReportFault.{ReportFault}
 use Rattle.ror_report.specs.declared.read.ReportFault.TheVariants as faults
-use Rattle.ror_report.specs.Names.{form_word, line_forms, fault_word, line_faults}
+use Rattle.ror_report.specs.Names.{form_word, body_word, body_forms, fault_word, line_faults}
 use Rattle.ror_report.specs.Text.{header_text}
 
 -- the fault that an error names: none for want of memory
@@ -76,7 +78,7 @@ body_answers t (suc most) c = if ends_body c.rest then Ok ([], c) else (do
   others ← body_answers t most first.1
   Ok (first.0 ∷ others.0, others.1))
 
--- what follows the first word of a body of this form
+-- what follows the first word of a body of one line of this form
 abbrev pub operand_at : LineForm → ℕ → List (List ℕ) → Result (Body × List (List ℕ)) ProofFault
 operand_at forms.Added place words = do
   number ← small_number_at place words
@@ -92,7 +94,7 @@ operand_at forms.Refused place words = do
   fault ← name_at fault_word line_faults place words
   Ok (Refused fault.0, fault.1)
 
--- the words of a body of this form
+-- the words of a body of one line of this form
 unfoldable pub form_words : LineForm → ℕ → List (List ℕ) → Result Body ProofFault
 form_words form place words = do
   more ← after_word place (form_word form) words
@@ -104,10 +106,30 @@ form_words form place words = do
 abbrev pub form_line : LineForm → Cursor → Result (Body × Cursor) ReportFault
 form_line form c = read_in_report (ended c (form_words form c.place (line_words c)))
 
--- a body of this form, at the end of whose line it ends
-unfoldable pub one_line_at : LineForm → Cursor → Result (Body × Cursor) ReportFault
-one_line_at form c = do
-  body ← form_line form c
+-- the lines of a repair
+unfoldable pub repaired_lines : Cursor → Result (Body × Cursor) ReportFault
+repaired_lines c = do
+  kept ← read_in_report (kept_at c)
+  Ok (Repaired kept.0, kept.1)
+
+-- the line with the number of the statement at which a repair is too wide, and the wide line of its
+-- base system
+unfoldable pub repair_wide_lines : Cursor → Result (Body × Cursor) ReportFault
+repair_wide_lines c = do
+  number ← numbered_line (body_word bodies.RepairWide) c
+  note ← read_in_report (wide_line_of 0 number.1)
+  Ok (RepairWide number.0 note.0, note.1)
+
+-- the lines of a body of this form, and where the next line begins
+abbrev pub form_lines : BodyForm → Cursor → Result (Body × Cursor) ReportFault
+form_lines (bodies.OneLine form) c = form_line form c
+form_lines bodies.Repaired c = repaired_lines c
+form_lines bodies.RepairWide c = repair_wide_lines c
+
+-- these, behind which the body ends
+unfoldable pub formed_at : BodyForm → Cursor → Result (Body × Cursor) ReportFault
+formed_at form c = do
+  body ← form_lines form c
   _ ← refuse (faults.BadLine body.1.place) (not (ends_body body.1.rest))
   Ok body
 
@@ -118,13 +140,13 @@ answers_at t c = do
   Ok (Answers answers.0, answers.1)
 
 -- the form for which the first of these words stands
-abbrev pub form_of : List (List ℕ) → Option LineForm
+abbrev pub form_of : List (List ℕ) → Option BodyForm
 form_of [] = None
-form_of (word ∷ words) = name_of form_word line_forms word
+form_of (word ∷ words) = name_of body_word body_forms word
 
--- a body of one line, or answers
-abbrev pub body_of : DecisionTable → Option LineForm → Cursor → Result (Body × Cursor) ReportFault
-body_of t (Some form) c = one_line_at form c
+-- a body of a form, or answers
+abbrev pub body_of : DecisionTable → Option BodyForm → Cursor → Result (Body × Cursor) ReportFault
+body_of t (Some form) c = formed_at form c
 body_of t None c = answers_at t c
 
 -- a body: the first word of its first line decides the form

@@ -1,15 +1,16 @@
 -- The one text of a block and of a report.
-use Rattle.std.specs.Prelude.{ℕ, ◌<◌, ◌^◌, List, [], ◌∷◌, ◌++◌, length, Option, None, Some, codes, decimal}
+use Rattle.std.specs.Prelude.{ℕ, ◌<◌, ◌^◌, List, [], ◌∷◌, ◌++◌, length, codes, decimal}
 use Rattle.std.specs.List.{flat_map, AllByRecursion}
 use Rattle.ror_table.specs.Table.{DecisionTable}
 use Rattle.ror_proof.specs.declared.answer.Answer.{Answer}
 use Rattle.ror_text.specs.SpacedLines.{line_text}
-use Rattle.ror_proof.specs.Text.{answer_text, IsPrintable}
+use Rattle.ror_proof.specs.Text.{answer_text, kept_text, wide_text, IsPrintable, IsPrintableKept, IsPrintableNote}
 use Rattle.ror_report.specs.declared.block.Block.{Block}
 use Rattle.ror_report.specs.declared.block.Body.{Body}
-use Rattle.ror_report.specs.declared.block.Body.TheVariants.{Added, Withdrawn, Replaced, Undone, Answers, Refused}
+use Rattle.ror_report.specs.declared.block.Body.TheVariants.{Added, Withdrawn, Replaced, Undone, Repaired, RepairWide, Answers, Refused}
+use Rattle.ror_report.specs.declared.names.BodyForm.TheVariants as bodies
 use Rattle.ror_report.specs.declared.names.LineForm.TheVariants as forms
-use Rattle.ror_report.specs.Names.{form_word, fault_word}
+use Rattle.ror_report.specs.Names.{form_word, body_word, fault_word}
 
 -- the answers of a body; other bodies have none
 abbrev pub answers_of : Body → List Answer
@@ -17,35 +18,36 @@ answers_of (Added number) = []
 answers_of (Withdrawn number) = []
 answers_of (Replaced number) = []
 answers_of Undone = []
+answers_of (Repaired kept) = []
+answers_of (RepairWide number note) = []
 answers_of (Answers answers) = answers
 answers_of (Refused fault) = []
 
--- the words of a body of one line; answers are none
-abbrev pub body_words : Body → Option (List (List ℕ))
-body_words (Added number) = Some (form_word forms.Added ∷ decimal number ∷ [])
-body_words (Withdrawn number) = Some (form_word forms.Withdrawn ∷ decimal number ∷ [])
-body_words (Replaced number) = Some (form_word forms.Replaced ∷ decimal number ∷ [])
-body_words Undone = Some (form_word forms.Undone ∷ [])
-body_words (Answers answers) = None
-body_words (Refused fault) = Some (form_word forms.Refused ∷ fault_word fault ∷ [])
+-- the line of a name and a number
+abbrev pub numbered_text : List ℕ → ℕ → List ℕ
+numbered_text name number = line_text (name ∷ decimal number ∷ [])
 
--- the one line of these words, or the lines of the answers
-abbrev pub lines_text : DecisionTable → Option (List (List ℕ)) → List Answer → List ℕ
-lines_text t (Some words) answers = line_text words
-lines_text t None answers = flat_map (answer_text t) answers
-
+-- a line, the lines of a repair, or those of the answers
 abbrev pub body_text : DecisionTable → Body → List ℕ
-body_text t body = lines_text t (body_words body) (answers_of body)
+body_text t (Added number) = numbered_text (form_word forms.Added) number
+body_text t (Withdrawn number) = numbered_text (form_word forms.Withdrawn) number
+body_text t (Replaced number) = numbered_text (form_word forms.Replaced) number
+body_text t Undone = line_text (form_word forms.Undone ∷ [])
+body_text t (Repaired kept) = kept_text kept
+body_text t (RepairWide number note) =
+    numbered_text (body_word bodies.RepairWide) number ++ wide_text 0 note
+body_text t (Answers answers) = flat_map (answer_text t) answers
+body_text t (Refused fault) = line_text (form_word forms.Refused ∷ fault_word fault ∷ [])
 
 -- the line that names the session's line, and the body
 unfoldable pub block_text : DecisionTable → Block → List ℕ
-block_text t b = line_text (codes "line" ∷ decimal b.line ∷ []) ++ body_text t b.body
+block_text t b = numbered_text (codes "line") b.line ++ body_text t b.body
 
 unfoldable pub header_text : List ℕ
 header_text = line_text (codes "ror-report" ∷ codes "1" ∷ [])
 
 unfoldable pub end_text : ℕ → List ℕ
-end_text n = line_text (codes "end" ∷ decimal n ∷ [])
+end_text n = numbered_text (codes "end") n
 
 -- a report: its first line, the blocks, and the line with their number
 abbrev pub report_text : DecisionTable → List Block → List ℕ
@@ -57,6 +59,8 @@ IsPrintableBody t (Added number) = number < 2 ^ 32
 IsPrintableBody t (Withdrawn number) = number < 2 ^ 32
 IsPrintableBody t (Replaced number) = number < 2 ^ 32
 IsPrintableBody t Undone = Unit {0}
+IsPrintableBody t (Repaired kept) = IsPrintableKept kept
+IsPrintableBody t (RepairWide number note) = (number < 2 ^ 32) × IsPrintableNote 0 note
 IsPrintableBody t (Answers answers) = AllByRecursion (IsPrintable t) answers
 IsPrintableBody t (Refused fault) = Unit {0}
 

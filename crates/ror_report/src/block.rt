@@ -1,6 +1,6 @@
 //! What a report says of a line.
 
-use ror_proof::Answer;
+use ror_proof::{Answer, Kept, WideText};
 use ror_text::Items;
 use thiserror::Error;
 
@@ -15,6 +15,11 @@ pub enum Body {
     Replaced(u32),
     /// The last revision was taken back.
     Undone,
+    /// What the repair dropped, and the certificate of what it kept.
+    Repaired(Kept),
+    /// The repair changed nothing: whether it keeps the statement with this number isn't concluded,
+    /// since a number on the way passes the width.
+    RepairWide(u32, WideText),
     /// The answers to the questions of the line, in order.
     Answers(Items<Answer>),
     /// The line was refused, and changed nothing.

@@ -1,4 +1,4 @@
-//! The words that stand for the forms of a body of one line, and for the reasons of a refusal.
+//! The words that stand for the forms of a body, and for the reasons of a refusal.
 
 use crate::block::LineFault;
 use ror_proof::names::Name;
@@ -13,14 +13,6 @@ pub enum LineForm {
     Refused,
 }
 
-pub const LINE_FORMS: [LineForm; 5] = [
-    LineForm::Added,
-    LineForm::Withdrawn,
-    LineForm::Replaced,
-    LineForm::Undone,
-    LineForm::Refused,
-];
-
 impl Name for LineForm {
     ghost use Rattle.ror_report.specs.Names.{form_word};
 
@@ -33,6 +25,38 @@ impl Name for LineForm {
             LineForm::Replaced => b"replaced",
             LineForm::Undone => b"undone",
             LineForm::Refused => b"refused",
+        }
+    }
+}
+
+/// What the first word of a body that is no list of answers stands for.
+#[derive(Clone, Copy)]
+pub enum BodyForm {
+    OneLine(LineForm),
+    Repaired,
+    RepairWide,
+}
+
+pub const BODY_FORMS: [BodyForm; 7] = [
+    BodyForm::OneLine(LineForm::Added),
+    BodyForm::OneLine(LineForm::Withdrawn),
+    BodyForm::OneLine(LineForm::Replaced),
+    BodyForm::OneLine(LineForm::Undone),
+    BodyForm::Repaired,
+    BodyForm::RepairWide,
+    BodyForm::OneLine(LineForm::Refused),
+];
+
+impl Name for BodyForm {
+    ghost use Rattle.ror_report.specs.Names.{body_word};
+
+    ghost word_of = { body_word };
+
+    fn word(self) -> &'static [u8] {
+        match self {
+            BodyForm::OneLine(form) => form.word(),
+            BodyForm::Repaired => b"repaired",
+            BodyForm::RepairWide => b"repair-wide",
         }
     }
 }

@@ -3,16 +3,16 @@
 ghost use Rattle.std.specs.Prelude.{◌≡◌, ◌≤◌, ◌<◌, ◌-◌, codes, drop, length, IfErr, IfOk, IfSome};
 ghost use Rattle.ror_text.specs.Reading.{Gives};
 ghost use Rattle.ror_text.specs.Cursor.{cursor_at, line_words};
-ghost use Rattle.ror_proof.specs.Reading.{ended, proof_fault, IsProofFaultWithin};
+ghost use Rattle.ror_proof.specs.Reading.{ended, proof_fault, wide_line_of, IsProofFaultWithin};
 ghost use Rattle.ror_report.specs.Reading as reading;
 ghost use Rattle.ror_report.specs.Reading.{block_at, end_at, report_fault, header_at, IsReportFaultWithin};
 
 use crate::block::{Block, Body};
-use crate::names::{LINE_FAULTS, LINE_FORMS, LineForm};
+use crate::names::{BODY_FORMS, BodyForm, LINE_FAULTS, LineForm};
 use crate::print::header;
 use ror_proof::names::{Name, named};
 use ror_proof::words::{after_word, name_at, no_more, small_number_at};
-use ror_proof::{Answer, ProofFault, read_answer};
+use ror_proof::{Answer, ProofFault, WideText, read_answer, read_kept, read_wide};
 use ror_table::Table;
 use ror_text::Items;
 use ror_text::reading::{need, refuse_if};
@@ -119,34 +119,107 @@ fn body_at(
     ensures placed { IfErr result (IsReportFaultWithin (length bytes.now)) }
 {
     match form_at(bytes, from) {
-        Some(form) => one_line_at(form, bytes, from),
+        Some(form) => formed_at(alloc, form, bytes, from),
         None => answers_at(alloc, table, bytes, from),
     }
 }
 
 /// The form for which the first word of the line at a place stands.
-fn form_at(bytes: &[u8], from: usize) -> Option<LineForm>
+fn form_at(bytes: &[u8], from: usize) -> Option<BodyForm>
     requires { from ≤ length bytes.now }
     ensures { result ≡ reading.form_of (line_words (cursor_at bytes.now from)) }
 {
     let (line, _) = line_at(bytes, from);
     let (word, _) = Words::of(line).next()?;
-    named(&LINE_FORMS, word)
+    named(&BODY_FORMS, word)
 }
 
-/// A body of this form, at the end of whose line it ends.
-#[tactic(auto, unfolding(crate::specs::Reading::one_line_at))]
-fn one_line_at(form: LineForm, bytes: &[u8], from: usize) -> Result<(Body, usize), ReportFault>
+/// A body of this form, at the end of whose lines it ends.
+#[tactic(auto, unfolding(crate::specs::Reading::formed_at))]
+fn formed_at(
+    alloc: Global,
+    form: BodyForm,
+    bytes: &[u8],
+    from: usize,
+) -> Result<(Body, usize), ReportFault>
     requires { from ≤ length bytes.now }
     ensures exact { Gives (λ x. (x.0, cursor_at bytes.now x.1)) report_fault result
-        (reading.one_line_at form (cursor_at bytes.now from)) }
+        (reading.formed_at form (cursor_at bytes.now from)) }
     ensures onward { IfOk result (λ x. from ≤ x.1) }
     ensures within { IfOk result (λ x. x.1 ≤ length bytes.now) }
     ensures placed { IfErr result (IsReportFaultWithin (length bytes.now)) }
 {
-    let (body, next) = form_line(form, bytes, from)?;
+    let (body, next) = form_lines(alloc, form, bytes, from)?;
     refuse_if(!ends_body(bytes, next), ReportFault::BadLine(next))?;
     Ok((body, next))
+}
+
+/// The lines of a body of this form, and where the next line begins.
+fn form_lines(
+    alloc: Global,
+    form: BodyForm,
+    bytes: &[u8],
+    from: usize,
+) -> Result<(Body, usize), ReportFault>
+    requires { from ≤ length bytes.now }
+    ensures exact { Gives (λ x. (x.0, cursor_at bytes.now x.1)) report_fault result
+        (reading.form_lines form (cursor_at bytes.now from)) }
+    ensures onward { IfOk result (λ x. from < x.1) }
+    ensures within { IfOk result (λ x. x.1 ≤ length bytes.now) }
+    ensures placed { IfErr result (IsReportFaultWithin (length bytes.now)) }
+{
+    match form {
+        BodyForm::OneLine(form) => form_line(form, bytes, from),
+        BodyForm::Repaired => repaired_lines(alloc, bytes, from),
+        BodyForm::RepairWide => repair_wide_lines(alloc, bytes, from),
+    }
+}
+
+/// The lines of a repair, and where the next line begins.
+#[tactic(auto, unfolding(crate::specs::Reading::repaired_lines))]
+fn repaired_lines(alloc: Global, bytes: &[u8], from: usize) -> Result<(Body, usize), ReportFault>
+    requires { from ≤ length bytes.now }
+    ensures exact { Gives (λ x. (x.0, cursor_at bytes.now x.1)) report_fault result
+        (reading.repaired_lines (cursor_at bytes.now from)) }
+    ensures onward { IfOk result (λ x. from < x.1) }
+    ensures within { IfOk result (λ x. x.1 ≤ length bytes.now) }
+    ensures placed { IfErr result (IsReportFaultWithin (length bytes.now)) }
+{
+    let (kept, next) = read_kept(alloc, bytes, from)?;
+    Ok((Body::Repaired(kept), next))
+}
+
+/// The line with the number of the statement at which a repair is too wide, the wide line of its base
+/// system, and where the next line begins.
+#[tactic(auto, unfolding(crate::specs::Reading::repair_wide_lines))]
+fn repair_wide_lines(alloc: Global, bytes: &[u8], from: usize) -> Result<(Body, usize), ReportFault>
+    requires { from ≤ length bytes.now }
+    ensures exact { Gives (λ x. (x.0, cursor_at bytes.now x.1)) report_fault result
+        (reading.repair_wide_lines (cursor_at bytes.now from)) }
+    ensures onward { IfOk result (λ x. from < x.1) }
+    ensures within { IfOk result (λ x. x.1 ≤ length bytes.now) }
+    ensures placed { IfErr result (IsReportFaultWithin (length bytes.now)) }
+{
+    let (number, next) = numbered_line(BodyForm::RepairWide.word(), bytes, from)?;
+    let (note, next) = base_wide_line(alloc, bytes, next)?;
+    Ok((Body::RepairWide(number, note), next))
+}
+
+/// The wide line of a base system, and where the next line begins.
+fn base_wide_line(
+    alloc: Global,
+    bytes: &[u8],
+    from: usize,
+) -> Result<(WideText, usize), ReportFault>
+    requires { from ≤ length bytes.now }
+    ensures exact { Gives (λ x. (x.0, cursor_at bytes.now x.1)) report_fault result
+        (reading.read_in_report (wide_line_of 0 (cursor_at bytes.now from))) }
+    ensures onward { IfOk result (λ x. from < x.1) }
+    ensures within { IfOk result (λ x. x.1 ≤ length bytes.now) }
+    ensures placed { IfErr result (IsReportFaultWithin (length bytes.now)) }
+{
+    let (note, next) = read_wide(alloc, 0, bytes, from)?;
+    Ok((note, next))
 }
 
 /// All answers up to the body's end.
@@ -235,7 +308,7 @@ fn numbered_line(name: &[u8], bytes: &[u8], from: usize) -> Result<(u32, usize),
     Ok((number, next))
 }
 
-/// The body of the line of this form, and where the next line begins.
+/// The body of one line of this form, and where the next line begins.
 fn form_line(form: LineForm, bytes: &[u8], from: usize) -> Result<(Body, usize), ReportFault>
     requires { from ≤ length bytes.now }
     ensures exact { Gives (λ x. (x.0, cursor_at bytes.now x.1)) report_fault result

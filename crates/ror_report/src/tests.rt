@@ -1,13 +1,14 @@
 //! Tests of the crate's public calls.
 
 ghost use Rattle.std.specs.Prelude.{◌≡◌, []};
+ghost use Rattle.ror_report.specs.Printing.{HasNarrowRepair};
 ghost use Rattle.ror_report.specs.Text.{answers_of};
 
 use crate::{
     Block, Body, LineFault, ReportFault, begins_end, header, print_block, print_end, read_block,
     read_end, read_header,
 };
-use ror_proof::{Answer, Certificate, Proof, Verdict};
+use ror_proof::{Answer, Certificate, PlaceText, Proof, Verdict, WideText, read_kept};
 use ror_statement::Question;
 use ror_system::Solution;
 use ror_table::{Table, read_plain};
@@ -47,7 +48,8 @@ fn a_report_is_read_piece_by_piece(rt: HostRuntime) -> Result<(), Fail> {
 
 /// What is read again of the text that is printed of a body without answers, where it is this text.
 fn read_again(alloc: Global, table: &Table, body: Body, text: &[u8]) -> Result<Body, Fail>
-    requires { answers_of body ≡ [] }
+    requires answers { answers_of body ≡ [] }
+    requires repair { HasNarrowRepair body }
 {
     let block = Block { line: 7, body };
     let printed = print_block(alloc, table, &block)?;
@@ -75,6 +77,30 @@ fn bodies_of_one_line_are_printed_and_read_again(rt: HostRuntime) -> Result<(), 
     let text = b"line 7\nundone\n";
     let body = read_again(rt.alloc(), &table, Body::Undone, text)?;
     assert!(rt; matches!(body, Body::Undone));
+    Ok(())
+}
+
+#[test]
+fn a_repair_is_printed_and_read_again(rt: HostRuntime) -> Result<(), Fail> {
+    let table = three_alternatives(rt.alloc())?;
+    let text = b"line 7\nrepaired 1\ndropped 2 multipliers | 0 1 1\nbase solution 0 1 0 0\n";
+    let (kept, _) = read_kept(rt.alloc(), text, 7)
+        .ok()
+        .ok_or("this is a repair")?;
+    let body = read_again(rt.alloc(), &table, Body::Repaired(kept), text)?;
+    assert!(rt; matches!(&body, Body::Repaired(kept) if kept.dropped.len() == 1));
+    Ok(())
+}
+
+#[test]
+fn a_repair_too_wide_is_printed_and_read_again(rt: HostRuntime) -> Result<(), Fail> {
+    let table = three_alternatives(rt.alloc())?;
+    let text = b"line 7\nrepair-wide 3\nwide 0 rowsum 6 path\n";
+    let place = PlaceText::RowSum(6);
+    let path = Items::from(Vec::new(rt.alloc()));
+    let wide = Body::RepairWide(3, WideText { path, place });
+    let body = read_again(rt.alloc(), &table, wide, text)?;
+    assert!(rt; matches!(&body, Body::RepairWide(3, note) if note.place == place));
     Ok(())
 }
 
@@ -138,12 +164,11 @@ fn answers_are_printed(rt: HostRuntime) -> Result<(), Fail> {
 #[test]
 fn the_first_fault_of_a_body_is_named(rt: HostRuntime) -> Result<(), Fail> {
     let table = three_alternatives(rt.alloc())?;
-    let bad_lines: [&[u8]; 6] = [
+    let bad_lines: [&[u8]; 5] = [
         b"line 1\nundone x\n",
         b"line 1\nundone",
         b"line 1\nrefused\n",
         b"line 1\nrefused Foo\n",
-        b"line 1\nrepaired 0\n",
         b"line 1\nrepair-spent 1\n",
     ];
     for text in bad_lines {
@@ -159,5 +184,34 @@ fn the_first_fault_of_a_body_is_named(rt: HostRuntime) -> Result<(), Fail> {
         let result = read_block(rt.alloc(), &table, text, 0);
         assert!(rt; matches!(result, Err(ReportFault::BadNumber(7))));
     }
+    Ok(())
+}
+
+/// Whether a text is refused as a block with a bad line at this place.
+fn is_bad_line(alloc: Global, table: &Table, text: &[u8], place: usize) -> bool {
+    match read_block(alloc, table, text, 0) {
+        Err(ReportFault::BadLine(at)) => at == place,
+        _ => false,
+    }
+}
+
+#[test]
+fn the_first_faulty_line_of_a_repair_is_named(rt: HostRuntime) -> Result<(), Fail> {
+    let table = three_alternatives(rt.alloc())?;
+    let one_short = b"line 1\nrepaired 1\nbase solution\n";
+    let part = b"line 1\nrepaired 0\nbase solution\npart 1 solution\n";
+    let no_place = b"line 1\nrepair-wide 1\nwide 0 frob\n";
+    let more = b"line 1\nrepair-wide 1\nwide 0 rowsum 6 path\nundone\n";
+    assert!(rt; is_bad_line(rt.alloc(), &table, one_short, 18));
+    assert!(rt; is_bad_line(rt.alloc(), &table, part, 32));
+    assert!(rt; is_bad_line(rt.alloc(), &table, no_place, 21));
+    assert!(rt; is_bad_line(rt.alloc(), &table, more, 42));
+    let other = read_block(
+        rt.alloc(),
+        &table,
+        b"line 1\nrepair-wide 1\nwide 1 frob\n",
+        0,
+    );
+    assert!(rt; matches!(other, Err(ReportFault::BadNumber(21))));
     Ok(())
 }
