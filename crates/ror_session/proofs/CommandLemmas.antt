@@ -16,7 +16,7 @@ use Rattle.ror_session.specs.declared.session.Named.TheVariants.{Prefer, AtLeast
 use Rattle.ror_session.specs.declared.session.Asked.{Asked}
 use Rattle.ror_session.specs.declared.session.Asked.TheVariants.{Consistent, Necessary, Possible, NecessaryStrength, PossibleStrength, PossibleClass, NecessaryClass, Classes, Relation}
 use Rattle.ror_session.specs.declared.session.Command.{Command}
-use Rattle.ror_session.specs.declared.session.Command.TheVariants.{State, Withdraw, Replace, Undo, Ask}
+use Rattle.ror_session.specs.declared.session.Command.TheVariants.{State, Withdraw, Replace, Repair, Undo, Ask}
 use Rattle.ror_session.specs.declared.session.SessionFault.{SessionFault}
 use Rattle.ror_session.specs.declared.session.SessionFault.TheVariants.{BadLine}
 use Rattle.ror_session.proofs.DeskLemmas.{same_bytes}
@@ -324,11 +324,14 @@ command_of-sound line ws command e = elim (cases_Bool (bytes_eq (word_at ws 0) (
   | inl hit ↦ withdrawal-sound line ws command hit (rw hit at e)
   | inr not_withdraw ↦ let e1 = rw not_withdraw at e in elim (cases_Bool (bytes_eq (word_at ws 0) (codes "replace"))) [
     | inl hit ↦ replacement-sound line ws command hit (rw hit at e1)
-    | inr not_replace ↦ let e2 = rw not_replace at e1 in elim (cases_Bool (bytes_eq (word_at ws 0) (codes "undo"))) [
-      | inl hit ↦ of_one Spells Undo (codes "undo") (λ words is. is) line ws command hit (rw hit at e2)
-      | inr not_undo ↦ let e3 = rw not_undo at e2 in elim (cases_Bool (bytes_eq (word_at ws 0) (codes "ask"))) [
-        | inl hit ↦ asking-sound line ws command hit (rw hit at e3)
-        | inr not_ask ↦ stating-sound line ws command (rw not_ask at e3)
+    | inr not_replace ↦ let e2 = rw not_replace at e1 in elim (cases_Bool (bytes_eq (word_at ws 0) (codes "repair"))) [
+      | inl hit ↦ of_one Spells Repair (codes "repair") (λ words is. is) line ws command hit (rw hit at e2)
+      | inr not_repair ↦ let e3 = rw not_repair at e2 in elim (cases_Bool (bytes_eq (word_at ws 0) (codes "undo"))) [
+        | inl hit ↦ of_one Spells Undo (codes "undo") (λ words is. is) line ws command hit (rw hit at e3)
+        | inr not_undo ↦ let e4 = rw not_undo at e3 in elim (cases_Bool (bytes_eq (word_at ws 0) (codes "ask"))) [
+          | inl hit ↦ asking-sound line ws command hit (rw hit at e4)
+          | inr not_ask ↦ stating-sound line ws command (rw not_ask at e4)
+        ]
       ]
     ]
   ]
@@ -360,6 +363,10 @@ asked_again : (line : ℕ) (ws : LineWords) (asked : Asked) → SpellsQuestion w
 unfolding command_of
 asked_again line ws asked h = rw (question_of-again line ws asked h) refl
 
+repaired_again : (line : ℕ) → command_of line (codes "repair" ∷ []) ≡ Ok Repair
+unfolding command_of
+repaired_again line = refl
+
 undone_again : (line : ℕ) → command_of line (codes "undo" ∷ []) ≡ Ok Undo
 unfolding command_of
 undone_again line = refl
@@ -368,6 +375,7 @@ pub command_of-again : (line : ℕ) (ws : LineWords) (command : Command) → Spe
 command_of-again line ws (State named) h = stated_again line ws named h ∙ ap (λ (r : Result Named SessionFault). r >>= λ x. Ok (State x)) (statement_of-again line ws named h)
 command_of-again line ws (Withdraw n) h = ap (command_of line) h.1 ∙ withdrawn_again line n h.0 h.2
 command_of-again line ws (Replace n named) h = ap (command_of line) h.2 ∙ replaced_again line n h.0 h.1 named h.3 h.4
+command_of-again line ws Repair h = ap (command_of line) h ∙ repaired_again line
 command_of-again line ws Undo h = ap (command_of line) h ∙ undone_again line
 command_of-again line ws (Ask asked) h = ap (command_of line) h.1 ∙ asked_again line h.0 asked h.2
 
@@ -516,11 +524,14 @@ command_of-bad line ws = elim (cases_Bool (bytes_eq (word_at ws 0) (codes "withd
   | inl hit ↦ rw hit (withdrawal-bad line ws)
   | inr a ↦ elim (cases_Bool (bytes_eq (word_at ws 0) (codes "replace"))) [
     | inl hit ↦ rw (a, hit) (replacement-bad line ws)
-    | inr b ↦ elim (cases_Bool (bytes_eq (word_at ws 0) (codes "undo"))) [
-      | inl hit ↦ rw (a, b, hit) (one_bad line 1 ws Undo)
-      | inr c ↦ elim (cases_Bool (bytes_eq (word_at ws 0) (codes "ask"))) [
-        | inl hit ↦ rw (a, b, c, hit) (bad_bind line (question_of line (drop 1 ws)) (λ (asked : Asked). Ok (Ask asked)) (question_of-bad line (drop 1 ws)) (λ asked. tt))
-        | inr d ↦ rw (a, b, c, d) (bad_bind line (statement_of line ws) (λ (named : Named). Ok (State named)) (statement_of-bad line ws) (λ named. tt))
+    | inr b ↦ elim (cases_Bool (bytes_eq (word_at ws 0) (codes "repair"))) [
+      | inl hit ↦ rw (a, b, hit) (one_bad line 1 ws Repair)
+      | inr c ↦ elim (cases_Bool (bytes_eq (word_at ws 0) (codes "undo"))) [
+        | inl hit ↦ rw (a, b, c, hit) (one_bad line 1 ws Undo)
+        | inr d ↦ elim (cases_Bool (bytes_eq (word_at ws 0) (codes "ask"))) [
+          | inl hit ↦ rw (a, b, c, d, hit) (bad_bind line (question_of line (drop 1 ws)) (λ (asked : Asked). Ok (Ask asked)) (question_of-bad line (drop 1 ws)) (λ asked. tt))
+          | inr f ↦ rw (a, b, c, d, f) (bad_bind line (statement_of line ws) (λ (named : Named). Ok (State named)) (statement_of-bad line ws) (λ named. tt))
+        ]
       ]
     ]
   ]

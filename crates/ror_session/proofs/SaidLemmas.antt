@@ -11,7 +11,7 @@ use Rattle.ror_session.specs.declared.reading.Said.{Said}
 use Rattle.ror_session.specs.declared.session.Named.{Named}
 use Rattle.ror_session.specs.declared.session.Named.TheVariants.{Prefer, AtLeast, Same, Stronger, AsStrong, EqualStrength, Class}
 use Rattle.ror_session.specs.declared.session.Command.{Command}
-use Rattle.ror_session.specs.declared.session.Command.TheVariants.{State, Withdraw, Replace, Undo, Ask}
+use Rattle.ror_session.specs.declared.session.Command.TheVariants.{State, Withdraw, Replace, Repair, Undo, Ask}
 use Rattle.ror_session.specs.declared.session.SessionFault.{SessionFault}
 use Rattle.ror_session.specs.declared.session.SessionFault.TheVariants.{BadLine}
 use Rattle.ror_session.specs.Grammar.{LineWords, word_at, SpellsStatement, Spells, desk_words, IsClean, Says, IsWellFormed}
@@ -114,6 +114,7 @@ command_no_desk : (ws : LineWords) (command : Command) → Spells ws command →
 command_no_desk ws (State named) h = statement_no_desk ws named h
 command_no_desk ws (Withdraw n) h = ap has_desk_word h.1
 command_no_desk ws (Replace n named) h = ap has_desk_word h.2
+command_no_desk ws Repair h = ap has_desk_word h
 command_no_desk ws Undo h = ap has_desk_word h
 command_no_desk ws (Ask asked) h = ap has_desk_word h.1
 

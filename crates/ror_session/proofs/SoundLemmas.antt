@@ -15,7 +15,7 @@ use Rattle.ror_session.specs.declared.session.Named.TheVariants.{Prefer, AtLeast
 use Rattle.ror_session.specs.declared.session.Asked.{Asked}
 use Rattle.ror_session.specs.declared.session.Asked.TheVariants.{Consistent, Necessary, Possible, NecessaryStrength, PossibleStrength, PossibleClass, NecessaryClass, Classes, Relation}
 use Rattle.ror_session.specs.declared.session.Command.{Command}
-use Rattle.ror_session.specs.declared.session.Command.TheVariants.{State, Withdraw, Replace, Undo, Ask}
+use Rattle.ror_session.specs.declared.session.Command.TheVariants.{State, Withdraw, Replace, Repair, Undo, Ask}
 use Rattle.ror_session.specs.declared.session.Session.{Session}
 use Rattle.ror_session.specs.declared.session.Line.{Line}
 use Rattle.ror_session.specs.Desks.{first_appearances}
@@ -140,6 +140,7 @@ spelled_clean : (ws : LineWords) (command : Command) → Spells ws command → A
 spelled_clean ws (State named) h clean = statement_clean ws named h clean
 spelled_clean ws (Withdraw n) h clean = tt
 spelled_clean ws (Replace n named) h clean = let c = rest_clean ws (h.0 ∷ h.1) (codes "replace") h.2 clean in statement_clean h.1 named h.4 c.1
+spelled_clean ws Repair h clean = tt
 spelled_clean ws Undo h clean = tt
 spelled_clean ws (Ask asked) h clean = question_clean h.0 asked h.2 (rest_clean ws h.0 (codes "ask") h.1 clean)
 

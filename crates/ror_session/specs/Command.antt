@@ -12,7 +12,7 @@ use Rattle.ror_session.specs.declared.session.Named.TheVariants.{Prefer, AtLeast
 use Rattle.ror_session.specs.declared.session.Asked.{Asked}
 use Rattle.ror_session.specs.declared.session.Asked.TheVariants.{Consistent, Necessary, Possible, NecessaryStrength, PossibleStrength, PossibleClass, NecessaryClass, Classes, Relation}
 use Rattle.ror_session.specs.declared.session.Command.{Command}
-use Rattle.ror_session.specs.declared.session.Command.TheVariants.{State, Withdraw, Replace, Undo, Ask}
+use Rattle.ror_session.specs.declared.session.Command.TheVariants.{State, Withdraw, Replace, Repair, Undo, Ask}
 use Rattle.ror_session.specs.declared.session.SessionFault.{SessionFault}
 use Rattle.ror_session.specs.declared.session.SessionFault.TheVariants as faults
 use Rattle.ror_session.specs.declared.session.SessionFault.TheVariants.{BadLine}
@@ -133,8 +133,10 @@ unfoldable pub command_of : ℕ → LineWords → Result Command SessionFault
 command_of line ws =
     if bytes_eq (word_at ws 0) (codes "withdraw") then withdrawal line ws
     else (if bytes_eq (word_at ws 0) (codes "replace") then replacement line ws
+    else (if bytes_eq (word_at ws 0) (codes "repair")
+    then (refuse (BadLine line) (not (length ws == 1)) >>= λ _. Ok Repair)
     else (if bytes_eq (word_at ws 0) (codes "undo")
     then (refuse (BadLine line) (not (length ws == 1)) >>= λ _. Ok Undo)
     else (if bytes_eq (word_at ws 0) (codes "ask")
     then (question_of line (drop 1 ws) >>= λ asked. Ok (Ask asked))
-    else (statement_of line ws >>= λ named. Ok (State named)))))
+    else (statement_of line ws >>= λ named. Ok (State named))))))

@@ -12,7 +12,7 @@ use Rattle.ror_session.specs.declared.session.Named.TheVariants.{Prefer, AtLeast
 use Rattle.ror_session.specs.declared.session.Asked.{Asked}
 use Rattle.ror_session.specs.declared.session.Asked.TheVariants.{Consistent, Necessary, Possible, NecessaryStrength, PossibleStrength, PossibleClass, NecessaryClass, Classes, Relation}
 use Rattle.ror_session.specs.declared.session.Command.{Command}
-use Rattle.ror_session.specs.declared.session.Command.TheVariants.{State, Withdraw, Replace, Undo, Ask}
+use Rattle.ror_session.specs.declared.session.Command.TheVariants.{State, Withdraw, Replace, Repair, Undo, Ask}
 use Rattle.ror_session.specs.declared.session.Session.{Session}
 use Rattle.ror_session.specs.declared.session.Line.{Line}
 use Rattle.ror_session.specs.declared.reading.Said.{Said}
@@ -74,6 +74,7 @@ Spells ws (Withdraw n) =
 Spells ws (Replace n named) =
     (word : List ℕ) × (statement : LineWords) × (ws ≡ codes "replace" ∷ word ∷ statement)
     × WritesCount word n × SpellsStatement statement named
+Spells ws Repair = ws ≡ codes "repair" ∷ []
 Spells ws Undo = ws ≡ codes "undo" ∷ []
 Spells ws (Ask asked) =
     (question : LineWords) × (ws ≡ codes "ask" ∷ question) × SpellsQuestion question asked

@@ -13,7 +13,7 @@ use Rattle.ror_session.specs.declared.session.Named.TheVariants.{Prefer, AtLeast
 use Rattle.ror_session.specs.declared.session.Asked.{Asked}
 use Rattle.ror_session.specs.declared.session.Asked.TheVariants.{Consistent, Necessary, Possible, NecessaryStrength, PossibleStrength, PossibleClass, NecessaryClass, Classes, Relation}
 use Rattle.ror_session.specs.declared.session.Command.{Command}
-use Rattle.ror_session.specs.declared.session.Command.TheVariants.{State, Withdraw, Replace, Undo, Ask}
+use Rattle.ror_session.specs.declared.session.Command.TheVariants.{State, Withdraw, Replace, Repair, Undo, Ask}
 use Rattle.ror_session.specs.declared.session.Session.{Session}
 use Rattle.ror_session.specs.declared.session.Line.{Line}
 
@@ -46,6 +46,7 @@ abbrev pub names_of : Command → List (List ℕ)
 names_of (State named) = names_of_statement named
 names_of (Withdraw n) = []
 names_of (Replace n named) = names_of_statement named
+names_of Repair = []
 names_of Undo = []
 names_of (Ask asked) = names_of_question asked
 

@@ -306,6 +306,9 @@ pub(crate) fn read_command(
         withdrawal(line, words)
     } else if verb == b"replace".as_slice() {
         replacement(alloc, line, words)
+    } else if verb == b"repair".as_slice() {
+        refuse_if(words.len() != 1, SessionFault::BadLine(line))?;
+        Ok(Command::Repair)
     } else if verb == b"undo".as_slice() {
         refuse_if(words.len() != 1, SessionFault::BadLine(line))?;
         Ok(Command::Undo)

@@ -72,6 +72,8 @@ pub enum Command {
     Withdraw(u32),
     /// The judge states something in the place of the statement with this number.
     Replace(u32, Named),
+    /// The judge withdraws each statement that contradicts those kept before it.
+    Repair,
     /// The judge takes the last revision back.
     Undo,
     /// The analyst asks something.

@@ -71,6 +71,7 @@ fn says(command: &Command, number: u32, words: &[&str]) -> bool {
         Command::State(named) => states(named, words),
         Command::Withdraw(n) => *n == number && are(&["withdraw"], words),
         Command::Replace(n, named) => *n == number && states(named, words),
+        Command::Repair => are(&["repair"], words),
         Command::Undo => are(&["undo"], words),
         Command::Ask(asked) => asks(asked, words),
     }
@@ -188,14 +189,15 @@ fn questions_are_read(rt: HostRuntime) -> Result<(), Fail> {
 #[test]
 fn revisions_are_read(rt: HostRuntime) -> Result<(), Fail> {
     let text =
-        b"withdraw 007\nreplace 999999999 equal a b c d\nundo\nreplace 2 class a 0 999999999\n";
+        b"withdraw 007\nreplace 999999999 equal a b c d\nundo\nreplace 2 class a 0 999999999\nrepair\n";
     let session = read_session(rt.alloc(), text)?;
-    assert!(rt; session.lines.len() == 4);
+    assert!(rt; session.lines.len() == 5);
     assert!(rt; revises(&session, 0, 7, &["withdraw"]));
     assert!(rt; revises(&session, 1, 999_999_999, &["equal", "a", "b", "c", "d"]));
     assert!(rt; revises(&session, 2, 0, &["undo"]));
     assert!(rt; revises(&session, 3, 2, &["class", "a"]));
     assert!(rt; classes_at(&session, 3) == Some((0, 999_999_999)));
+    assert!(rt; revises(&session, 4, 0, &["repair"]));
     Ok(())
 }
 
@@ -258,6 +260,7 @@ fn the_first_bad_line_is_named(rt: HostRuntime) {
     assert!(rt; is_bad_at(rt.alloc(), b"stronger a b c d q", 1));
     assert!(rt; is_bad_at(rt.alloc(), b"stronger a b c d in q", 1));
     assert!(rt; is_bad_at(rt.alloc(), b"undo\nreplace 1 undo", 2));
+    assert!(rt; is_bad_at(rt.alloc(), b"repair all", 1));
     assert!(rt; is_bad_at(rt.alloc(), b"replace 1", 1));
     assert!(rt; is_bad_at(rt.alloc(), b"withdraw 1234567890", 1));
     assert!(rt; is_bad_at(rt.alloc(), b"class a 1", 1));
