@@ -47,10 +47,10 @@ most_within B63 = lit< tt
 most_within B127 = lit< tt
 
 module _ (bits : Bits) where
-  numbers : (xs : List ℤ) → AllByRecursion (IsWithin (most_of bits)) xs → AllByRecursion IsNarrow xs
+  pub numbers : (xs : List ℤ) → AllByRecursion (IsWithin (most_of bits)) xs → AllByRecursion IsNarrow xs
   numbers xs all = all-by (IsWithin (most_of bits)) IsNarrow xs (λ z within. omega (arith, within, most_within bits)) all
 
-  certificate : (x : Certificate) → IsCertificateWithin (most_of bits) x → text.IsNarrowCertificate x
+  pub certificate : (x : Certificate) → IsCertificateWithin (most_of bits) x → text.IsNarrowCertificate x
   certificate (certificates.Solution x) narrow = numbers x.steps narrow
   certificate (certificates.Multipliers m) narrow = (numbers m.weak narrow.0, numbers m.strict narrow.1)
 
@@ -93,7 +93,7 @@ pivot_small s p form within =
     let row = within.1 in
     record { column = omega arith; row = omega arith }
 
-note_printable : (most number : ℕ) (s : LinearSystem) (note : WideText) → number ≤ 200 → IsWellFormed s → HasNoteAt most s note → text.IsPrintableNote number note
+pub note_printable : (most number : ℕ) (s : LinearSystem) (note : WideText) → number ≤ 200 → IsWellFormed s → HasNoteAt most s note → text.IsPrintableNote number note
 note_printable most number s note few form noted =
     let inside = note_within most s form (pivots_of note.path) (place_of note.place) noted in
     let Inside : ℕ × ℕ → Type 0 = λ p. (p.0 < right_side_column (shape_of s)) × (p.1 < objective_row (shape_of s)) in

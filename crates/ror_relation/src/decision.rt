@@ -11,23 +11,19 @@ use ror_proof::WideText;
 use ror_system::{Multipliers, Solution, System};
 use std::alloc::{AllocError, Global};
 
-/// What a system comes to at a width.
+/// What a system comes to at a width. No number of a certificate passes the width.
 #[derive(Debug, Drop)]
-pub(crate) enum Decision {
-    /// It has this solution.
+pub enum Decision {
+    /// It has this solution, which is accepted.
     Solvable(Solution),
-    /// It has none: these multipliers refute it.
+    /// It has none: these multipliers, which are accepted, refute it.
     NotSolvable(Multipliers),
-    /// A number on the way is too wide.
+    /// This is the first number on the system's path that passes the width.
     TooWide(WideText),
 }
 
-/// Decides the system.
-pub(crate) fn decide_system(
-    alloc: Global,
-    system: &System,
-    bits: Bits,
-) -> Result<Decision, AllocError>
+/// Decides the system at this width. Its one error is want of memory.
+pub fn decide_system(alloc: Global, system: &System, bits: Bits) -> Result<Decision, AllocError>
     requires { IsWellFormed system.now }
     ensures { IfOk result (IsDecision (most_of bits) system.now) }
 {

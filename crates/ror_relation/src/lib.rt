@@ -3,7 +3,8 @@
 //! `decide` answers one question, `decide_each` many over one list. The base, the system of the statements alone, is
 //! decided first, then the question's systems in order, up to the first that is solvable. The certificates that are found
 //! prove the verdict (`ror_check`), and it is true. A number past the width ends the search: the answer then names the
-//! system and the note of its path, and concludes nothing.
+//! system and the note of its path, and concludes nothing. `decide_system` decides one system by itself, for questions and for
+//! repairs alike.
 //!
 //! Let alternative 0 be evaluated 3 and 10, 1 with 2 and 8 and 2 with 1 and 12, where more of the first and less of the
 //! second criterion is better. Over no statements:
@@ -24,6 +25,7 @@ mod search;
 mod wide;
 
 pub use deciding::{decide, decide_each};
+pub use decision::{Decision, decide_system};
 pub use pairs::relation_questions;
 
 #[cfg(test)]
