@@ -1,7 +1,8 @@
 -- That bodies which are proved over the same commands agree, whatever proofs they have.
-use Rattle.std.proofs.Common.{inl, inr, zero, suc, ◌≡◌, ℕ, Bool, true, false, List, [], ◌∷◌, length, map, get_or, Some, refl, sym, ap, ◌∙◌, subst, arith}
+use Rattle.std.proofs.Common.{◌⊎◌, inl, inr, zero, suc, ◌≡◌, ℕ, Bool, true, false, List, [], ◌∷◌, length, map, get_or, Some, refl, sym, ap, ◌∙◌, subst, arith}
 use Rattle.std.specs.Prelude.{cond, ◌==◌}
 use Rattle.std.specs.List.{AllByRecursion, AllZip, filter}
+use Rattle.std.proofs.lemmas.List.{length-map}
 use Rattle.ror_text.proofs.FirstFaultLemmas.{first_at}
 use Rattle.ror_statement.specs.declared.statement.Statement.{Statement}
 use Rattle.ror_statement.specs.declared.question.Question.{Question}
@@ -13,13 +14,16 @@ use Rattle.ror_value.specs.Over.{IsLawfulIn, IsAskedIn}
 use Rattle.ror_value.proofs.Conclusions.{one_conclusion}
 use Rattle.ror_session.specs.declared.session.Line.{Line}
 use Rattle.ror_session.specs.declared.session.Command.{Command}
-use Rattle.ror_session.specs.declared.session.Command.TheVariants.{State, Withdraw, Replace, Undo, Ask}
+use Rattle.ror_session.specs.declared.session.Command.TheVariants.{State, Withdraw, Replace, Repair, Undo, Ask}
 use Rattle.ror_proof.specs.declared.answer.Answer.{Answer}
 use Rattle.ror_proof.specs.declared.answer.Verdict.{Verdict}
 use Rattle.ror_proof.specs.declared.answer.Verdict.TheVariants as verdicts
 use Rattle.ror_system.specs.System.{LinearSystem}
 use Rattle.ror_proof.specs.declared.answer.WideText.{WideText}
+use Rattle.ror_proof.specs.declared.kept.Kept.{Kept}
 use Rattle.ror_check.specs.Proof.{IsWideOrTrue, IsAllowedVerdict, base_system}
+use Rattle.ror_check.specs.Repair.{numbers_of, IsProvedRepair}
+use Rattle.ror_check.proofs.Repairs.{one_repair, proved_is_repair}
 use Rattle.ror_relation.specs.Wide.{HasNoteAt}
 use Rattle.ror_check.proofs.ManyAnswers.{wide_or_true}
 use Rattle.ror_report.specs.declared.block.Block.{Block}
@@ -28,12 +32,13 @@ use Rattle.ror_report.specs.declared.block.Body.TheVariants as bodies
 use Rattle.ror_report.specs.declared.block.LineFault.{LineFault}
 use Rattle.ror_report.specs.declared.block.LineFault.TheVariants as faults
 use Rattle.ror_report.specs.Text.{answers_of}
-use Rattle.ror_history.specs.History.{Revisions, next_number, statements_of}
+use Rattle.ror_history.specs.History.{Revisions, withdrawal, next_number, standing, statements_of, with_revision}
+use Rattle.ror_bench.specs.Allowed.{IsProvedUnlessWide, IsRepairProvedUnlessWide, proved_unless_wide}
 use Rattle.ror_bench.specs.Bench.{Workbench, revisions_at, IsLawfulThroughout}
 use Rattle.ror_bench.specs.Lines.{FailsLine, line_stage, IsRefusedFor}
-use Rattle.ror_bench.specs.Blocks.{IsBodyOf, refused, taken, IsProvedUnlessWide, IsProvedBlock, revisions_with}
+use Rattle.ror_bench.specs.Blocks.{IsBodyOf, refused, taken, IsProvedBlock, revisions_with}
 use Rattle.ror_bench.specs.Reports.{EachHolds, at_desk}
-use Rattle.ror_bench.specs.Desks.{with_blocks, said_at, IsTurnOf, turns_at, commands_at, bodies_at, conclusion_of, ConcludesAs, AgreesWith, DesksAgree, IsSystemFor, NarrowConcludes}
+use Rattle.ror_bench.specs.Desks.{with_blocks, said_at, IsTurnOf, turns_at, commands_at, bodies_at, conclusion_of, ConcludesAs, AgreesWith, RepairsApart, AgreeInTurn, DesksAgree, IsSystemFor, NarrowConcludes, NarrowRepairs}
 use Rattle.ror_bench.proofs.NameLemmas.{questions_valid}
 use Rattle.ror_bench.proofs.AnswerLemmas.{one_list}
 use Rattle.ror_bench.proofs.LawfulLemmas.{lawful_now, moved_lawful}
@@ -99,37 +104,85 @@ module _ (t : DecisionTable) (r : Revisions) where
   asked_alike : (command : Command) (a b : Body) → a ≡ bodies.Answers (answers_of a) → b ≡ bodies.Answers (answers_of b) → AllZip ConcludesAs (answers_of a) (answers_of b) → IsAlike command a b
   asked_alike command a b of_a of_b same = (subst (λ (x : Body). AgreesWith x b) (sym of_a) (subst (AgreesWith (bodies.Answers (answers_of a))) (sym of_b) same), ap (revisions_with t r command) of_a ∙ sym (ap (revisions_with t r command) of_b))
 
-  one_body : (command : Command) (a b : Body) → IsLawfulIn t (statements_of r) → IsBodyOf IsProvedUnlessWide t r command a → IsBodyOf IsProvedUnlessWide t r command b → IsAlike command a b
-  one_body command a b lawful (refused f first of_a) (refused g second of_b) = alike_at command (bodies.Refused f) a b refl of_a (of_b ∙ ap (λ (x : LineFault). bodies.Refused x) (one_refusal t r command g f second first))
+  -- or one is a repair that is too wide, and the other isn't
+  abbrev AreAlike : Command → Body → Body → Type 0
+  AreAlike command a b = RepairsApart a b ⊎ IsAlike command a b
+
+  -- beside a repair
+  beside_repaired : (x : Kept) (b : Body) → IsLawfulIn t (statements_of r) → IsProvedRepair t (standing r) x → IsRepairProvedUnlessWide t (standing r) b → AreAlike Repair (bodies.Repaired x) b
+  beside_repaired x (bodies.Repaired y) lawful p q =
+      let same : numbers_of x.dropped ≡ numbers_of y.dropped = one_repair t (standing r) (numbers_of x.dropped) (numbers_of y.dropped) (proved_is_repair t (standing r) x lawful p) (proved_is_repair t (standing r) y lawful q) in
+      inr (same, ap (λ (ns : List ℕ). with_revision r (withdrawal ns)) same)
+  beside_repaired x (bodies.RepairWide n note) lawful p q = inl tt
+  beside_repaired x (bodies.Added n) lawful p q = absurd q
+  beside_repaired x (bodies.Withdrawn n) lawful p q = absurd q
+  beside_repaired x (bodies.Replaced n) lawful p q = absurd q
+  beside_repaired x bodies.Undone lawful p q = absurd q
+  beside_repaired x (bodies.Answers xs) lawful p q = absurd q
+  beside_repaired x (bodies.Refused fault) lawful p q = absurd q
+
+  -- beside one that is too wide
+  beside_wide : (m : ℕ) (other : WideText) (b : Body) → IsRepairProvedUnlessWide t (standing r) b → AreAlike Repair (bodies.RepairWide m other) b
+  beside_wide m other (bodies.Repaired y) q = inl tt
+  beside_wide m other (bodies.RepairWide n note) q = inr (tt, refl)
+  beside_wide m other (bodies.Added n) q = absurd q
+  beside_wide m other (bodies.Withdrawn n) q = absurd q
+  beside_wide m other (bodies.Replaced n) q = absurd q
+  beside_wide m other bodies.Undone q = absurd q
+  beside_wide m other (bodies.Answers xs) q = absurd q
+  beside_wide m other (bodies.Refused fault) q = absurd q
+
+  repairs_alike : (a b : Body) → IsLawfulIn t (statements_of r) → IsRepairProvedUnlessWide t (standing r) a → IsRepairProvedUnlessWide t (standing r) b → AreAlike Repair a b
+  repairs_alike (bodies.Repaired x) b lawful p q = beside_repaired x b lawful p q
+  repairs_alike (bodies.RepairWide m other) b lawful p q = beside_wide m other b q
+  repairs_alike (bodies.Added n) b lawful p q = absurd p
+  repairs_alike (bodies.Withdrawn n) b lawful p q = absurd p
+  repairs_alike (bodies.Replaced n) b lawful p q = absurd p
+  repairs_alike bodies.Undone b lawful p q = absurd p
+  repairs_alike (bodies.Answers xs) b lawful p q = absurd p
+  repairs_alike (bodies.Refused fault) b lawful p q = absurd p
+
+  one_body : (command : Command) (a b : Body) → IsLawfulIn t (statements_of r) → IsBodyOf proved_unless_wide t r command a → IsBodyOf proved_unless_wide t r command b → AreAlike command a b
+  one_body command a b lawful (refused f first of_a) (refused g second of_b) = inr (alike_at command (bodies.Refused f) a b refl of_a (of_b ∙ ap (λ (x : LineFault). bodies.Refused x) (one_refusal t r command g f second first)))
   one_body command a b lawful (refused f first of_a) (taken passes of_b) = absurd (passes f first.fails)
   one_body command a b lawful (taken passes of_a) (refused g second of_b) = absurd (passes g second.fails)
-  one_body (State named) a b lawful (taken passes of_a) (taken likewise of_b) = alike_at (State named) (bodies.Added (next_number r)) a b refl of_a of_b
-  one_body (Withdraw n) a b lawful (taken passes of_a) (taken likewise of_b) = alike_at (Withdraw n) (bodies.Withdrawn n) a b refl of_a of_b
-  one_body (Replace n named) a b lawful (taken passes of_a) (taken likewise of_b) = alike_at (Replace n named) (bodies.Replaced n) a b refl of_a of_b
-  one_body Undo a b lawful (taken passes of_a) (taken likewise of_b) = alike_at Undo bodies.Undone a b refl of_a of_b
+  one_body (State named) a b lawful (taken passes of_a) (taken likewise of_b) = inr (alike_at (State named) (bodies.Added (next_number r)) a b refl of_a of_b)
+  one_body (Withdraw n) a b lawful (taken passes of_a) (taken likewise of_b) = inr (alike_at (Withdraw n) (bodies.Withdrawn n) a b refl of_a of_b)
+  one_body (Replace n named) a b lawful (taken passes of_a) (taken likewise of_b) = inr (alike_at (Replace n named) (bodies.Replaced n) a b refl of_a of_b)
+  one_body Repair a b lawful (taken passes of_a) (taken likewise of_b) = repairs_alike a b lawful of_a of_b
+  one_body Undo a b lawful (taken passes of_a) (taken likewise of_b) = inr (alike_at Undo bodies.Undone a b refl of_a of_b)
   one_body (Ask asked) a b lawful (taken passes of_a) (taken likewise of_b) =
       let one = of_a.1 in
       let other = of_b.1 in
       let same : other.asked ≡ one.asked = one_list _ one.asked other.asked one.named other.named in
       let each = subst (λ (qs : List Question). AllZip (IsProvedUnlessWide t (statements_of r)) qs (answers_of b)) same other.each in
-      asked_alike (Ask asked) a b of_a.0 of_b.0 (answers_agree t (statements_of r) one.asked (answers_of a) (answers_of b) lawful (questions_valid t asked one.asked one.named) one.each each)
+      inr (asked_alike (Ask asked) a b of_a.0 of_b.0 (answers_agree t (statements_of r) one.asked (answers_of a) (answers_of b) lawful (questions_valid t asked one.asked one.named) one.each each))
 
 -- ---- along a desk
 
-agree_along : (t : DecisionTable) (r : Revisions) (xs ys : List (Command × Body)) → IsLawfulThroughout t r → AllByRecursion (IsTurnOf IsProvedUnlessWide t) (turns_along t r xs) → AllByRecursion (IsTurnOf IsProvedUnlessWide t) (turns_along t r ys) → map (λ (x : Command × Body). x.0) xs ≡ map (λ (y : Command × Body). y.0) ys
-    → AllZip AgreesWith (map (λ (x : Command × Body). x.1) xs) (map (λ (y : Command × Body). y.1) ys)
+as_long : (xs ys : List (Command × Body)) → map (λ (x : Command × Body). x.0) xs ≡ map (λ (y : Command × Body). y.0) ys → length (map (λ (x : Command × Body). x.1) xs) ≡ length (map (λ (y : Command × Body). y.1) ys)
+as_long xs ys same = length-map xs (λ (x : Command × Body). x.1) ∙ sym (length-map xs (λ (x : Command × Body). x.0)) ∙ ap length same ∙ length-map ys (λ (y : Command × Body). y.0) ∙ sym (length-map ys (λ (y : Command × Body). y.1))
+
+agree_along : (t : DecisionTable) (r : Revisions) (xs ys : List (Command × Body)) → IsLawfulThroughout t r → AllByRecursion (IsTurnOf proved_unless_wide t) (turns_along t r xs) → AllByRecursion (IsTurnOf proved_unless_wide t) (turns_along t r ys) → map (λ (x : Command × Body). x.0) xs ≡ map (λ (y : Command × Body). y.0) ys
+    → AgreeInTurn (map (λ (x : Command × Body). x.1) xs) (map (λ (y : Command × Body). y.1) ys)
 agree_along t r [] [] lawful one other same = tt
 agree_along t r [] (y ∷ ys) lawful one other same = absurd cc
 agree_along t r (x ∷ xs) [] lawful one other same = absurd cc
 agree_along t r (x ∷ xs) (y ∷ ys) lawful one other same =
     let command : y.0 ≡ x.0 = cc in
     let others : map (λ (x : Command × Body). x.0) xs ≡ map (λ (y : Command × Body). y.0) ys = cc in
-    let here : IsBodyOf IsProvedUnlessWide t r x.0 y.1 = subst (λ (c : Command). IsBodyOf IsProvedUnlessWide t r c y.1) command other.0 in
-    let alike = one_body t r x.0 x.1 y.1 (lawful_now t r lawful) one.0 here in
-    let moved : revisions_with t r y.0 y.1 ≡ revisions_with t r x.0 x.1 = ap (λ (c : Command). revisions_with t r c y.1) command ∙ sym alike.1 in (
-      alike.0,
-      agree_along t (revisions_with t r x.0 x.1) xs ys (moved_lawful IsProvedUnlessWide t r x.0 x.1 lawful one.0) one.1
-          (subst (λ (s : Revisions). AllByRecursion (IsTurnOf IsProvedUnlessWide t) (turns_along t s ys)) moved other.1) others,
+    let here : IsBodyOf proved_unless_wide t r x.0 y.1 = subst (λ (c : Command). IsBodyOf proved_unless_wide t r c y.1) command other.0 in (
+      as_long xs ys others,
+      elim (one_body t r x.0 x.1 y.1 (lawful_now t r lawful) one.0 here) [
+        | inl apart ↦ inl apart
+        | inr alike ↦
+            let moved : revisions_with t r y.0 y.1 ≡ revisions_with t r x.0 x.1 = ap (λ (c : Command). revisions_with t r c y.1) command ∙ sym alike.1 in
+            inr (
+              alike.0,
+              agree_along t (revisions_with t r x.0 x.1) xs ys (moved_lawful proved_unless_wide t r x.0 x.1 lawful one.0) one.1
+                  (subst (λ (s : Revisions). AllByRecursion (IsTurnOf proved_unless_wide t) (turns_along t s ys)) moved other.1) others,
+            )
+      ],
     )
 
 -- ---- what is said at a desk
@@ -159,16 +212,16 @@ agree one other desk_one desk_other lines_one lines_other blocks_one blocks_othe
     let said_other : List (Command × Body) = said_at desk_other lines_other blocks_other in
     let turns : turns_along other.table (revisions_at other desk_other) said_other ≡ turns_along one.table (revisions_at one desk_one) said_other =
     ap (λ (t : DecisionTable). turns_along t (revisions_at other desk_other) said_other) (sym table) ∙ ap (λ (r : Revisions). turns_along one.table r said_other) (sym begins) in
-    let first : AllByRecursion (IsTurnOf IsProvedUnlessWide one.table) (turns_along one.table (revisions_at one desk_one) said_one) =
-    subst (AllByRecursion (IsTurnOf IsProvedUnlessWide one.table)) (turns_are one desk_one [] lines_one blocks_one) (turns_of_blocks IsProvedUnlessWide one desk_one [] lines_one blocks_one proved_one) in
-    let second : AllByRecursion (IsTurnOf IsProvedUnlessWide other.table) (turns_at other desk_other [] lines_other blocks_other) = turns_of_blocks IsProvedUnlessWide other desk_other [] lines_other blocks_other proved_other in
-    let over_one : AllByRecursion (IsTurnOf IsProvedUnlessWide one.table) (turns_along one.table (revisions_at one desk_one) said_other) =
-    subst (AllByRecursion (IsTurnOf IsProvedUnlessWide one.table)) (turns_are other desk_other [] lines_other blocks_other ∙ turns)
-    (subst (λ (t : DecisionTable). AllByRecursion (IsTurnOf IsProvedUnlessWide t) (turns_at other desk_other [] lines_other blocks_other)) (sym table) second) in
+    let first : AllByRecursion (IsTurnOf proved_unless_wide one.table) (turns_along one.table (revisions_at one desk_one) said_one) =
+    subst (AllByRecursion (IsTurnOf proved_unless_wide one.table)) (turns_are one desk_one [] lines_one blocks_one) (turns_of_blocks proved_unless_wide one desk_one [] lines_one blocks_one proved_one) in
+    let second : AllByRecursion (IsTurnOf proved_unless_wide other.table) (turns_at other desk_other [] lines_other blocks_other) = turns_of_blocks proved_unless_wide other desk_other [] lines_other blocks_other proved_other in
+    let over_one : AllByRecursion (IsTurnOf proved_unless_wide one.table) (turns_along one.table (revisions_at one desk_one) said_other) =
+    subst (AllByRecursion (IsTurnOf proved_unless_wide one.table)) (turns_are other desk_other [] lines_other blocks_other ∙ turns)
+    (subst (λ (t : DecisionTable). AllByRecursion (IsTurnOf proved_unless_wide t) (turns_at other desk_other [] lines_other blocks_other)) (sym table) second) in
     let same = commands_said one desk_one lines_one blocks_one proved_one ∙ commands ∙ sym (commands_said other desk_other lines_other blocks_other proved_other) in
     let agrees = agree_along one.table (revisions_at one desk_one) said_one said_other lawful first over_one same in
-    subst (λ (l : List Body). AllZip AgreesWith l (bodies_at desk_other lines_other blocks_other)) (said_bodies (at_desk desk_one (with_blocks lines_one blocks_one)))
-    (subst (AllZip AgreesWith (map (λ (x : Command × Body). x.1) said_one)) (said_bodies (at_desk desk_other (with_blocks lines_other blocks_other))) agrees)
+    subst (λ (l : List Body). AgreeInTurn l (bodies_at desk_other lines_other blocks_other)) (said_bodies (at_desk desk_one (with_blocks lines_one blocks_one)))
+    (subst (AgreeInTurn (map (λ (x : Command × Body). x.1) said_one)) (said_bodies (at_desk desk_other (with_blocks lines_other blocks_other))) agrees)
 
 -- ---- where no number is too wide
 
@@ -181,3 +234,13 @@ concluded most t list q (verdicts.Wide (suc before) note) allowed narrow = absur
 
 pub narrow_concludes : NarrowConcludes
 narrow_concludes most t list q x given narrow = concluded most t list q x.verdict given.allowed.verdict narrow
+
+pub narrow_repairs : NarrowRepairs
+narrow_repairs most t list (bodies.Repaired kept) given narrow = (kept, refl)
+narrow_repairs most t list (bodies.RepairWide n note) given narrow = absurd (narrow given.place given.statement given.dropped note given.there given.repaired given.noted)
+narrow_repairs most t list (bodies.Added n) given narrow = absurd given
+narrow_repairs most t list (bodies.Withdrawn n) given narrow = absurd given
+narrow_repairs most t list (bodies.Replaced n) given narrow = absurd given
+narrow_repairs most t list bodies.Undone given narrow = absurd given
+narrow_repairs most t list (bodies.Answers xs) given narrow = absurd given
+narrow_repairs most t list (bodies.Refused fault) given narrow = absurd given

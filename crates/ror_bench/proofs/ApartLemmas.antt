@@ -7,8 +7,9 @@ use Rattle.ror_session.specs.declared.session.Command.{Command}
 use Rattle.ror_report.specs.declared.block.Block.{Block}
 use Rattle.ror_report.specs.declared.block.Body.{Body}
 use Rattle.ror_history.specs.History.{Revisions}
+use Rattle.ror_bench.specs.Allowed.{Allowing}
 use Rattle.ror_bench.specs.Bench.{Workbench, revisions_at}
-use Rattle.ror_bench.specs.Blocks.{Answering, IsBodyOf, IsBlockOf, revisions_with}
+use Rattle.ror_bench.specs.Blocks.{IsBodyOf, IsBlockOf, revisions_with}
 use Rattle.ror_bench.specs.Reports.{EachHolds, at_desk, revisions_then}
 use Rattle.ror_bench.specs.Desks.{with_blocks, said_at, turns_at, DesksStandApart, IsTurnOf, AreDeskByDesk}
 use Rattle.ror_bench.proofs.ReportProofs.{number_cases, same_number, other_number, then_at_own, then_at_other}
@@ -70,7 +71,7 @@ stand_apart one other desk_one desk_other lines_one lines_other blocks_one block
 abbrev HasNumber : Line → Block → Type 0
 HasNumber line block = block.line ≡ line.number
 
-module _ (H : Answering) where
+module _ (H : Allowing) where
   numbers_of : (bench : Workbench) (before : List (Line × Block)) (lines : List Line) (blocks : List Block) → EachHolds (IsBlockOf H bench.table) bench before lines blocks → AllZip HasNumber lines blocks
   numbers_of bench before [] [] each = tt
   numbers_of bench before [] (block ∷ blocks) each = absurd each

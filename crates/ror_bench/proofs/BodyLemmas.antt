@@ -4,17 +4,17 @@ use Rattle.std.specs.Prelude.{◌-◌, IfOk, IfErr, OnOk}
 use Rattle.ror_table.specs.Table.{DecisionTable}
 use Rattle.ror_session.specs.declared.session.Named.{Named}
 use Rattle.ror_session.specs.declared.session.Command.{Command}
-use Rattle.ror_session.specs.declared.session.Command.TheVariants.{State, Withdraw, Replace, Undo, Ask}
+use Rattle.ror_session.specs.declared.session.Command.TheVariants.{State, Withdraw, Replace, Repair, Undo, Ask}
 use Rattle.ror_report.specs.declared.block.Body.{Body}
 use Rattle.ror_report.specs.declared.block.Body.TheVariants as bodies
 use Rattle.ror_report.specs.declared.block.LineFault.{LineFault}
-use Rattle.ror_report.specs.Text.{answers_of}
 use Rattle.ror_report.specs.declared.block.LineFault.TheVariants as lines
 use Rattle.ror_statement.specs.declared.statement.Statement.{Statement}
 use Rattle.std.specs.Result.{result_ok}
 use Rattle.ror_history.specs.declared.history.HistoryFault.TheVariants as histories
 use Rattle.ror_history.specs.Faults.{CanBeAdded, CanBeReplaced, CanBeWithdrawn}
 use Rattle.ror_history.specs.History.{Revision, Revisions, addition, withdrawal, replacement, next_number, with_revision}
+use Rattle.ror_bench.specs.Allowed.{Allowing, of_form}
 use Rattle.ror_bench.specs.Names.{statement_of}
 use Rattle.ror_bench.specs.declared.bench.BlockFault.{BlockFault}
 use Rattle.ror_bench.specs.declared.bench.BlockFault.TheVariants as faults
@@ -24,28 +24,30 @@ use Rattle.ror_bench.specs.declared.desk.Made.TheVariants.{Added, Withdrawn, Rep
 use Rattle.ror_bench.specs.declared.stop.LineStop.{LineStop}
 use Rattle.ror_bench.specs.declared.stop.LineStop.TheVariants as stops
 use Rattle.ror_bench.specs.Lines.{IsRefusedFor}
-use Rattle.ror_bench.specs.Blocks.{Answering, IsRevised, IsOutcome, IsBodyOf, refused, taken, IsTo, passed_of, revisions_with, with_stated, without_last}
+use Rattle.ror_bench.specs.Blocks.{IsRevised, IsOutcome, IsBodyOf, refused, taken, passed_of, revisions_with, with_stated, without_last}
 use Rattle.ror_bench.specs.Steps.{body_of, IsMade, RefusesCommand, IsSaidOf, RefusesSaid, RefusesBody, EndsWithRevision, IsTakenBack}
 use Rattle.ror_bench.proofs.CommandLemmas.{one_refusal, added_taken, withdrawn_taken, replaced_taken, undo_taken, undone_taken, undone_refused}
 
-outcome : (H : Answering) (t : DecisionTable) (r : Revisions) (command : Command) (body : Body) → IsRevised t r command body → IsOutcome H t r command body
+outcome : (H : Allowing) (t : DecisionTable) (r : Revisions) (command : Command) (body : Body) → IsRevised t r command body → IsOutcome H t r command body
 outcome H t r (State named) body h = h
 outcome H t r (Withdraw n) body h = h
 outcome H t r (Replace n named) body h = h
 outcome H t r Undo body h = h
+outcome H t r Repair body h = absurd h
 outcome H t r (Ask asked) body h = absurd h
 
 -- a revision has one body
-one_body : (H : Answering) (t : DecisionTable) (r : Revisions) (command : Command) (b c : Body) → IsRevised t r command b → IsOutcome H t r command c → c ≡ b
+one_body : (H : Allowing) (t : DecisionTable) (r : Revisions) (command : Command) (b c : Body) → IsRevised t r command b → IsOutcome H t r command c → c ≡ b
 one_body H t r (State named) b c h k = k ∙ sym h
 one_body H t r (Withdraw n) b c h k = k ∙ sym h
 one_body H t r (Replace n named) b c h k = k ∙ sym h
 one_body H t r Undo b c h k = k ∙ sym h
+one_body H t r Repair b c h k = absurd h
 one_body H t r (Ask asked) b c h k = absurd h
 
 -- ---- what is made
 
-module _ (H : Answering) (t : DecisionTable) (r moved : Revisions) (command : Command) where
+module _ (H : Allowing) (t : DecisionTable) (r moved : Revisions) (command : Command) where
   pub said_body : (made : Result Made LineStop) (body : Body) → IfOk made (λ m. IsMade t r command m moved) → IfErr made (RefusesCommand t r command) → IsSaidOf made body → IsBodyOf H t r command body
   said_body (Ok m) body made stopped said = subst (IsBodyOf H t r command) (sym said) (taken made.taken (outcome H t r command (body_of m) made.revised))
   said_body (Err (stops.Refused fault)) body made stopped said = refused fault stopped said
@@ -66,7 +68,7 @@ module _ (H : Answering) (t : DecisionTable) (r moved : Revisions) (command : Co
 
 -- ---- the body that a line is given
 
-module _ (H : Answering) (t : DecisionTable) (r moved : Revisions) (command : Command) {E : Type 0} where
+module _ (H : Allowing) (t : DecisionTable) (r moved : Revisions) (command : Command) {E : Type 0} where
   pub given_body : (made : Result Made LineStop) (result : Result Body E) → IfOk made (λ m. IsMade t r command m moved) → IfErr made (RefusesCommand t r command) → IfOk result (IsSaidOf made) → IfOk result (IsBodyOf H t r command)
   given_body made (Ok body) is stopped said = said_body H t r moved command made body is stopped said
   given_body made (Err e) is stopped said = tt
@@ -82,26 +84,27 @@ given_keeps r moved (Err stop) (Err e) kept memory = kept
 
 -- ---- the check of a body
 
-said_no_answers : (made : Result Made LineStop) (body : Body) → IsSaidOf made body → answers_of body ≡ []
-said_no_answers (Ok (Added n)) body said = ap answers_of said
-said_no_answers (Ok (Withdrawn n)) body said = ap answers_of said
-said_no_answers (Ok (Replaced n)) body said = ap answers_of said
-said_no_answers (Ok Undone) body said = ap answers_of said
-said_no_answers (Err (stops.Refused fault)) body said = ap answers_of said
-said_no_answers (Err stops.Memory) body said = absurd said
+said_none : (made : Result Made LineStop) (body : Body) → IsSaidOf made body → passed_of body ≡ record { answers = 0; wide = 0 }
+said_none (Ok (Added n)) body said = ap passed_of said
+said_none (Ok (Withdrawn n)) body said = ap passed_of said
+said_none (Ok (Replaced n)) body said = ap passed_of said
+said_none (Ok Undone) body said = ap passed_of said
+said_none (Err (stops.Refused fault)) body said = ap passed_of said
+said_none (Err stops.Memory) body said = absurd said
 
-pub said_passes : (made : Result Made LineStop) (body : Body) (result : Result Passed BlockFault) → OnOk result (IsSaidOf made body) → IfOk result (λ p. p ≡ record { answers = 0; wide = 0 }) → IfOk result (λ p. p ≡ passed_of (answers_of body))
-said_passes made body (Ok p) said none = none ∙ ap passed_of (sym (said_no_answers made body said))
+pub said_passes : (made : Result Made LineStop) (body : Body) (result : Result Passed BlockFault) → OnOk result (IsSaidOf made body) → IfOk result (λ p. p ≡ record { answers = 0; wide = 0 }) → IfOk result (λ p. p ≡ passed_of body)
+said_passes made body (Ok p) said none = none ∙ sym (said_none made body said)
 said_passes made body (Err e) said none = tt
 
 module _ (t : DecisionTable) (r moved : Revisions) (command : Command) where
-  pub settled_body : (H : Answering) (made : Result Made LineStop) (body : Body) (result : Result Passed BlockFault) → IfOk made (λ m. IsMade t r command m moved) → IfErr made (RefusesCommand t r command) → OnOk result (IsSaidOf made body) → OnOk result (IsBodyOf H t r command body)
+  pub settled_body : (H : Allowing) (made : Result Made LineStop) (body : Body) (result : Result Passed BlockFault) → IfOk made (λ m. IsMade t r command m moved) → IfErr made (RefusesCommand t r command) → OnOk result (IsSaidOf made body) → OnOk result (IsBodyOf H t r command body)
   settled_body H made body (Ok p) is stopped said = said_body H t r moved command made body is stopped said
   settled_body H made body (Err e) is stopped said = tt
 
   refuses : (made : Result Made LineStop) (body : Body) (fault : BlockFault) → IfOk made (λ m. IsMade t r command m moved) → IfErr made (RefusesCommand t r command) → RefusesSaid made body fault → RefusesBody t r command body fault
-  refuses made body faults.WrongBlock is stopped other = λ of. not_said IsTo t r moved command made body other.0 is stopped other.1 of
+  refuses made body faults.WrongBlock is stopped other = λ of. not_said of_form t r moved command made body other.0 is stopped other.1 of
   refuses made body (faults.Answer k fault) is stopped other = absurd other
+  refuses made body (faults.Repair fault) is stopped other = absurd other
   refuses made body faults.Memory is stopped other = tt
 
   pub settled_refused : (made : Result Made LineStop) (body : Body) (result : Result Passed BlockFault) → IfOk made (λ m. IsMade t r command m moved) → IfErr made (RefusesCommand t r command) → IfErr result (RefusesSaid made body) → IfErr result (RefusesBody t r command body)
@@ -109,7 +112,7 @@ module _ (t : DecisionTable) (r moved : Revisions) (command : Command) where
   settled_refused made body (Err e) is stopped other = refuses made body e is stopped other
 
   pub settled_moves : (made : Result Made LineStop) (body : Body) (last : Revisions) (result : Result Passed BlockFault) → IfOk made (λ m. IsMade t r command m moved) → IfErr made (λ _. moved ≡ r) → OnOk result (IsSaidOf made body) → OnOk result (last ≡ moved) → OnOk result (last ≡ revisions_with t r command body)
-  settled_moves made body last (Ok p) is kept said same = same ∙ said_moves IsTo t r moved command made body is kept said
+  settled_moves made body last (Ok p) is kept said same = same ∙ said_moves of_form t r moved command made body is kept said
   settled_moves made body last (Err e) is kept said same = tt
 
 -- ---- taking back
@@ -190,7 +193,7 @@ pub nothing_refused : (t : DecisionTable) (r : Revisions) → ((r.surviving ≢ 
 nothing_refused t r none = undone_refused t r histories.NothingToUndo (some_or_none r.surviving none)
 
 -- where something can be undone, a body that says something else is another's
-pub not_undone : (t : DecisionTable) (r : Revisions) (body : Body) → r.surviving ≢ [] → body ≢ bodies.Undone → IsBodyOf IsTo t r Undo body → ⊥
+pub not_undone : (t : DecisionTable) (r : Revisions) (body : Body) → r.surviving ≢ [] → body ≢ bodies.Undone → IsBodyOf of_form t r Undo body → ⊥
 not_undone t r body some other (refused fault first is) = undo_taken t r some fault first.fails
 not_undone t r body some other (taken passes is) = other is
 

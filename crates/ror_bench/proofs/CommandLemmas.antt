@@ -13,7 +13,7 @@ use Rattle.ror_session.specs.declared.session.Named.{Named}
 use Rattle.ror_session.specs.declared.session.Asked.{Asked}
 use Rattle.ror_session.specs.declared.session.Asked.TheVariants.{Consistent, Necessary, Possible, NecessaryStrength, PossibleStrength, PossibleClass, NecessaryClass, Classes, Relation}
 use Rattle.ror_session.specs.declared.session.Command.{Command}
-use Rattle.ror_session.specs.declared.session.Command.TheVariants.{State, Withdraw, Replace, Undo, Ask}
+use Rattle.ror_session.specs.declared.session.Command.TheVariants.{State, Withdraw, Replace, Repair, Undo, Ask}
 use Rattle.ror_report.specs.declared.block.LineFault.{LineFault}
 use Rattle.ror_report.specs.declared.block.LineFault.TheVariants as faults
 use Rattle.ror_history.specs.declared.history.HistoryFault.{HistoryFault}
@@ -303,6 +303,20 @@ replaced_refused t r n named s histories.TooManyRows e refused = first_of t r (R
     before faults.TooManyStatements less h = h
     before faults.TooManyRows less h = absurd (omega arith)
     before faults.TooManyPairs less h = absurd (omega arith)
+
+-- ---- a repair
+
+-- a repair is never refused
+pub repair_taken : (t : DecisionTable) (r : Revisions) → IsTaken t r Repair
+repair_taken t r faults.UnknownAlternative h = h
+repair_taken t r faults.UnknownCriterion h = h
+repair_taken t r faults.UnknownClass h = h
+repair_taken t r faults.BadInterval h = h
+repair_taken t r faults.NoSuchStatement h = h
+repair_taken t r faults.NothingToUndo h = h
+repair_taken t r faults.TooManyStatements h = h
+repair_taken t r faults.TooManyRows h = h
+repair_taken t r faults.TooManyPairs h = h
 
 -- ---- an undo
 

@@ -16,7 +16,8 @@ use Rattle.ror_report.specs.declared.block.Block.{Block}
 use Rattle.ror_bench.specs.declared.bench.BlockFault.{BlockFault}
 use Rattle.ror_bench.specs.declared.bench.Passed.{Passed}
 use Rattle.ror_bench.specs.Bench.{Workbench, revisions_at, IsLawfulThroughout}
-use Rattle.ror_bench.specs.Blocks.{Answering, IsBodyOf, revisions_with, with_block}
+use Rattle.ror_bench.specs.Allowed.{Allowing}
+use Rattle.ror_bench.specs.Blocks.{IsBodyOf, revisions_with, with_block}
 use Rattle.ror_bench.proofs.LawfulLemmas.{moved_lawful}
 
 abbrev IsKept : DecisionTable → HistoryView → Type 0
@@ -109,7 +110,7 @@ module _ (t : DecisionTable) (views : List HistoryView) (line : Line) (block : B
   checked_keeps (Ok p) is whole kept = tt
   checked_keeps (Err e) is whole kept = state_stays t views line.desk old new is kept ∙ whole
 
-  pub checked_lawful : (H : Answering) (result : Result Passed BlockFault) → AllByRecursion (IsKept t) views → line.desk < length (map (λ (h : HistoryView). h.state) views) → old ≡ get_or views line.desk old → OnOk result (IsBodyOf H t old.state line.command block.body) → OnOk result (new.state ≡ revisions_with t old.state line.command block.body) → IfErr result (λ _. new.state ≡ old.state) → AllByRecursion (IsKept t) (slice_set views line.desk new)
+  pub checked_lawful : (H : Allowing) (result : Result Passed BlockFault) → AllByRecursion (IsKept t) views → line.desk < length (map (λ (h : HistoryView). h.state) views) → old ≡ get_or views line.desk old → OnOk result (IsBodyOf H t old.state line.command block.body) → OnOk result (new.state ≡ revisions_with t old.state line.command block.body) → IfErr result (λ _. new.state ≡ old.state) → AllByRecursion (IsKept t) (slice_set views line.desk new)
   checked_lawful H (Ok p) all within is body moved kept =
       kept_set t views line.desk new all (subst (IsLawfulThroughout t) (sym moved) (moved_lawful H t old.state line.command block.body (kept_at t views line.desk old all within is) body))
   checked_lawful H (Err e) all within is body moved kept =

@@ -14,16 +14,19 @@ use Rattle.ror_table.specs.Table.{DecisionTable}
 use Rattle.ror_value.specs.Over.{IsLawfulIn, IsValidIn}
 use Rattle.ror_session.specs.declared.session.Named.{Named}
 use Rattle.ror_session.specs.declared.session.Command.{Command}
-use Rattle.ror_session.specs.declared.session.Command.TheVariants.{State, Withdraw, Replace, Undo, Ask}
+use Rattle.ror_session.specs.declared.session.Command.TheVariants.{State, Withdraw, Replace, Repair, Undo, Ask}
+use Rattle.ror_check.specs.Repair.{numbers_of}
 use Rattle.ror_report.specs.declared.block.Body.{Body}
+use Rattle.ror_report.specs.declared.block.Body.TheVariants as bodies
 use Rattle.ror_report.specs.declared.block.LineFault.{LineFault}
 use Rattle.ror_report.specs.declared.block.LineFault.TheVariants as faults
 use Rattle.ror_history.specs.History.{Revision, addition, withdrawal, replacement, Revisions, revised, standing, statements_of, numbers, added_numbers, next_number, with_numbers_from, with_revision}
 use Rattle.ror_history.proofs.TurnLemmas.{standing-more, next_number-more, one_more, withdrawn_stays, replaced_stays}
 use Rattle.ror_history.proofs.RowLemmas.{row_count-filter, length-filter_le}
+use Rattle.ror_bench.specs.Allowed.{Allowing}
 use Rattle.ror_bench.specs.Bench.{IsLawfulThroughout}
 use Rattle.ror_bench.specs.Names.{statement_of}
-use Rattle.ror_bench.specs.Blocks.{Answering, IsBodyOf, refused, taken, with_stated, without_last, revisions_with}
+use Rattle.ror_bench.specs.Blocks.{IsBodyOf, refused, taken, with_stated, without_last, revisions_with}
 use Rattle.ror_bench.proofs.NameLemmas.{statement_valid}
 
 abbrev first_revisions : Revisions → List Revision → Revisions
@@ -166,7 +169,28 @@ at_most m n not_past = elim (cases_lt n m) [ inl past ↦ absurd (not_past past)
 
 -- ---- after a line and its body
 
-module _ (H : Answering) (t : DecisionTable) (r : Revisions) where
+-- of a line that states nothing, whatever its body is
+repaired_lawful : (t : DecisionTable) (r : Revisions) (body : Body) → IsLawfulThroughout t r → IsLawfulThroughout t (revisions_with t r Repair body)
+repaired_lawful t r (bodies.Added n) lawful = lawful
+repaired_lawful t r (bodies.Withdrawn n) lawful = lawful_more t r (withdrawal (n ∷ [])) lawful (withdrawn_lawful t r (n ∷ []) (lawful_now t r lawful))
+repaired_lawful t r (bodies.Replaced n) lawful = lawful
+repaired_lawful t r bodies.Undone lawful = undone_lawful t r lawful
+repaired_lawful t r (bodies.Repaired kept) lawful = lawful_more t r (withdrawal (numbers_of kept.dropped)) lawful (withdrawn_lawful t r (numbers_of kept.dropped) (lawful_now t r lawful))
+repaired_lawful t r (bodies.RepairWide n note) lawful = lawful
+repaired_lawful t r (bodies.Answers xs) lawful = lawful
+repaired_lawful t r (bodies.Refused fault) lawful = lawful
+
+repaired_number : (t : DecisionTable) (r : Revisions) (body : Body) → next_number (revisions_with t r Repair body) ≤ 1 + next_number r
+repaired_number t r (bodies.Added n) = omega arith
+repaired_number t r (bodies.Withdrawn n) = let stays = withdrawn_stays r (n ∷ []) in omega arith
+repaired_number t r (bodies.Replaced n) = omega arith
+repaired_number t r bodies.Undone = let fewer = undone_number r in omega arith
+repaired_number t r (bodies.Repaired kept) = let stays = withdrawn_stays r (numbers_of kept.dropped) in omega arith
+repaired_number t r (bodies.RepairWide n note) = omega arith
+repaired_number t r (bodies.Answers xs) = omega arith
+repaired_number t r (bodies.Refused fault) = omega arith
+
+module _ (H : Allowing) (t : DecisionTable) (r : Revisions) where
   stated_lawful : (command : Command) (named : Named) (make : Statement → Revision) (o : Result Statement LineFault) → IsLawfulThroughout t r → ((s : Statement) → o ≡ Ok s → IsLawfulIn t (statements_of (with_revision r (make s)))) → IsLawfulThroughout t (with_stated r make (result_ok o))
   stated_lawful command named make (Err fault) lawful made = lawful
   stated_lawful command named make (Ok s) lawful made = lawful_more t r (make s) lawful (made s refl)
@@ -186,6 +210,7 @@ module _ (H : Answering) (t : DecisionTable) (r : Revisions) where
       replaced_lawful t r n s (lawful_now t r lawful) (statement_valid t named s e) (at_most (row_count (statements_of (with_revision r (replacement n s)))) MOST_ROWS (λ past. passes faults.TooManyRows (s, e, past)))))
   moved_lawful Undo body lawful (taken passes is) =
       subst (λ (b : Body). IsLawfulThroughout t (revisions_with t r Undo b)) (sym is) (undone_lawful t r lawful)
+  moved_lawful Repair body lawful (taken passes is) = repaired_lawful t r body lawful
   moved_lawful (Ask asked) body lawful (taken passes is) =
       subst (λ (b : Body). IsLawfulThroughout t (revisions_with t r (Ask asked) b)) (sym is.0) lawful
 
@@ -204,5 +229,6 @@ module _ (H : Answering) (t : DecisionTable) (r : Revisions) where
       subst (λ (b : Body). next_number (revisions_with t r (Replace n named) b) ≤ 1 + next_number r) (sym is) (stated_number (replacement n) (statement_of t named) (λ s. let stays = replaced_stays r n s in omega arith))
   moved_number Undo body (taken passes is) =
       subst (λ (b : Body). next_number (revisions_with t r Undo b) ≤ 1 + next_number r) (sym is) (let fewer = undone_number r in omega arith)
+  moved_number Repair body (taken passes is) = repaired_number t r body
   moved_number (Ask asked) body (taken passes is) =
       subst (λ (b : Body). next_number (revisions_with t r (Ask asked) b) ≤ 1 + next_number r) (sym is.0) (omega arith)

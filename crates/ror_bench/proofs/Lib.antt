@@ -11,6 +11,7 @@ pub mod Truth
 pub mod ReplayLemmas
 pub mod MakingLemmas
 pub mod PrintableLemmas
+pub mod RepairLemmas
 pub mod ApartLemmas
 pub mod AgreeLemmas
 pub mod UniqueLemmas

@@ -5,10 +5,10 @@ use Rattle.std.proofs.lemmas.List.Concat.{flat_map-append}
 use Rattle.ror_text.proofs.Everywhere.{all-append}
 use Rattle.ror_table.specs.Table.{DecisionTable}
 use Rattle.ror_session.specs.declared.session.Line.{Line}
-use Rattle.ror_relation.specs.Answers.{IsGiven}
 use Rattle.ror_report.specs.declared.block.Block.{Block}
 use Rattle.ror_report.specs.Text.{block_text, IsPrintableBlock}
 use Rattle.ror_history.specs.History.{Revisions}
+use Rattle.ror_bench.specs.Allowed.{given_at}
 use Rattle.ror_bench.specs.Bench.{Workbench, revisions_at, LeavesNumbers}
 use Rattle.ror_bench.specs.Blocks.{IsBlockOf, with_block}
 use Rattle.ror_bench.specs.Desks.{with_blocks}
@@ -38,11 +38,11 @@ pub record IsMade (most : ℕ) (start : Workbench) (lines : List Line) (bench : 
 pub made_nothing : (most : ℕ) (start : Workbench) → IsMade most start [] start []
 made_nothing most start = record { blocks_are = record { printable = tt; given = tt }; after = after_nothing start }
 
-pub made_more : (most : ℕ) (start : Workbench) (lines : List Line) (bench moved : Workbench) (line : Line) (blocks : List Block) (block : Block) → IsMade most start lines bench blocks → line.desk < length start.state → IsBlockOf (IsGiven most) bench.table (revisions_at bench line.desk) line block → IsPrintableBlock bench.table block → moved ≡ with_block bench line block → IsMade most start (lines ++ line ∷ []) moved (blocks ++ block ∷ [])
+pub made_more : (most : ℕ) (start : Workbench) (lines : List Line) (bench moved : Workbench) (line : Line) (blocks : List Block) (block : Block) → IsMade most start lines bench blocks → line.desk < length start.state → IsBlockOf (given_at most) bench.table (revisions_at bench line.desk) line block → IsPrintableBlock bench.table block → moved ≡ with_block bench line block → IsMade most start (lines ++ line ∷ []) moved (blocks ++ block ∷ [])
 made_more most start lines bench moved line blocks block made within is text moves =
-    let P : Revisions → Line → Block → Type 0 = IsBlockOf (IsGiven most) start.table in
+    let P : Revisions → Line → Block → Type 0 = IsBlockOf (given_at most) start.table in
     let before = with_blocks lines blocks in
-    let here : P (revisions_at bench line.desk) line block = subst (λ (t : DecisionTable). IsBlockOf (IsGiven most) t (revisions_at bench line.desk) line block) made.after.table is in
+    let here : P (revisions_at bench line.desk) line block = subst (λ (t : DecisionTable). IsBlockOf (given_at most) t (revisions_at bench line.desk) line block) made.after.table is in
     let then : P (revisions_then start before line.desk) line block = subst (λ (r : Revisions). P r line block) (made.after.holds line.desk within) here in
     let all = made.blocks_are.given in
     record {
@@ -54,7 +54,7 @@ made_more most start lines bench moved line blocks block made within is text mov
     }
 
 -- a desk's numbers are as many fewer as lines were done
-pub numbers_then : (most : ℕ) (bench moved : Workbench) (line : Line) (block : Block) (more : ℕ) → line.desk < length bench.state → AllByRecursion (LeavesNumbers (1 + more)) bench.state → IsBlockOf (IsGiven most) bench.table (revisions_at bench line.desk) line block → moved ≡ with_block bench line block → AllByRecursion (LeavesNumbers more) moved.state
+pub numbers_then : (most : ℕ) (bench moved : Workbench) (line : Line) (block : Block) (more : ℕ) → line.desk < length bench.state → AllByRecursion (LeavesNumbers (1 + more)) bench.state → IsBlockOf (given_at most) bench.table (revisions_at bench line.desk) line block → moved ≡ with_block bench line block → AllByRecursion (LeavesNumbers more) moved.state
 numbers_then most bench moved line block more within all given is =
     numbers_after bench moved line block more within all (block_proved most bench.table (revisions_at bench line.desk) line block given) is
 

@@ -1,12 +1,13 @@
--- That a report that is given at a width is proved but for its answers that are too wide.
+-- That a report that is given at a width is proved but for what is too wide.
 use Rattle.std.proofs.Common.{ℕ, List, [], ◌∷◌, ◌++◌}
 use Rattle.std.specs.List.{AllZip}
 use Rattle.ror_statement.specs.declared.statement.Statement.{Statement}
+use Rattle.ror_statement.specs.declared.statement.Numbered.{Numbered}
 use Rattle.ror_statement.specs.declared.question.Question.{Question}
 use Rattle.ror_table.specs.Table.{DecisionTable}
 use Rattle.ror_session.specs.declared.session.Line.{Line}
 use Rattle.ror_session.specs.declared.session.Command.{Command}
-use Rattle.ror_session.specs.declared.session.Command.TheVariants.{State, Withdraw, Replace, Undo, Ask}
+use Rattle.ror_session.specs.declared.session.Command.TheVariants.{State, Withdraw, Replace, Repair, Undo, Ask}
 use Rattle.ror_proof.specs.declared.answer.Answer.{Answer}
 use Rattle.ror_proof.specs.declared.answer.Verdict.{Verdict}
 use Rattle.ror_proof.specs.declared.answer.Verdict.TheVariants as verdicts
@@ -15,10 +16,12 @@ use Rattle.ror_relation.specs.Wide.{HasNoteAt}
 use Rattle.ror_relation.specs.Answers.{IsGiven}
 use Rattle.ror_report.specs.declared.block.Block.{Block}
 use Rattle.ror_report.specs.declared.block.Body.{Body}
+use Rattle.ror_report.specs.declared.block.Body.TheVariants as bodies
 use Rattle.ror_report.specs.Text.{answers_of}
-use Rattle.ror_history.specs.History.{Revisions, statements_of}
+use Rattle.ror_history.specs.History.{Revisions, standing, statements_of}
+use Rattle.ror_bench.specs.Allowed.{Allowing, IsProvedUnlessWide, IsRepairAt, IsRepairProvedUnlessWide, given_at, proved_unless_wide}
 use Rattle.ror_bench.specs.Bench.{Workbench}
-use Rattle.ror_bench.specs.Blocks.{Answering, IsBodyOf, refused, taken, IsBlockOf, IsProvedUnlessWide, IsProvedBlock}
+use Rattle.ror_bench.specs.Blocks.{IsBodyOf, refused, taken, IsBlockOf, IsProvedBlock}
 use Rattle.ror_bench.specs.Reports.{EachHolds, revisions_then}
 use Rattle.ror_bench.specs.Laws.{ReplayedIsProved}
 
@@ -31,23 +34,37 @@ verdict_unless_wide most t list q (verdicts.Wide system note) h = tt
 given_unless_wide : (most : ℕ) (t : DecisionTable) (list : List Statement) (q : Question) (x : Answer) → IsGiven most t list q x → IsProvedUnlessWide t list q x
 given_unless_wide most t list q x given = record { question = given.allowed.question; proof = verdict_unless_wide most t list q x.verdict given.allowed.verdict }
 
-zip_by : (H K : Answering) (t : DecisionTable) (list : List Statement) → ((q : Question) (x : Answer) → H t list q x → K t list q x) → (qs : List Question) (xs : List Answer) → AllZip (H t list) qs xs → AllZip (K t list) qs xs
+repair_unless_wide : (most : ℕ) (t : DecisionTable) (list : List Numbered) (body : Body) → IsRepairAt most t list body → IsRepairProvedUnlessWide t list body
+repair_unless_wide most t list (bodies.Repaired kept) h = h.0.proved
+repair_unless_wide most t list (bodies.RepairWide n note) h = tt
+repair_unless_wide most t list (bodies.Added n) h = absurd h
+repair_unless_wide most t list (bodies.Withdrawn n) h = absurd h
+repair_unless_wide most t list (bodies.Replaced n) h = absurd h
+repair_unless_wide most t list bodies.Undone h = absurd h
+repair_unless_wide most t list (bodies.Answers xs) h = absurd h
+repair_unless_wide most t list (bodies.Refused fault) h = absurd h
+
+zip_by : (H K : DecisionTable → List Statement → Question → Answer → Type 0) (t : DecisionTable) (list : List Statement) → ((q : Question) (x : Answer) → H t list q x → K t list q x) → (qs : List Question) (xs : List Answer) → AllZip (H t list) qs xs → AllZip (K t list) qs xs
 zip_by H K t list by [] [] all = tt
 zip_by H K t list by [] (x ∷ xs) all = absurd all
 zip_by H K t list by (q ∷ qs) [] all = absurd all
 zip_by H K t list by (q ∷ qs) (x ∷ xs) all = (by q x all.0, zip_by H K t list by qs xs all.1)
 
--- where one kind of answers is of another, so is a body
-pub body_by : (H K : Answering) (t : DecisionTable) (r : Revisions) → ((q : Question) (x : Answer) → H t (statements_of r) q x → K t (statements_of r) q x) → (command : Command) (body : Body) → IsBodyOf H t r command body → IsBodyOf K t r command body
-body_by H K t r by command body (refused fault first is) = refused fault first is
-body_by H K t r by (State named) body (taken passes is) = taken passes is
-body_by H K t r by (Withdraw n) body (taken passes is) = taken passes is
-body_by H K t r by (Replace n named) body (taken passes is) = taken passes is
-body_by H K t r by Undo body (taken passes is) = taken passes is
-body_by H K t r by (Ask asked) body (taken passes is) = taken passes (is.0, record { asked = is.1.asked; named = is.1.named; each = zip_by H K t (statements_of r) by is.1.asked (answers_of body) is.1.each })
+-- where what is allowed in one way is allowed in the other, so is a body
+pub body_by : (H K : Allowing) (t : DecisionTable) (r : Revisions) → ((q : Question) (x : Answer) → H.answer t (statements_of r) q x → K.answer t (statements_of r) q x) → ((body : Body) → H.repair t (standing r) body → K.repair t (standing r) body) → (command : Command) (body : Body) → IsBodyOf H t r command body → IsBodyOf K t r command body
+body_by H K t r by repairs command body (refused fault first is) = refused fault first is
+body_by H K t r by repairs (State named) body (taken passes is) = taken passes is
+body_by H K t r by repairs (Withdraw n) body (taken passes is) = taken passes is
+body_by H K t r by repairs (Replace n named) body (taken passes is) = taken passes is
+body_by H K t r by repairs Repair body (taken passes is) = taken passes (repairs body is)
+body_by H K t r by repairs Undo body (taken passes is) = taken passes is
+body_by H K t r by repairs (Ask asked) body (taken passes is) = taken passes (is.0, record { asked = is.1.asked; named = is.1.named; each = zip_by H.answer K.answer t (statements_of r) by is.1.asked (answers_of body) is.1.each })
 
-pub block_proved : (most : ℕ) (t : DecisionTable) (r : Revisions) (line : Line) (block : Block) → IsBlockOf (IsGiven most) t r line block → IsProvedBlock t r line block
-block_proved most t r line block of = record { number = of.number; body = body_by (IsGiven most) IsProvedUnlessWide t r (λ q x given. given_unless_wide most t (statements_of r) q x given) line.command block.body of.body }
+pub block_proved : (most : ℕ) (t : DecisionTable) (r : Revisions) (line : Line) (block : Block) → IsBlockOf (given_at most) t r line block → IsProvedBlock t r line block
+block_proved most t r line block of = record {
+  number = of.number;
+  body = body_by (given_at most) proved_unless_wide t r (λ q x given. given_unless_wide most t (statements_of r) q x given) (λ body given. repair_unless_wide most t (standing r) body given) line.command block.body of.body;
+}
 
 each_by : (P Q : Revisions → Line → Block → Type 0) → ((r : Revisions) (line : Line) (block : Block) → P r line block → Q r line block) → (bench : Workbench) (before : List (Line × Block)) (lines : List Line) (blocks : List Block) → EachHolds P bench before lines blocks → EachHolds Q bench before lines blocks
 each_by P Q by bench before [] [] h = tt
@@ -60,6 +77,6 @@ replayed_proved most bench lines bytes x report = record {
   blocks = report.blocks;
   text = report.text;
   printable = report.made.printable;
-  proved = each_by (IsBlockOf (IsGiven most) bench.table) (IsProvedBlock bench.table) (λ r line block of. block_proved most bench.table r line block of) bench [] lines report.blocks report.made.given;
+  proved = each_by (IsBlockOf (given_at most) bench.table) (IsProvedBlock bench.table) (λ r line block of. block_proved most bench.table r line block of) bench [] lines report.blocks report.made.given;
   counted = report.counted;
 }

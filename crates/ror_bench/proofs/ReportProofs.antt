@@ -14,7 +14,7 @@ use Rattle.ror_text.specs.FirstFault.{IsRefusedBy}
 use Rattle.ror_text.specs.Cursor.{Cursor, cursor_at}
 use Rattle.ror_report.specs.declared.block.Block.{Block}
 use Rattle.ror_report.specs.declared.read.ReportFault.{ReportFault}
-use Rattle.ror_report.specs.Text.{block_text, header_text, end_text, answers_of, IsPrintableBlock}
+use Rattle.ror_report.specs.Text.{block_text, header_text, end_text, IsPrintableBlock}
 use Rattle.ror_report.specs.declared.read.ReportFault.TheVariants as forms
 use Rattle.ror_report.specs.Reading.{report_fault, ends_body, begins_end, block_at, end_at, header_at}
 use Rattle.ror_report.proofs.BlockLemmas.{block_reads_back, is_read_iff_text}
@@ -29,7 +29,8 @@ use Rattle.ror_bench.specs.declared.report.Rejection.{Rejection}
 use Rattle.ror_bench.specs.declared.report.Reason.{Reason}
 use Rattle.ror_bench.specs.declared.report.TheConstants.{MOST_REPORT_BYTES}
 use Rattle.ror_bench.specs.Bench.{Workbench, revisions_at, LeavesNumbers}
-use Rattle.ror_bench.specs.Blocks.{IsProvedUnlessWide, IsProvedBlock, passed_of, revisions_with, with_block}
+use Rattle.ror_bench.specs.Allowed.{proved_unless_wide}
+use Rattle.ror_bench.specs.Blocks.{IsProvedBlock, passed_of, revisions_with, with_block}
 use Rattle.ror_bench.specs.Faults.{FailsBlock, IsEarlierBlockFault}
 use Rattle.ror_bench.specs.Reports.{IsProvedReport, NamesADesk, EachHolds, accepted_of, at_desk, revisions_after, revisions_then, IfRejected, RejectsNext, RejectsEnd, IsRejectedFrom, IsRejectedFor, end_misread, ends_early, block_misread, refused, miscounted, one_too_many, at_line, at_end, later, not_utf8, no_header, in_blocks}
 use Rattle.ror_bench.specs.declared.report.ReportError.{ReportError}
@@ -75,10 +76,10 @@ end_begins_end bytes n e =
 -- ---- what is left
 
 answers_in : Block → ℕ
-answers_in b = (passed_of (answers_of b.body)).answers
+answers_in b = (passed_of b.body).answers
 
 wide_in : Block → ℕ
-wide_in b = (passed_of (answers_of b.body)).wide
+wide_in b = (passed_of b.body).wide
 
 pub sums : {X : Type 0} (f : X → ℕ) (x : X) (xs : List X) → sum_by f (x ∷ xs) ≡ f x + sum_by f xs
 sums f x xs = sum_by-append f (x ∷ []) xs ∙ ap (λ n. n + sum_by f xs) (zero-add (f x))
@@ -87,16 +88,16 @@ same_accepted : (x y : Accepted) → x.answers ≡ y.answers → x.wide ≡ y.wi
 same_accepted x y a w = ap (λ n. record { answers = n; wide = x.wide }) a ∙ ap (λ n. record { answers = y.answers; wide = n }) w
 
 -- the numbers of a block and of those after it
-accepted_more : (b : Block) (bs : List Block) (x : Accepted) → x ≡ accepted_of bs → with_passed x (passed_of (answers_of b.body)) ≡ accepted_of (b ∷ bs)
+accepted_more : (b : Block) (bs : List Block) (x : Accepted) → x ≡ accepted_of bs → with_passed x (passed_of b.body) ≡ accepted_of (b ∷ bs)
 accepted_more b bs x e =
-    let here : with_passed x (passed_of (answers_of b.body)) ≡ with_passed (accepted_of bs) (passed_of (answers_of b.body)) = ap (λ (y : Accepted). with_passed y (passed_of (answers_of b.body))) e in
-    here ∙ same_accepted (with_passed (accepted_of bs) (passed_of (answers_of b.body))) (accepted_of (b ∷ bs))
-    (let s = sums (λ b. (passed_of (answers_of b.body)).answers) b bs in omega (arith, s))
-    (let s = sums (λ b. (passed_of (answers_of b.body)).wide) b bs in omega (arith, s))
+    let here : with_passed x (passed_of b.body) ≡ with_passed (accepted_of bs) (passed_of b.body) = ap (λ (y : Accepted). with_passed y (passed_of b.body)) e in
+    here ∙ same_accepted (with_passed (accepted_of bs) (passed_of b.body)) (accepted_of (b ∷ bs))
+    (let s = sums (λ b. (passed_of b.body).answers) b bs in omega (arith, s))
+    (let s = sums (λ b. (passed_of b.body).wide) b bs in omega (arith, s))
 
 -- a block that holds of a line, and what is left behind it
 pub rest_with : (start : Workbench) (before : List (Line × Block)) (line : Line) (lines : List Line) (total : ℕ) (bytes after : List ℕ) (b : Block) (x : Accepted)
-    → bytes ≡ block_text start.table b ++ after → IsPrintableBlock start.table b → IsProvedBlock start.table (revisions_then start before line.desk) line b → IsRest start (before ++ (line, b) ∷ []) lines total after x → IsRest start before (line ∷ lines) total bytes (with_passed x (passed_of (answers_of b.body)))
+    → bytes ≡ block_text start.table b ++ after → IsPrintableBlock start.table b → IsProvedBlock start.table (revisions_then start before line.desk) line b → IsRest start (before ++ (line, b) ∷ []) lines total after x → IsRest start before (line ∷ lines) total bytes (with_passed x (passed_of b.body))
 rest_with start before line lines total bytes after b x text printable proved rest = record {
   blocks = b ∷ rest.blocks;
   text = text ∙ ap (λ (l : List ℕ). block_text start.table b ++ l) rest.text ∙ sym (append_assoc (block_text start.table b) (flat_map (block_text start.table) rest.blocks) (end_text total));
@@ -222,7 +223,7 @@ number_left bench line more within all = let here = numbers_at (1 + more) bench.
 pub numbers_after : (bench moved : Workbench) (line : Line) (block : Block) (more : ℕ) → line.desk < length bench.state → AllByRecursion (LeavesNumbers (1 + more)) bench.state → IsProvedBlock bench.table (revisions_at bench line.desk) line block → moved ≡ with_block bench line block → AllByRecursion (LeavesNumbers more) moved.state
 numbers_after bench moved line block more within all proved is =
     let here = numbers_at (1 + more) bench.state line.desk (record { opening = []; surviving = [] }) within all in
-    let rises = moved_number IsProvedUnlessWide bench.table (revisions_at bench line.desk) line.command block.body proved.body in
+    let rises = moved_number proved_unless_wide bench.table (revisions_at bench line.desk) line.command block.body proved.body in
     subst (λ (b : Workbench). AllByRecursion (LeavesNumbers more) b.state) (sym is)
     (numbers_set more bench.state line.desk (revisions_with bench.table (revisions_at bench line.desk) line.command block.body) (weaker more bench.state all) (omega (arith, here, rises)))
 
@@ -306,8 +307,8 @@ way_goes_on start lines bytes place bench moved line left from accepted count pa
       counted = let c = way.counted in omega (arith, c, length-append way.before ((line, next.block) ∷ []));
       after = after_block start way.before bench moved line next.block way.after within next.moved_on;
       completes = λ x rest.
-          let whole = way.completes (with_passed x (passed_of (answers_of next.block.body))) (rest_with start way.before line left (length lines) (drop from bytes) (drop after bytes) next.block x is.text is.printable here.proved rest) in
-          subst (IsProvedReport start lines bytes) (both_ways accepted x (passed_of (answers_of next.block.body)) passed next.counted) whole;
+          let whole = way.completes (with_passed x (passed_of next.block.body)) (rest_with start way.before line left (length lines) (drop from bytes) (drop after bytes) next.block x is.text is.printable here.proved rest) in
+          subst (IsProvedReport start lines bytes) (both_ways accepted x (passed_of next.block.body) passed next.counted) whole;
       rejects = λ rejection rest. way.rejects rejection (later way.before line left from next.block after next.no_end here.read here.proved rest);
     }
 
@@ -443,6 +444,7 @@ pub refused_rejects : (t u : DecisionTable) (r : Revisions) (line : Line) (bytes
     → IfRejected (AtBlock block (RejectsNext t r line bytes from)) (refused_block_error block fault)
 refused_rejects t u r line bytes from block after found blocks.WrongBlock same no_end read first = (refl, refused found after blocks.WrongBlock no_end (ap (λ (v : DecisionTable). block_at v (cursor_at bytes from)) (sym same) ∙ read) (first (λ e. cc)) refl)
 refused_rejects t u r line bytes from block after found (blocks.Answer k fault) same no_end read first = (refl, refused found after (blocks.Answer k fault) no_end (ap (λ (v : DecisionTable). block_at v (cursor_at bytes from)) (sym same) ∙ read) (first (λ e. cc)) refl)
+refused_rejects t u r line bytes from block after found (blocks.Repair fault) same no_end read first = (refl, refused found after (blocks.Repair fault) no_end (ap (λ (v : DecisionTable). block_at v (cursor_at bytes from)) (sym same) ∙ read) (first (λ e. cc)) refl)
 refused_rejects t u r line bytes from block after found blocks.Memory same no_end read first = tt
 
 pub misread_rejects : (t u : DecisionTable) (r : Revisions) (line : Line) (bytes : List ℕ) (from block : ℕ) (fault : ReportFault) → u ≡ t → begins_end (drop from bytes) ≡ false → IfSome (report_fault fault) (λ f. block_at u (cursor_at bytes from) ≡ Err f) → IfRejected (AtBlock block (RejectsNext t r line bytes from)) (misread_error bytes block fault)

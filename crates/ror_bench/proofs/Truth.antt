@@ -4,11 +4,12 @@ use Rattle.std.specs.Prelude.{slice_index_or, IfOk}
 use Rattle.std.specs.List.{AllByRecursion}
 use Rattle.ror_session.specs.declared.session.Line.{Line}
 use Rattle.ror_report.specs.declared.block.Block.{Block}
-use Rattle.ror_history.specs.History.{Revisions, statements_of}
+use Rattle.ror_history.specs.History.{Revisions}
 use Rattle.ror_bench.specs.declared.report.Accepted.{Accepted}
 use Rattle.ror_bench.specs.declared.report.ReportError.{ReportError}
 use Rattle.ror_bench.specs.Bench.{Workbench, IsLawfulBench, IsLawfulThroughout}
-use Rattle.ror_bench.specs.Blocks.{IsProvedUnlessWide, IsProvedBlock, IsBodyOf, AreTrue}
+use Rattle.ror_bench.specs.Allowed.{proved_unless_wide}
+use Rattle.ror_bench.specs.Blocks.{IsProvedBlock, IsBodyOf, IsTrueBlock}
 use Rattle.ror_bench.specs.Reports.{EachHolds, revisions_then, IsProvedReport, IsAcceptedReport}
 use Rattle.ror_bench.specs.Laws.{ProvedBlocksAreTrue, ProvedReportsAreTrue}
 use Rattle.ror_bench.proofs.AnswerLemmas.{block_true}
@@ -27,7 +28,7 @@ lawful_at P (r ∷ rs) (suc desk) none h all = lawful_at P rs desk none h all.1
 -- ---- a report
 
 true_after : (bench : Workbench) (before : List (Line × Block)) (lines : List Line) (blocks : List Block) → ((desk : ℕ) → IsLawfulThroughout bench.table (revisions_then bench before desk))
-    → EachHolds (IsProvedBlock bench.table) bench before lines blocks → EachHolds (λ r line block. AreTrue bench.table (statements_of r) block) bench before lines blocks
+    → EachHolds (IsProvedBlock bench.table) bench before lines blocks → EachHolds (λ r line block. IsTrueBlock bench.table r block) bench before lines blocks
 true_after bench before [] [] lawful h = tt
 true_after bench before [] (block ∷ blocks) lawful h = absurd h
 true_after bench before (line ∷ lines) [] lawful h = absurd h
@@ -36,8 +37,8 @@ true_after bench before (line ∷ lines) (block ∷ blocks) lawful h =
   where
     then : (desk : ℕ) → (line.desk ≡ desk) ⊎ (line.desk ≢ desk) → IsLawfulThroughout bench.table (revisions_then bench (before ++ (line, block) ∷ []) desk)
     then desk (inl own) =
-        let of = subst (λ (d : ℕ). IsBodyOf IsProvedUnlessWide bench.table (revisions_then bench before d) line.command block.body) own h.0.body in
-        subst (IsLawfulThroughout bench.table) (sym (then_at_own bench before line block desk own)) (moved_lawful IsProvedUnlessWide bench.table (revisions_then bench before desk) line.command block.body (lawful desk) of)
+        let of = subst (λ (d : ℕ). IsBodyOf proved_unless_wide bench.table (revisions_then bench before d) line.command block.body) own h.0.body in
+        subst (IsLawfulThroughout bench.table) (sym (then_at_own bench before line block desk own)) (moved_lawful proved_unless_wide bench.table (revisions_then bench before desk) line.command block.body (lawful desk) of)
     then desk (inr other) = subst (IsLawfulThroughout bench.table) (sym (then_at_other bench before line block desk other)) (lawful desk)
 
 pub report_true : ProvedReportsAreTrue
@@ -45,5 +46,5 @@ report_true bench lines bytes x lawful report =
     true_after bench [] lines report.blocks (λ desk. lawful_at (IsLawfulThroughout bench.table) bench.state desk (record { opening = []; surviving = [] }) (nothing_lawful bench.table) lawful) report.proved
 
 pub report_accepted : (bench : Workbench) (lines : List Line) (bytes : List ℕ) (result : Result Accepted ReportError) → IsLawfulBench bench → IfOk result (IsProvedReport bench lines bytes) → IfOk result (IsAcceptedReport bench lines bytes)
-report_accepted bench lines bytes (Ok x) lawful proved = record { proved = proved; answers_true = report_true bench lines bytes x lawful proved }
+report_accepted bench lines bytes (Ok x) lawful proved = record { proved = proved; blocks_true = report_true bench lines bytes x lawful proved }
 report_accepted bench lines bytes (Err e) lawful proved = tt

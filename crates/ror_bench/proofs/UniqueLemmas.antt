@@ -11,10 +11,7 @@ use Rattle.ror_statement.specs.declared.question.Conclusion.TheVariants as concl
 use Rattle.ror_table.specs.Table.{DecisionTable}
 use Rattle.ror_system.specs.System.{LinearSystem}
 use Rattle.ror_system.specs.declared.reject.Reject.{Reject}
-use Rattle.ror_system.proofs.Reasons.{one_solution_reason, one_multiplier_reason}
 use Rattle.ror_session.specs.declared.session.Line.{Line}
-use Rattle.ror_proof.specs.declared.answer.Certificate.{Certificate}
-use Rattle.ror_proof.specs.declared.answer.Certificate.TheVariants as certificates
 use Rattle.ror_proof.specs.declared.answer.Part.{Part}
 use Rattle.ror_proof.specs.declared.answer.Proof.{Proof}
 use Rattle.ror_proof.specs.declared.answer.Verdict.{Verdict}
@@ -22,24 +19,28 @@ use Rattle.ror_proof.specs.declared.answer.Verdict.TheVariants as verdicts
 use Rattle.ror_proof.specs.declared.answer.Answer.{Answer}
 use Rattle.ror_check.specs.declared.fault.CheckFault.{CheckFault}
 use Rattle.ror_check.specs.declared.fault.CheckFault.TheVariants as checks
+use Rattle.ror_check.specs.declared.fault.RepairCheckFault.{RepairCheckFault}
 use Rattle.ror_check.specs.Proof.{is_wide, base_system, question_systems_of}
 use Rattle.ror_check.specs.Faults.{FailsPart, FailsProof, FailsVerdict, FailsAnswer, FailsAnswerAt, fault_stage, fault_place, IsEarlierFault}
 use Rattle.ror_check.specs.Faults as check_faults
+use Rattle.ror_check.proofs.RepairFirstFaults.{one_reason, one_repair_fault}
 use Rattle.ror_report.specs.declared.block.Block.{Block}
+use Rattle.ror_report.specs.declared.block.Body.{Body}
+use Rattle.ror_report.specs.declared.block.Body.TheVariants as bodies
 use Rattle.ror_report.specs.Reading.{begins_end, block_at, end_at, header_at}
 use Rattle.ror_report.proofs.ReportLemmas.{one_spelling}
 use Rattle.ror_report.specs.Text.{answers_of}
-use Rattle.ror_history.specs.History.{Revisions, statements_of}
+use Rattle.ror_history.specs.History.{Revisions, standing, statements_of}
 use Rattle.ror_bench.specs.declared.bench.BlockFault.{BlockFault}
 use Rattle.ror_bench.specs.declared.bench.BlockFault.TheVariants as faults
 use Rattle.ror_bench.specs.declared.report.Reason.{Reason}
 use Rattle.ror_bench.specs.declared.report.Rejection.{Rejection}
 use Rattle.ror_bench.specs.Bench.{Workbench}
 use Rattle.ror_bench.specs.Blocks.{IsProvedBlock}
-use Rattle.ror_bench.specs.Faults.{FailsBlock, block_stage, block_place, IsEarlierBlockFault}
+use Rattle.ror_bench.specs.Faults.{FailsRepairOf, FailsBlock, block_stage, block_place, IsEarlierBlockFault}
 use Rattle.ror_bench.specs.Reports.{accepted_of, revisions_then, misread_reason, block_reason, RejectsNext, RejectsEnd, IsRejectedFrom, end_misread, ends_early, block_misread, refused, miscounted, one_too_many, at_line, at_end, later, not_utf8, no_header, in_blocks}
 use Rattle.ror_bench.specs.Laws.{OneCount, OneRejection}
-use Rattle.ror_bench.proofs.AnswerLemmas.{block_passes}
+use Rattle.ror_bench.proofs.AnswerLemmas.{block_passes, no_answer_of_repair}
 use Rattle.ror_bench.proofs.ReportProofs.{one_read}
 
 -- ---- one count
@@ -54,10 +55,6 @@ one_count bench lines bytes x y table first second =
 one_some : {A : Type 0} (r : Option A) (x y : A) → r ≡ Some x → r ≡ Some y → x ≡ y
 one_some r x y e f = (let both = sym e ∙ f in cc)
 
-one_reject : (s : LinearSystem) (body : Certificate) (q r : Reject) → check_faults.IsRejectedFor s body q → check_faults.IsRejectedFor s body r → q ≡ r
-one_reject s (certificates.Solution x) q r first second = one_solution_reason s x.steps q r first second
-one_reject s (certificates.Multipliers m) q r first second = one_multiplier_reason s m.weak m.strict q r first second
-
 one_part : (systems : List LinearSystem) (parts : List Part) (k : ℕ) (q r : Reject) → FailsPart systems parts k q → FailsPart systems parts k r → q ≡ r
 one_part systems parts k q r first second =
     let e = first.counted in
@@ -69,7 +66,7 @@ one_part systems parts k q r first second =
     let number : second.part.at ≡ first.part.at = ap (λ (p : Part). p.at) part in
     let system_place : second.systems_before ≡ first.systems_before = omega arith in
     let system : second.system ≡ first.system = one_some (slice_get systems first.systems_before) second.system first.system (ap (slice_get systems) (sym system_place) ∙ second.system_there) first.system_there in
-    one_reject first.system first.part.body q r first.rejected
+    one_reason first.system first.part.body q r first.rejected
     (subst (λ (s : LinearSystem). check_faults.IsRejectedFor s first.part.body r) system (subst (λ (p : Part). check_faults.IsRejectedFor second.system p.body r) part second.rejected))
 
 module _ (t : DecisionTable) (list : List Statement) (q : Question) (c : Conclusion) (proof : Proof) where
@@ -80,7 +77,7 @@ module _ (t : DecisionTable) (list : List Statement) (q : Question) (c : Conclus
   one_proof_fault f checks.Memory first second stage place = absurd second
   one_proof_fault checks.WrongVerdict checks.WrongVerdict first second stage place = refl
   one_proof_fault checks.PartCount checks.PartCount first second stage place = refl
-  one_proof_fault (checks.Base r) (checks.Base s) first second stage place = ap (λ (x : Reject). checks.Base x) (one_reject (base_system t list) proof.base r s first second)
+  one_proof_fault (checks.Base r) (checks.Base s) first second stage place = ap (λ (x : Reject). checks.Base x) (one_reason (base_system t list) proof.base r s first second)
   one_proof_fault (checks.Part k r) (checks.Part l s) first second stage place =
       let here = subst (λ (n : ℕ). FailsPart (question_systems_of t list q) proof.parts n s) (sym place) second in
       ap (λ (n : ℕ). checks.Part n r) place ∙ ap (λ (x : Reject). checks.Part l x) (one_part (question_systems_of t list q) proof.parts k r s first here)
@@ -112,6 +109,16 @@ one_answer_at t list xs k f g first second =
 -- ---- a block has one first fault
 
 module _ (t : DecisionTable) (r : Revisions) (line : Line) (block : Block) where
+  one_of_repair : (body : Body) (f g : RepairCheckFault) → FailsRepairOf t (standing r) body f → FailsRepairOf t (standing r) body g → f ≡ g
+  one_of_repair (bodies.Repaired kept) f g first second = one_repair_fault t (standing r) kept f g first second
+  one_of_repair (bodies.RepairWide n note) f g first second = absurd first
+  one_of_repair (bodies.Added n) f g first second = absurd first
+  one_of_repair (bodies.Withdrawn n) f g first second = absurd first
+  one_of_repair (bodies.Replaced n) f g first second = absurd first
+  one_of_repair bodies.Undone f g first second = absurd first
+  one_of_repair (bodies.Answers xs) f g first second = absurd first
+  one_of_repair (bodies.Refused refusal) f g first second = absurd first
+
   one_of_stage : (f g : BlockFault) → FailsBlock t r line block f → FailsBlock t r line block g → block_stage f ≡ block_stage g → block_place f ≡ block_place g → f ≡ g
   one_of_stage faults.Memory g first second stage place = absurd first
   one_of_stage f faults.Memory first second stage place = absurd second
@@ -119,6 +126,9 @@ module _ (t : DecisionTable) (r : Revisions) (line : Line) (block : Block) where
   one_of_stage (faults.Answer k f) (faults.Answer l g) first second stage place =
       let here = subst (λ (n : ℕ). FailsBlock t r line block (faults.Answer n g)) (sym place) second in
       ap (λ (n : ℕ). faults.Answer n f) place ∙ ap (λ (x : CheckFault). faults.Answer l x) (one_answer_at t (statements_of r) (answers_of block.body) k f g first here)
+  one_of_stage (faults.Repair f) (faults.Repair g) first second stage place = ap (λ (x : RepairCheckFault). faults.Repair x) (one_of_repair block.body f g first second)
+  one_of_stage (faults.Answer k f) (faults.Repair g) first second stage place = absurd (no_answer_of_repair t r block.body k f g first second)
+  one_of_stage (faults.Repair f) (faults.Answer k g) first second stage place = absurd (no_answer_of_repair t r block.body k g f second first)
   one_of_stage f g first second stage place = absurd (omega arith)
 
   one_block_fault : (f g : BlockFault) → IsFirst (FailsBlock t r line block) IsEarlierBlockFault f → IsFirst (FailsBlock t r line block) IsEarlierBlockFault g → f ≡ g

@@ -1,7 +1,8 @@
 -- What a desk's blocks depend on: the desk's own lines with their blocks, and nothing of other desks.
-use Rattle.std.specs.Prelude.{◌≡◌, ℕ, ◌↔◌, ◌⊎◌, ◌==◌, slice_get, if◌then◌else◌, List, [], ◌∷◌, ◌++◌, map, Option, Some, None}
+use Rattle.std.specs.Prelude.{◌≡◌, ℕ, ◌↔◌, ◌⊎◌, ◌==◌, slice_get, if◌then◌else◌, List, [], ◌∷◌, ◌++◌, length, map, take, Option, Some, None}
 use Rattle.std.specs.List.{AllByRecursion, AllZip, filter}
 use Rattle.ror_statement.specs.declared.statement.Statement.{Statement}
+use Rattle.ror_statement.specs.declared.statement.Numbered.{Numbered}
 use Rattle.ror_statement.specs.declared.question.Question.{Question}
 use Rattle.ror_statement.specs.declared.question.Conclusion.{Conclusion}
 use Rattle.ror_statement.specs.declared.question.Conclusion.TheVariants as conclusions
@@ -13,15 +14,18 @@ use Rattle.ror_proof.specs.declared.answer.WideText.{WideText}
 use Rattle.ror_proof.specs.declared.answer.Verdict.{Verdict}
 use Rattle.ror_proof.specs.declared.answer.Verdict.TheVariants as verdicts
 use Rattle.ror_proof.specs.declared.answer.Answer.{Answer}
+use Rattle.ror_proof.specs.declared.kept.Kept.{Kept}
 use Rattle.ror_check.specs.Proof.{base_system, question_systems_of}
+use Rattle.ror_check.specs.Repair.{numbers_of, kept_with, IsRepair}
 use Rattle.ror_relation.specs.Wide.{HasNoteAt}
 use Rattle.ror_relation.specs.Answers.{IsGiven}
 use Rattle.ror_report.specs.declared.block.Block.{Block}
 use Rattle.ror_report.specs.declared.block.Body.{Body}
 use Rattle.ror_report.specs.declared.block.Body.TheVariants as bodies
 use Rattle.ror_history.specs.History.{Revisions}
+use Rattle.ror_bench.specs.Allowed.{Allowing, given_at, proved_unless_wide, IsRepairAt}
 use Rattle.ror_bench.specs.Bench.{Workbench, revisions_at, IsLawfulThroughout}
-use Rattle.ror_bench.specs.Blocks.{Answering, IsBodyOf, IsBlockOf, IsProvedUnlessWide, IsProvedBlock}
+use Rattle.ror_bench.specs.Blocks.{IsBodyOf, IsBlockOf, IsProvedBlock}
 use Rattle.ror_bench.specs.Reports.{EachHolds, at_desk, revisions_then}
 
 -- a block for each line, in order
@@ -55,24 +59,24 @@ DesksStandApart = (one other : Workbench) (desk_one desk_other : ℕ)
     → turns_at one desk_one [] lines_one blocks_one
     ≡ turns_at other desk_other [] lines_other blocks_other
 
--- the body at a turn is the one of its command, with answers that may be given
-abbrev pub IsTurnOf : Answering → DecisionTable → Revisions × Command × Body → Type 0
-IsTurnOf HasAnswer t turn = IsBodyOf HasAnswer t turn.0 turn.1 turn.2
+-- the body at a turn is the one of its command, with answers and repairs that are allowed
+abbrev pub IsTurnOf : Allowing → DecisionTable → Revisions × Command × Body → Type 0
+IsTurnOf allowing t turn = IsBodyOf allowing t turn.0 turn.1 turn.2
 
 -- blocks are those of the lines exactly where there is one for each line, with the line's number, and each turn of each desk
 -- has the body of its command
-abbrev pub AreDeskByDesk : Answering → Type 0
-AreDeskByDesk HasAnswer = (bench : Workbench) (lines : List Line) (blocks : List Block)
-    → EachHolds (IsBlockOf HasAnswer bench.table) bench [] lines blocks
+abbrev pub AreDeskByDesk : Allowing → Type 0
+AreDeskByDesk allowing = (bench : Workbench) (lines : List Line) (blocks : List Block)
+    → EachHolds (IsBlockOf allowing bench.table) bench [] lines blocks
     ↔ (AllZip (λ line block. block.line ≡ line.number) lines blocks × ((desk : ℕ)
-    → AllByRecursion (IsTurnOf HasAnswer bench.table) (turns_at bench desk [] lines blocks)))
+    → AllByRecursion (IsTurnOf allowing bench.table) (turns_at bench desk [] lines blocks)))
 
--- so are blocks that are proved but for answers that are too wide, and blocks that a replay may give at a width
+-- so are blocks that are proved but for what is too wide, and blocks that a replay may give at a width
 abbrev pub ProvedDeskByDesk : Type 0
-ProvedDeskByDesk = AreDeskByDesk IsProvedUnlessWide
+ProvedDeskByDesk = AreDeskByDesk proved_unless_wide
 
 abbrev pub GivenDeskByDesk : Type 0
-GivenDeskByDesk = (most : ℕ) → AreDeskByDesk (IsGiven most)
+GivenDeskByDesk = (most : ℕ) → AreDeskByDesk (given_at most)
 
 -- ---- what the commands alone settle
 
@@ -97,14 +101,31 @@ pub record ConcludesAs (x y : Answer) : Type 0 where
   pub conclusion : (c d : Conclusion) → conclusion_of x.verdict ≡ Some c
       → conclusion_of y.verdict ≡ Some d → c ≡ d
 
--- answers agree one by one, and any other body only with itself: the same number, or the same refusal
+-- answers agree one by one, repairs in what they drop, two that are too wide whatever they name, and any other body only with
+-- itself: the same number, or the same refusal
 abbrev pub AgreesWith : Body → Body → Type 0
 AgreesWith (bodies.Answers xs) (bodies.Answers ys) = AllZip ConcludesAs xs ys
+AgreesWith (bodies.Repaired x) (bodies.Repaired y) = numbers_of x.dropped ≡ numbers_of y.dropped
+AgreesWith (bodies.RepairWide m note) (bodies.RepairWide n other) = Unit {0}
 AgreesWith body other = body ≡ other
 
+-- one repair is too wide and the other isn't: what stands then differs
+abbrev pub RepairsApart : Body → Body → Type 0
+RepairsApart (bodies.Repaired x) (bodies.RepairWide n note) = Unit {0}
+RepairsApart (bodies.RepairWide n note) (bodies.Repaired x) = Unit {0}
+RepairsApart body other = ⊥
+
+-- there are as many bodies in both lists, and they agree one by one, as far as the first place at which one repair is too wide
+-- and the other isn't
+abbrev pub AgreeInTurn : List Body → List Body → Type 0
+AgreeInTurn [] [] = Unit {0}
+AgreeInTurn (x ∷ xs) (y ∷ ys) = (length xs ≡ length ys)
+    × (RepairsApart x y ⊎ (AgreesWith x y × AgreeInTurn xs ys))
+AgreeInTurn _ _ = ⊥
+
 -- Two sessions with the same commands at a desk of the one and at a desk of the other, in whatever interleaving, over desks
--- that begin alike and lawfully: where all blocks are proved but for answers that are too wide, the bodies there are as many
--- and agree one by one.
+-- that begin alike and lawfully: where all blocks are proved but for what is too wide, the bodies there are as many and agree
+-- in turn.
 abbrev pub DesksAgree : Type 0
 DesksAgree = (one other : Workbench) (desk_one desk_other : ℕ) (lines_one lines_other : List Line)
     (blocks_one blocks_other : List Block)
@@ -113,7 +134,7 @@ DesksAgree = (one other : Workbench) (desk_one desk_other : ℕ) (lines_one line
     → commands_at desk_one lines_one ≡ commands_at desk_other lines_other
     → EachHolds (IsProvedBlock one.table) one [] lines_one blocks_one
     → EachHolds (IsProvedBlock other.table) other [] lines_other blocks_other
-    → AllZip AgreesWith (bodies_at desk_one lines_one blocks_one)
+    → AgreeInTurn (bodies_at desk_one lines_one blocks_one)
     (bodies_at desk_other lines_other blocks_other)
 
 -- the system of the statements alone, or one of the question's
@@ -128,3 +149,13 @@ NarrowConcludes = (most : ℕ) (t : DecisionTable) (list : List Statement) (q : 
     → IsGiven most t list q x
     → ((s : LinearSystem) (note : WideText) → IsSystemFor t list q s → HasNoteAt most s note → ⊥)
     → (c : Conclusion) × (conclusion_of x.verdict ≡ Some c)
+
+-- So does a repair that may be given at a width, where no number passes it on the path of the system of a statement and of
+-- those that a repair of the statements before it keeps.
+abbrev pub NarrowRepairs : Type 0
+NarrowRepairs = (most : ℕ) (t : DecisionTable) (list : List Numbered) (body : Body)
+    → IsRepairAt most t list body
+    → ((place : ℕ) (statement : Numbered) (dropped : List ℕ) (note : WideText)
+    → slice_get list place ≡ Some statement → IsRepair t (take place list) dropped
+    → HasNoteAt most (base_system t (kept_with dropped list place statement)) note → ⊥)
+    → (kept : Kept) × (body ≡ bodies.Repaired kept)

@@ -11,16 +11,17 @@ use Rattle.ror_bench.specs.declared.report.Accepted.{Accepted}
 use Rattle.ror_bench.specs.declared.report.Rejection.{Rejection}
 use Rattle.ror_bench.specs.declared.names.TheConstants.{MOST_RELATED}
 use Rattle.ror_bench.specs.declared.report.TheConstants.{MOST_REPORT_BYTES}
-use Rattle.ror_bench.specs.Blocks.{IsProvedBlock, AreTrue}
+use Rattle.ror_bench.specs.Blocks.{IsProvedBlock, IsTrueBlock}
 use Rattle.ror_bench.specs.Reports.{IsProvedReport, IsRejectedFor, AreTrueBlocks}
 
--- each answer of a block that is proved over lawful statements is true of all value functions that are compatible with them
+-- a block that is proved over lawful statements is true: its answers that aren't too wide, of all value functions that are
+-- compatible with them, and what a repair drops
 abbrev pub ProvedBlocksAreTrue : Type 0
 ProvedBlocksAreTrue = (t : DecisionTable) (r : Revisions) (line : Line) (block : Block)
     → IsLawfulIn t (statements_of r) → IsProvedBlock t r line block
-    → AreTrue t (statements_of r) block
+    → IsTrueBlock t r block
 
--- where each desk begins with lawful statements, the answers of the blocks of a proved report are true
+-- where each desk begins with lawful statements, the blocks of a proved report are true
 abbrev pub ProvedReportsAreTrue : Type 0
 ProvedReportsAreTrue = (bench : Workbench) (lines : List Line) (bytes : List ℕ) (accepted : Accepted)
     → IsLawfulBench bench → (report : IsProvedReport bench lines bytes accepted)
@@ -33,13 +34,13 @@ RejectedIsNotProved = (bench : Workbench) (lines : List Line) (bytes : List ℕ)
     → length bytes ≤ MOST_REPORT_BYTES → IsRejectedFor bench lines bytes rejection
     → IsProvedReport bench lines bytes accepted → ⊥
 
--- what a replay writes at a width is proved but for its answers that are too wide, with as many answers of each sort
+-- what a replay writes at a width is proved but for what is too wide: as many answers have a proof, and as much is too wide
 abbrev pub ReplayedIsProved : Type 0
 ReplayedIsProved = (most : ℕ) (bench : Workbench) (lines : List Line) (bytes : List ℕ)
     (accepted : Accepted) → IsReplayedReport most bench lines bytes accepted
     → IsProvedReport bench lines bytes accepted
 
--- how many answers of a proved report have a proof, and how many are too wide, goes by its bytes
+-- how many answers of a proved report have a proof, and how much of it is too wide, goes by its bytes
 abbrev pub OneCount : Type 0
 OneCount = (bench : Workbench) (lines : List Line) (bytes : List ℕ) (x y : Accepted)
     → IsTable bench.table → IsProvedReport bench lines bytes x → IsProvedReport bench lines bytes y

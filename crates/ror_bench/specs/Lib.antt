@@ -1,3 +1,4 @@
+pub mod Allowed
 pub mod Bench
 pub mod Blocks
 pub mod Desks

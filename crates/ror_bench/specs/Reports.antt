@@ -11,11 +11,12 @@ use Rattle.ror_report.specs.declared.block.Block.{Block}
 use Rattle.ror_report.specs.declared.read.ReportFault.{ReportFault}
 use Rattle.ror_report.specs.declared.read.ReportFault.TheVariants as forms
 use Rattle.ror_report.specs.Reading.{begins_end, block_at, end_at, header_at}
-use Rattle.ror_report.specs.Text.{report_text, answers_of, IsPrintableBlock}
+use Rattle.ror_report.specs.Text.{report_text, IsPrintableBlock}
 use Rattle.ror_check.specs.declared.fault.CheckFault.TheVariants as checks
-use Rattle.ror_history.specs.History.{Revisions, statements_of}
+use Rattle.ror_check.specs.declared.fault.RepairCheckFault.TheVariants as repairs
+use Rattle.ror_history.specs.History.{Revisions}
 use Rattle.ror_bench.specs.Bench.{Workbench, revisions_at}
-use Rattle.ror_bench.specs.Blocks.{IsProvedBlock, passed_of, AreTrue, revisions_with}
+use Rattle.ror_bench.specs.Blocks.{IsProvedBlock, passed_of, IsTrueBlock, revisions_with}
 use Rattle.ror_bench.specs.Faults.{FailsBlock, IsEarlierBlockFault}
 use Rattle.ror_bench.specs.declared.bench.BlockFault.{BlockFault}
 use Rattle.ror_bench.specs.declared.bench.BlockFault.TheVariants as blocks
@@ -51,14 +52,15 @@ EachHolds P bench before (line ∷ lines) (block ∷ blocks) =
     × EachHolds P bench (before ++ (line, block) ∷ []) lines blocks
 EachHolds P bench before _ _ = ⊥
 
--- how many answers of a report have a proof, and how many are too wide
+-- how many answers of a report have a proof, and how many answers and repairs are too wide
 abbrev pub accepted_of : List Block → Accepted
 accepted_of blocks = record {
-  answers = sum_by (λ b. (passed_of (answers_of b.body)).answers) blocks;
-  wide = sum_by (λ b. (passed_of (answers_of b.body)).wide) blocks;
+  answers = sum_by (λ b. (passed_of b.body).answers) blocks;
+  wide = sum_by (λ b. (passed_of b.body).wide) blocks;
 }
 
--- the bytes are the text of a report that is proved for the session's lines, but for so many answers that are too wide
+-- the bytes are the text of a report that is proved for the session's lines, but for so many answers and repairs that are too
+-- wide
 pub record IsProvedReport (bench : Workbench) (lines : List Line) (bytes : List ℕ)
     (accepted : Accepted) : Type 0 where
   pub blocks : List Block
@@ -67,17 +69,17 @@ pub record IsProvedReport (bench : Workbench) (lines : List Line) (bytes : List 
   pub proved : EachHolds (IsProvedBlock bench.table) bench [] lines blocks
   pub counted : accepted ≡ accepted_of blocks
 
--- each answer of each block that isn't too wide is true of what stands at its line's desk then
+-- each block is true of what stands at its line's desk then: its answers that aren't too wide, and what a repair drops
 abbrev pub AreTrueBlocks : Workbench → List Line → List Block → Type 0
 AreTrueBlocks bench lines blocks =
-    EachHolds (λ r line block. AreTrue bench.table (statements_of r) block) bench [] lines blocks
+    EachHolds (λ r line block. IsTrueBlock bench.table r block) bench [] lines blocks
 
--- the bytes are the text of a report that is proved for the session's lines, and the answers of its blocks are true of
--- all compatible value functions
+-- the bytes are the text of a report that is proved for the session's lines, and its blocks are true of all compatible value
+-- functions
 pub record IsAcceptedReport (bench : Workbench) (lines : List Line) (bytes : List ℕ)
     (accepted : Accepted) : Type 0 where
   pub proved : IsProvedReport bench lines bytes accepted
-  pub answers_true : AreTrueBlocks bench lines proved.blocks
+  pub blocks_true : AreTrueBlocks bench lines proved.blocks
 
 -- ---- for what a report is rejected
 
@@ -92,6 +94,7 @@ misread_reason bytes forms.Memory = reasons.WrongBlock
 abbrev pub block_reason : BlockFault → Reason
 block_reason blocks.WrongBlock = reasons.WrongBlock
 block_reason (blocks.Answer k fault) = reasons.Answer k fault
+block_reason (blocks.Repair fault) = reasons.Repair fault
 block_reason blocks.Memory = reasons.WrongBlock
 
 -- The text from a place on is rejected as the block of a line, over what its desk holds: by its form, as a last line where
@@ -166,6 +169,7 @@ IfRejected P errors.Memory = Unit {0}
 -- want of memory is an answer of its own, and stands inside no reason
 abbrev pub IsFreeOfMemory : Reason → Type 0
 IsFreeOfMemory (reasons.Answer k fault) = fault ≢ checks.Memory
+IsFreeOfMemory (reasons.Repair fault) = fault ≢ repairs.Memory
 IsFreeOfMemory _ = Unit {0}
 
 abbrev pub HoldsNoMemory : ReportError → Type 0

@@ -10,6 +10,8 @@ use Rattle.ror_proof.specs.declared.answer.Answer.{Answer}
 use Rattle.ror_check.specs.declared.fault.AnswersFault.{AnswersFault}
 use Rattle.ror_check.specs.declared.fault.AnswersFault.TheVariants as checks
 use Rattle.ror_check.specs.Faults.{FailsAnswers, IsEarlierAnswersFault}
+use Rattle.ror_check.specs.declared.fault.RepairCheckFault.{RepairCheckFault}
+use Rattle.ror_check.specs.declared.fault.RepairCheckFault.TheVariants as repairs
 use Rattle.ror_report.specs.declared.block.Body.{Body}
 use Rattle.ror_report.specs.declared.block.Body.TheVariants as bodies
 use Rattle.ror_report.specs.declared.block.LineFault.{LineFault}
@@ -17,7 +19,7 @@ use Rattle.ror_report.specs.declared.block.LineFault.TheVariants as lines
 use Rattle.ror_report.specs.Text.{answers_of}
 use Rattle.ror_history.specs.declared.history.HistoryFault.{HistoryFault}
 use Rattle.ror_history.specs.declared.history.HistoryFault.TheVariants as histories
-use Rattle.ror_history.specs.History.{Revision, Revisions, statements_of, with_revision}
+use Rattle.ror_history.specs.History.{Revision, Revisions, standing, statements_of, with_revision}
 use Rattle.ror_text.specs.Cursor.{cursor_at}
 use Rattle.ror_session.specs.declared.session.Line.{Line}
 use Rattle.ror_report.specs.declared.block.Block.{Block}
@@ -25,7 +27,9 @@ use Rattle.ror_report.specs.declared.read.ReportFault.{ReportFault}
 use Rattle.ror_report.specs.declared.read.ReportFault.TheVariants as forms
 use Rattle.ror_report.specs.Reading.{begins_end, block_at, end_at}
 use Rattle.ror_report.specs.Text.{block_text, end_text, IsPrintableBlock}
+use Rattle.ror_bench.specs.Allowed.{of_form}
 use Rattle.ror_bench.specs.Bench.{Workbench, revisions_at}
+use Rattle.ror_bench.specs.Faults.{FailsRepairOf}
 use Rattle.ror_bench.specs.Reports.{EachHolds, accepted_of, misread_reason, block_reason}
 use Rattle.ror_bench.specs.declared.bench.Passed.{Passed}
 use Rattle.ror_bench.specs.declared.report.Accepted.{Accepted}
@@ -40,7 +44,7 @@ use Rattle.ror_bench.specs.declared.desk.Made.TheVariants.{Added, Withdrawn, Rep
 use Rattle.ror_bench.specs.declared.stop.LineStop.{LineStop}
 use Rattle.ror_bench.specs.declared.stop.LineStop.TheVariants as stops
 use Rattle.ror_bench.specs.Lines.{IsRefusedFor, IsTaken}
-use Rattle.ror_bench.specs.Blocks.{IsTo, IsBodyOf, IsProvedBlock, IsRevised, passed_of, revisions_with, with_block}
+use Rattle.ror_bench.specs.Blocks.{IsBodyOf, IsProvedBlock, IsRevised, passed_of, revisions_with, with_block}
 
 -- ---- a command
 
@@ -90,6 +94,7 @@ IsSaidOf (Err stops.Memory) body = ⊥
 abbrev pub RefusesSaid : Result Made LineStop → Body → BlockFault → Type 0
 RefusesSaid made body faults.WrongBlock = (made ≢ Err stops.Memory) × (IsSaidOf made body → ⊥)
 RefusesSaid made body (faults.Answer k fault) = ⊥
+RefusesSaid made body (faults.Repair fault) = ⊥
 RefusesSaid made body faults.Memory = Unit {0}
 
 abbrev pub EndsWithRevision : Revisions → Type 0
@@ -110,15 +115,23 @@ RefusesAnswers t list questions xs faults.WrongBlock = map (λ x. x.question) xs
 RefusesAnswers t list questions xs (faults.Answer k fault) =
     (map (λ x. x.question) xs ≡ questions)
     × IsFirst (FailsAnswers t list xs) IsEarlierAnswersFault (checks.Answer k fault)
+RefusesAnswers t list questions xs (faults.Repair fault) = ⊥
 RefusesAnswers t list questions xs faults.Memory = Unit {0}
 
--- the body is another one's, or an answer is the first that is refused; or memory ran out
+-- the body is another one's, or an answer is the first that is refused, or its repair is refused; or memory ran out
 abbrev pub RefusesBody : DecisionTable → Revisions → Command → Body → BlockFault → Type 0
-RefusesBody t r command body faults.WrongBlock = IsBodyOf IsTo t r command body → ⊥
-RefusesBody t r command body (faults.Answer k fault) = IsBodyOf IsTo t r command body
+RefusesBody t r command body faults.WrongBlock = IsBodyOf of_form t r command body → ⊥
+RefusesBody t r command body (faults.Answer k fault) = IsBodyOf of_form t r command body
     × IsFirst (FailsAnswers t (statements_of r) (answers_of body)) IsEarlierAnswersFault
     (checks.Answer k fault)
+RefusesBody t r command body (faults.Repair fault) = IsBodyOf of_form t r command body
+    × FailsRepairOf t (standing r) body fault
 RefusesBody t r command body faults.Memory = Unit {0}
+
+-- the fault of a block whose repair is refused
+abbrev pub fault_of_repair : RepairCheckFault → BlockFault
+fault_of_repair repairs.Memory = faults.Memory
+fault_of_repair fault = faults.Repair fault
 
 -- the fault of a block of which an answer is refused
 abbrev pub fault_of_answers : AnswersFault → BlockFault
@@ -135,7 +148,7 @@ pub record IsNextBlock (bench moved : Workbench) (line : Line) (bytes : List ℕ
   pub no_end : begins_end (drop from bytes) ≡ false
   pub read : block_at bench.table (cursor_at bytes from) ≡ Ok (block, cursor_at bytes after)
   pub proved : IsProvedBlock bench.table (revisions_at bench line.desk) line block
-  pub counted : passed ≡ passed_of (answers_of block.body)
+  pub counted : passed ≡ passed_of block.body
   pub moved_on : moved ≡ with_block bench line block
 
 -- the bytes are the texts of blocks that are proved for the lines, after those before, and the last line of a report of so

@@ -5,17 +5,16 @@ ghost use Rattle.ror_text.specs.FirstFault.{IsRefusedBy};
 ghost use Rattle.ror_statement.specs.RowNumbers.{row_count};
 ghost use Rattle.ror_value.specs.Over.{IsLawfulIn};
 ghost use Rattle.ror_pivot.specs.Answers.{most_of};
-ghost use Rattle.ror_relation.specs.Answers.{IsGiven};
-ghost use Rattle.ror_history.specs.History.{next_number, statements_of};
-ghost use Rattle.ror_report.specs.Text.{answers_of};
+ghost use Rattle.ror_history.specs.History.{next_number};
+ghost use Rattle.ror_bench.specs.Allowed.{given_at};
 ghost use Rattle.ror_bench.specs.Bench.{Workbench, revisions_at, bench_of, IsLawfulBench};
-ghost use Rattle.ror_bench.specs.Blocks.{IsBlockOf, HasText, IsProvedBlock, passed_of, AreTrue, with_block};
+ghost use Rattle.ror_bench.specs.Blocks.{IsBlockOf, HasText, IsProvedBlock, passed_of, IsTrueBlock, with_block};
 ghost use Rattle.ror_bench.specs.Faults.{FailsBlock, IsEarlierBlockFault};
 ghost use Rattle.ror_bench.specs.Steps as steps;
 ghost use Rattle.ror_bench.specs.declared.bench.BlockFault.TheVariants.{Memory};
 
 use crate::desk::{check, perform};
-use ror_check::{AnswersFault, CheckFault};
+use ror_check::{AnswersFault, CheckFault, RepairCheckFault};
 use ror_history::History;
 use ror_pivot::Bits;
 use ror_report::Block;
@@ -27,7 +26,8 @@ use std::alloc::{AllocError, AllocFailed, Global};
 use std::marker::Model;
 use thiserror::Error;
 
-/// How many answers of a block were accepted, and how many are too wide and were not looked at.
+/// How many answers of a block were accepted, and how many answers and repairs are too wide and were not looked at. A repair
+/// that was accepted counts in neither.
 #[derive(Clone, Copy, Debug, PartialEq, Eq)]
 pub struct Passed {
     pub answers: u32,
@@ -43,6 +43,9 @@ pub enum BlockFault {
     /// The first answer that is not accepted, counted from 1, and why.
     #[error("answer {0} not accepted: {1}")]
     Answer(u32, CheckFault),
+    /// The repair is not accepted, and why.
+    #[error("repair not accepted: {0}")]
+    Repair(RepairCheckFault),
     #[error("out of memory")]
     Memory,
 }
@@ -70,6 +73,17 @@ impl From<AnswersFault> for BlockFault {
         match fault {
             AnswersFault::Answer(number, fault) => BlockFault::Answer(number, fault),
             AnswersFault::Memory => BlockFault::Memory,
+        }
+    }
+}
+
+impl From<RepairCheckFault> for BlockFault {
+    ghost from_gives = { λ fault e. e ≡ steps.fault_of_repair fault };
+
+    fn from(fault: RepairCheckFault) -> BlockFault {
+        match fault {
+            RepairCheckFault::Memory => BlockFault::Memory,
+            fault => BlockFault::Repair(fault),
         }
     }
 }
@@ -119,15 +133,16 @@ impl Bench {
         &self.table
     }
 
-    /// Does the line at its desk, questions being decided at this width, and gives its block: what was made, the answers, or
-    /// the first refusal. Another desk never changes, and this one by its own statements alone. The block has a text, which is
-    /// read back as it.
+    /// Does the line at its desk, questions and repairs being decided at this width, and gives its block: what was made, the
+    /// answers, what a repair drops, or the first refusal. A repair is one revision, also where it drops nothing; one that is too
+    /// wide changes nothing. Another desk never changes, and this one by its own statements alone. The block has a text, which
+    /// is read back as it.
     ///
     /// It asks that the desk has a number left. Its one error is want of memory, which changes nothing.
     pub fn step(&mut self, line: &Line, bits: Bits) -> Result<Block, AllocError>
         requires desk { line.now.desk < length self.old.state }
         requires number { next_number (revisions_at self.old line.now.desk) < 2 ^ 32 - 1 }
-        ensures block { IfOk result (IsBlockOf (IsGiven (most_of bits)) self.old.table
+        ensures block { IfOk result (IsBlockOf (given_at (most_of bits)) self.old.table
             (revisions_at self.old line.now.desk) line.now) }
         ensures text { IfOk result (HasText self.old.table) }
         ensures moved { IfOk result (λ block. self.new ≡ with_block self.old line.now block) }
@@ -143,23 +158,23 @@ impl Bench {
         })
     }
 
-    /// Whether the block is the one of the line over what stands at its desk, but that answers may be too wide: these are
-    /// counted and not looked at. The desk is then as the line and its block leave it; no other desk changes, and a block
-    /// that is refused changes none.
+    /// Whether the block is the one of the line over what stands at its desk, but that answers and repairs may be too wide:
+    /// these are counted and not looked at. The desk is then as the line and its block leave it; no other desk changes, and a
+    /// block that is refused changes none.
     ///
     /// It asks that the desk has a number left.
     ///
     /// # Errors
     ///
-    /// `WrongBlock`, and then the first answer that is not accepted.
+    /// `WrongBlock`, and then the first answer that is not accepted, or the first test that the repair fails.
     pub fn check_line(&mut self, line: &Line, block: &Block) -> Result<Passed, BlockFault>
         requires desk { line.now.desk < length self.old.state }
         requires number { next_number (revisions_at self.old line.now.desk) < 2 ^ 32 - 1 }
         ensures accepted { OnOk result (IsProvedBlock self.old.table
             (revisions_at self.old line.now.desk) line.now block.now) }
-        ensures counted { IfOk result (λ passed. passed ≡ passed_of (answers_of block.now.body)) }
-        ensures true_answers { OnOk result (AreTrue self.old.table
-            (statements_of (revisions_at self.old line.now.desk)) block.now) }
+        ensures counted { IfOk result (λ passed. passed ≡ passed_of block.now.body) }
+        ensures true_block { OnOk result (IsTrueBlock self.old.table
+            (revisions_at self.old line.now.desk) block.now) }
         ensures not_proved { IfErr result (λ e. e ≢ BlockFault.Memory → IsProvedBlock self.old.table
             (revisions_at self.old line.now.desk) line.now block.now → ⊥) }
         ensures refused { IfErr result (IsRefusedBy

@@ -6,23 +6,24 @@ ghost use Rattle.std.specs.List.{AllByRecursion, AllZip};
 ghost use Rattle.ror_pivot.specs.Answers.{most_of};
 ghost use Rattle.ror_value.specs.Over.{IsAskedIn};
 ghost use Rattle.ror_check.specs.Proof.{is_wide};
-ghost use Rattle.ror_relation.specs.Answers.{IsGiven};
-ghost use Rattle.ror_history.specs.History.{next_number, statements_of};
-ghost use Rattle.ror_session.specs.declared.session.Command.TheVariants.{State, Withdraw, Replace, Undo, Ask};
-ghost use Rattle.ror_report.specs.Text.{answers_of};
+ghost use Rattle.ror_check.specs.Repair.{AreNumbersIn, numbers_of};
+ghost use Rattle.ror_history.specs.History.{next_number, standing, statements_of, withdrawal, with_revision};
+ghost use Rattle.ror_session.specs.declared.session.Command.TheVariants.{State, Withdraw, Replace, Repair, Undo, Ask};
+ghost use Rattle.ror_bench.specs.Allowed.{IsProvedUnlessWide, IsRepairAt, given_at, proved_unless_wide};
 ghost use Rattle.ror_bench.specs.Bench.{IsLawfulThroughout};
 ghost use Rattle.ror_bench.specs.Names as names;
-ghost use Rattle.ror_bench.specs.Blocks.{AreAnswers, IsBodyOf, IsProvedUnlessWide, passed_of, revisions_with};
+ghost use Rattle.ror_bench.specs.Blocks.{AreAnswers, IsBodyOf, answers_passed, passed_of, revisions_with};
 ghost use Rattle.ror_bench.specs.Steps.{body_of, IsMade, IsOneMore, IsSaidOf, RefusesCommand, RefusesSaid, RefusesBody, RefusesAnswers, EndsWithRevision, IsTakenBack};
 
 use crate::bench::{BlockFault, Passed};
 use crate::names::{questions_of, statement_of};
 use crate::stop::LineStop;
-use ror_check::check_answers;
-use ror_history::History;
+use ror_check::{check_answers, check_repair};
+use ror_history::{History, HistoryFault};
 use ror_pivot::Bits;
-use ror_proof::{Answer, Verdict};
+use ror_proof::{Answer, Dropped, Verdict};
 use ror_relation::decide_each;
+use ror_repair::{RepairFault, repair};
 use ror_report::{Body, LineFault};
 use ror_session::{Asked, Command, Named};
 use ror_statement::{Numbered, Question, Statement};
@@ -110,7 +111,7 @@ fn undo(table: &Table, history: &mut History) -> Result<Made, LineStop>
 
 // ---- the block of a line
 
-/// Does the command at a desk, whose questions are decided at this width, and gives its body.
+/// Does the command at a desk, whose questions and repairs are decided at this width, and gives its body.
 pub(crate) fn perform(
     alloc: Global,
     table: &Table,
@@ -120,7 +121,7 @@ pub(crate) fn perform(
 ) -> Result<Body, AllocError>
     requires number { next_number history.old.state < 2 ^ 32 - 1 }
     requires lawful { IsLawfulThroughout table.now history.old.state }
-    ensures body { IfOk result (IsBodyOf (IsGiven (most_of bits)) table.now history.old.state
+    ensures body { IfOk result (IsBodyOf (given_at (most_of bits)) table.now history.old.state
         command.now) }
     ensures moved { IfOk result (λ body. history.new.state
         ≡ revisions_with table.now history.old.state command.now body) }
@@ -130,6 +131,7 @@ pub(crate) fn perform(
         Command::State(named) => said(add(table, history, named)),
         Command::Withdraw(number) => said(withdraw(table, history, *number)),
         Command::Replace(number, named) => said(replace(table, history, *number, named)),
+        Command::Repair => repair_at(alloc, table, history, bits),
         Command::Undo => said(undo(table, history)),
         Command::Ask(asked) => match answers_to(alloc, table, history, asked, bits) {
             Ok(answers) => Ok(Body::Answers(Items::from(answers))),
@@ -137,6 +139,62 @@ pub(crate) fn perform(
             Err(LineStop::Memory) => Err(AllocError),
         },
     }
+}
+
+/// Repairs what stands, deciding at this width, and withdraws what is dropped; nothing where a number is too wide.
+fn repair_at(
+    alloc: Global,
+    table: &Table,
+    history: &mut History,
+    bits: Bits,
+) -> Result<Body, AllocError>
+    requires lawful { IsLawfulThroughout table.now history.old.state }
+    ensures body { IfOk result (IsRepairAt (most_of bits) table.now (standing history.old.state)) }
+    ensures moved { IfOk result (λ body. history.new.state
+        ≡ revisions_with table.now history.old.state Repair body) }
+    ensures kept { IfErr result (λ _. history.new.state ≡ history.old.state) }
+{
+    let standing = history.standing()?;
+    match repair(alloc, table, standing.as_slice(), bits) {
+        Ok(kept) => {
+            withdraw_dropped(alloc, history, kept.dropped.as_slice())?;
+            Ok(Body::Repaired(kept))
+        }
+        Err(RepairFault::Wide(number, note)) => Ok(Body::RepairWide(number, note)),
+        Err(RepairFault::Memory) => Err(AllocError),
+    }
+}
+
+/// Withdraws the dropped statements, which stand and may be none, in one revision. Want of memory changes nothing.
+fn withdraw_dropped(
+    alloc: Global,
+    history: &mut History,
+    dropped: &[Dropped],
+) -> Result<(), AllocError>
+    requires standing { AreNumbersIn (standing history.old.state) (numbers_of dropped.now) }
+    ensures withdrawn { OnOk result (history.new.state
+        ≡ with_revision history.old.state (withdrawal (numbers_of dropped.now))) }
+    ensures kept { IfErr result (λ _. history.new.state ≡ history.old.state) }
+{
+    let numbers = dropped_numbers(alloc, dropped)?;
+    match history.withdraw_all(numbers.as_slice()) {
+        Ok(()) => Ok(()),
+        Err(fault) => match fault {
+            HistoryFault::Memory => Err(AllocError),
+            _ => unreachable!(),
+        },
+    }
+}
+
+/// The numbers of the dropped statements.
+fn dropped_numbers(alloc: Global, dropped: &[Dropped]) -> Result<Vec<u32>, AllocError>
+    ensures { IfOk result (λ list. list.items ≡ numbers_of dropped.now) }
+{
+    let mut numbers = Vec::new(alloc);
+    for one in dropped {
+        numbers.push(one.number)?;
+    }
+    Ok(numbers)
 }
 
 /// The body of a revision that was made or refused.
@@ -160,7 +218,7 @@ fn answers_to(
     bits: Bits,
 ) -> Result<Vec<Answer>, LineStop>
     requires lawful { IsLawfulThroughout table.now history.now.state }
-    ensures answers { IfOk result (λ answers. AreAnswers (IsGiven (most_of bits)) table.now
+    ensures answers { IfOk result (λ answers. AreAnswers (given_at (most_of bits)) table.now
         (statements_of history.now.state) (names.questions_of table.now asked.now) answers.items) }
     ensures refused { IfErr result (RefusesCommand table.now history.now.state (Ask asked.now)) }
 {
@@ -201,9 +259,9 @@ pub(crate) fn check(
 ) -> Result<Passed, BlockFault>
     requires number { next_number history.old.state < 2 ^ 32 - 1 }
     requires lawful { IsLawfulThroughout table.now history.old.state }
-    ensures body { OnOk result (IsBodyOf IsProvedUnlessWide table.now history.old.state
+    ensures body { OnOk result (IsBodyOf proved_unless_wide table.now history.old.state
         command.now body.now) }
-    ensures passed { IfOk result (λ passed. passed ≡ passed_of (answers_of body.now)) }
+    ensures passed { IfOk result (λ passed. passed ≡ passed_of body.now) }
     ensures refused { IfErr result (RefusesBody table.now history.old.state command.now body.now) }
     ensures moved { OnOk result (history.new.state
         ≡ revisions_with table.now history.old.state command.now body.now) }
@@ -222,6 +280,7 @@ pub(crate) fn check(
             let made = replace(table, history, *number, named);
             settle(history, made, body)
         }
+        Command::Repair => check_repaired(alloc, table, history, body),
         Command::Undo => check_undone(table, history, body),
         Command::Ask(asked) => check_answered(alloc, table, history, asked, body),
     }
@@ -289,9 +348,9 @@ fn check_refused(stop: LineStop, body: &Body) -> Result<Passed, BlockFault>
 
 /// Whether the body is the one of an undo, which is then done.
 fn check_undone(table: &Table, history: &mut History, body: &Body) -> Result<Passed, BlockFault>
-    ensures body { OnOk result (IsBodyOf IsProvedUnlessWide table.now history.old.state
+    ensures body { OnOk result (IsBodyOf proved_unless_wide table.now history.old.state
         Undo body.now) }
-    ensures passed { IfOk result (λ passed. passed ≡ passed_of (answers_of body.now)) }
+    ensures passed { IfOk result (λ passed. passed ≡ passed_of body.now) }
     ensures refused { IfErr result (RefusesBody table.now history.old.state Undo body.now) }
     ensures moved { OnOk result (history.new.state
         ≡ revisions_with table.now history.old.state Undo body.now) }
@@ -312,6 +371,40 @@ fn check_undone(table: &Table, history: &mut History, body: &Body) -> Result<Pas
     }
 }
 
+/// Whether the body is one of a repair of what stands. What it drops is then withdrawn, and nothing where it is too wide.
+fn check_repaired(
+    alloc: Global,
+    table: &Table,
+    history: &mut History,
+    body: &Body,
+) -> Result<Passed, BlockFault>
+    requires lawful { IsLawfulThroughout table.now history.old.state }
+    ensures body { OnOk result (IsBodyOf proved_unless_wide table.now history.old.state
+        Repair body.now) }
+    ensures passed { IfOk result (λ passed. passed ≡ passed_of body.now) }
+    ensures refused { IfErr result (RefusesBody table.now history.old.state Repair body.now) }
+    ensures moved { OnOk result (history.new.state
+        ≡ revisions_with table.now history.old.state Repair body.now) }
+    ensures kept { IfErr result (λ _. history.new.state ≡ history.old.state) }
+{
+    match body {
+        Body::Repaired(kept) => {
+            let standing = history.standing()?;
+            check_repair(alloc, table, standing.as_slice(), kept)?;
+            withdraw_dropped(alloc, history, kept.dropped.as_slice())?;
+            Ok(Passed {
+                answers: 0,
+                wide: 0,
+            })
+        }
+        Body::RepairWide(_, _) => Ok(Passed {
+            answers: 0,
+            wide: 1,
+        }),
+        _ => Err(BlockFault::WrongBlock),
+    }
+}
+
 /// Whether the body is the one of a line that asks.
 fn check_answered(
     alloc: Global,
@@ -321,9 +414,9 @@ fn check_answered(
     body: &Body,
 ) -> Result<Passed, BlockFault>
     requires lawful { IsLawfulThroughout table.now history.now.state }
-    ensures body { OnOk result (IsBodyOf IsProvedUnlessWide table.now history.now.state
+    ensures body { OnOk result (IsBodyOf proved_unless_wide table.now history.now.state
         (Ask asked.now) body.now) }
-    ensures passed { IfOk result (λ passed. passed ≡ passed_of (answers_of body.now)) }
+    ensures passed { IfOk result (λ passed. passed ≡ passed_of body.now) }
     ensures refused { IfErr result
         (RefusesBody table.now history.now.state (Ask asked.now) body.now) }
 {
@@ -357,7 +450,7 @@ fn check_each(
     requires few { length questions.now ≤ 20000 }
     ensures each { OnOk result (AllZip (IsProvedUnlessWide table.now
         (statements_of history.now.state)) questions.now answers.now) }
-    ensures passed { IfOk result (λ passed. passed ≡ passed_of answers.now) }
+    ensures passed { IfOk result (λ passed. passed ≡ answers_passed answers.now) }
     ensures refused { IfErr result (RefusesAnswers table.now (statements_of history.now.state)
         questions.now answers.now) }
 {

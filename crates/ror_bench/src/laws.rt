@@ -1,14 +1,15 @@
 //! Each function here states one law, for all benches, lines, blocks and reports, and does nothing.
 
 ghost use Rattle.ror_bench.specs.Laws.{ProvedBlocksAreTrue, ProvedReportsAreTrue, RejectedIsNotProved, ReplayedIsProved, OneCount, OneRejection, LimitsAre};
-ghost use Rattle.ror_bench.specs.Desks.{DesksStandApart, ProvedDeskByDesk, GivenDeskByDesk, DesksAgree, NarrowConcludes};
+ghost use Rattle.ror_bench.specs.Desks.{DesksStandApart, ProvedDeskByDesk, GivenDeskByDesk, DesksAgree, NarrowConcludes, NarrowRepairs};
 
-/// The answers of a proved block are true of all value functions that are compatible with what stands at its desk.
+/// The answers of a proved block are true of all value functions that are compatible with what stands at its desk, and what its
+/// repair drops is what a repair of that drops.
 pub fn proved_blocks_are_true()
     ensures { ProvedBlocksAreTrue }
 {}
 
-/// The answers of a proved report are true, each of what stands at its line's desk when its turn comes.
+/// The answers and repairs of a proved report are true, each of what stands at its line's desk when its turn comes.
 pub fn proved_reports_are_true()
     ensures { ProvedReportsAreTrue }
 {}
@@ -18,23 +19,25 @@ pub fn rejected_is_not_proved()
     ensures { RejectedIsNotProved }
 {}
 
-/// What a replay writes at a width is a report that is proved but for its answers that are too wide.
+/// What a replay writes at a width is a report that is proved but for its answers and repairs that are too wide.
 pub fn replayed_is_proved()
     ensures { ReplayedIsProved }
 {}
 
 /// What a desk holds at each of its turns goes by what is said there, in whatever interleaving with other desks. Blocks are
 /// proved, or may be given at a width, exactly where those of each desk are; what is said at a desk then goes by the commands
-/// there, but for proofs and for which answers are too wide: none that is given is where no number on a path is.
+/// there, but for proofs and for what is too wide, and up to the first repair that is too wide in one session alone. None that is
+/// given is where no number on a path is.
 pub fn desks_apart()
     ensures apart { DesksStandApart }
     ensures desk_by_desk { ProvedDeskByDesk }
     ensures given { GivenDeskByDesk }
     ensures agree { DesksAgree }
     ensures narrow { NarrowConcludes }
+    ensures narrow_repairs { NarrowRepairs }
 {}
 
-/// A proved report has one count of answers that have a proof, and one of those that are too wide.
+/// A proved report has one count of answers that have a proof, and one of what is too wide.
 pub fn one_count()
     ensures { OneCount }
 {}

@@ -11,7 +11,7 @@ ghost use Rattle.ror_bench.specs.Reports.{IsProvedReport, IsAcceptedReport, IsRe
 ghost use Rattle.ror_bench.specs.Steps.{IsEarlyEnd, IsLateBlock, IsNextBlock, misread_error, refused_block_error, rejected};
 
 use crate::bench::{Bench, BlockFault, Passed};
-use ror_check::CheckFault;
+use ror_check::{CheckFault, RepairCheckFault};
 use ror_report::{ReportFault, begins_end, read_block, read_end, read_header};
 use ror_session::Line;
 use ror_table::Table;
@@ -36,6 +36,8 @@ pub enum Reason {
     WrongBlock,
     /// An answer that is not accepted, counted from 1 in its block.
     Answer(u32, CheckFault),
+    /// A repair that is not accepted.
+    Repair(RepairCheckFault),
 }
 
 /// The first block at fault, from 1, and why; 0 where the fault is in no block.
@@ -59,19 +61,19 @@ pub enum ReportError {
 pub struct Accepted {
     /// How many answers were accepted.
     pub answers: u64,
-    /// How many are too wide, and were not looked at.
+    /// How many answers and repairs are too wide, and were not looked at.
     pub wide: u64,
 }
 
 /// Checks a report against the session's lines, block by block, each over what the blocks before it left at its desk. The
 /// report has at most `MOST_REPORT_BYTES`, and each desk of the bench a number for each line. What is accepted is the text
-/// of a report that is proved but for its answers that are too wide, and all others are true of all compatible value
-/// functions.
+/// of a report that is proved but for its answers and repairs that are too wide. All other answers are true of all compatible
+/// value functions, and all other repairs drop what the repair over these drops.
 ///
 /// # Errors
 ///
 /// `NotUtf8` and a bad first line, in block 0; then block by block its form, `WrongBlock`, and its first answer that is
-/// not accepted.
+/// not accepted, or its repair.
 pub fn check_report(
     alloc: Global,
     bench: Bench,
@@ -247,6 +249,7 @@ fn refused_block(block: u32, fault: BlockFault) -> ReportError
     let reason = match fault {
         BlockFault::WrongBlock => Reason::WrongBlock,
         BlockFault::Answer(answer, fault) => Reason::Answer(answer, fault),
+        BlockFault::Repair(fault) => Reason::Repair(fault),
         BlockFault::Memory => return ReportError::Memory,
     };
     ReportError::Rejected(Rejection { block, reason })

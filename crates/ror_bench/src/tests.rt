@@ -71,6 +71,34 @@ fn a_statement_stands_after_its_block(rt: HostRuntime) -> Result<(), Fail> {
     Ok(())
 }
 
+// With b preferred to a too the row (0, -1, 0, 1) is added, and it and (0, 1, 0, -1) sum to 0 in each column.
+#[test]
+fn a_repair_drops_the_later_of_two(rt: HostRuntime) -> Result<(), Fail> {
+    let session = b"prefer a b\nprefer b a\nrepair\nask consistent\n".as_slice();
+    let proved =
+        b"ror-report 1\nline 1\nadded 1\nline 2\nadded 2\nline 3\nrepaired 1\ndropped 2 multipliers | 0 1 1\nbase solution 0 1 0 0\nline 4\nanswer consistent yes\nbase solution 0 1 0 0\nend 4\n";
+    let one = Accepted {
+        answers: 1,
+        wide: 0,
+    };
+    assert_eq!(rt;
+        outcome_of(rt.alloc(), session, proved.as_slice()),
+        Some(Ok(one))
+    );
+    // One that is too wide drops nothing.
+    let wide =
+        b"ror-report 1\nline 1\nadded 1\nline 2\nadded 2\nline 3\nrepair-wide 2\nwide 0 rowsum 0 path\nline 4\nanswer consistent contradiction\nbase multipliers | 0 1 1\nend 4\n";
+    let both = Accepted {
+        answers: 1,
+        wide: 1,
+    };
+    assert_eq!(rt;
+        outcome_of(rt.alloc(), session, wide.as_slice()),
+        Some(Ok(both))
+    );
+    Ok(())
+}
+
 /// The session of a text.
 fn session_of(alloc: Global, text: &[u8]) -> Option<Session>
     ensures { IfSome result IsSound }

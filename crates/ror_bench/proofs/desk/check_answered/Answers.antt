@@ -1,6 +1,6 @@
 use Rattle.std.proofs.Common.{Err, sym, ap, ◌∙◌}
 use Rattle.ror_session.specs.declared.session.Command.TheVariants.{Ask}
-use Rattle.ror_bench.specs.Blocks.{IsProvedUnlessWide}
+use Rattle.ror_bench.specs.Allowed.{proved_unless_wide}
 use Rattle.ror_bench.proofs.BodyLemmas.{settled_body, settled_refused}
 use Rattle.ror_bench.proofs.AnswerLemmas.{Ok_of, answered_checked, answered_refused, not_answered, refuses_asked}
 use Rattle.ror_bench.proofs.desk.check_answered.Goals as goal
@@ -28,7 +28,7 @@ pub returns-clause-body : goal.returns-clause-body
 returns-clause-body c =
     let t = c.args.table.now in
     let r = c.args.history.now.state in
-    settled_body t r r (Ask c.args.asked.now) IsProvedUnlessWide (Err c.in-Err.stop) c.args.body.now c.check_refused.result tt (refuses_asked t r c.args.asked.now c.in-Err.stop c.in-Err.ensures.exact) c.check_refused.ensures.said
+    settled_body t r r (Ask c.args.asked.now) proved_unless_wide (Err c.in-Err.stop) c.args.body.now c.check_refused.result tt (refuses_asked t r c.args.asked.now c.in-Err.stop c.in-Err.ensures.exact) c.check_refused.ensures.said
 
 pub returns-clause-refused : goal.returns-clause-refused
 returns-clause-refused c =

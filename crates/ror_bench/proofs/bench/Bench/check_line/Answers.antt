@@ -1,9 +1,9 @@
 use Rattle.std.proofs.Common.{rules, ◌<◌, length, map}
 use Rattle.std.specs.Prelude.{OnOk, IfErr}
 use Rattle.ror_text.specs.FirstFault.{IsRefusedBy}
-use Rattle.ror_history.specs.History.{statements_of}
+use Rattle.ror_bench.specs.Allowed.{proved_unless_wide}
 use Rattle.ror_bench.specs.declared.bench.BlockFault.TheVariants as faults
-use Rattle.ror_bench.specs.Blocks.{IsProvedUnlessWide, IsProvedBlock, AreTrue}
+use Rattle.ror_bench.specs.Blocks.{IsProvedBlock, IsTrueBlock}
 use Rattle.ror_bench.specs.Faults.{FailsBlock, IsEarlierBlockFault}
 use Rattle.ror_bench.specs.Bench.{revisions_at}
 use Rattle.ror_bench.proofs.AnswerLemmas.{checked_proved, checked_true, checked_refused, none_proved}
@@ -15,7 +15,7 @@ pub invariant_of-self : goal.invariant_of-self
 invariant_of-self c =
     let views = c.self.inside.desks.items in
     let within : c.args.line.now.desk < length (map (λ h. h.state) views) = search rules in
-    checked_lawful c.self.inside.table views c.args.line.now c.args.block.now c.index_mut-history.result.now c.check.new.history c.args.self.now IsProvedUnlessWide c.check.result c.self.invariant within c.index_mut-history.ensures.value c.check.ensures.body c.check.ensures.moved c.check.ensures.kept
+    checked_lawful c.self.inside.table views c.args.line.now c.args.block.now c.index_mut-history.result.now c.check.new.history c.args.self.now proved_unless_wide c.check.result c.self.invariant within c.index_mut-history.ensures.value c.check.ensures.body c.check.ensures.moved c.check.ensures.kept
 
 pub returns-clause-accepted : goal.returns-clause-accepted
 returns-clause-accepted c =
@@ -26,13 +26,13 @@ returns-clause-accepted c =
     at_bench (λ t r. OnOk c.check.result (IsProvedBlock t r c.args.line.now c.args.block.now)) t views c.args.line.now.desk old c.args.self.now within c.index_mut-history.ensures.value c.self.view_is
     (checked_proved t old.state c.args.line.now c.args.block.now c.check.result c.if-block-line.false c.check.ensures.body)
 
-pub returns-clause-true_answers : goal.returns-clause-true_answers
-returns-clause-true_answers c =
+pub returns-clause-true_block : goal.returns-clause-true_block
+returns-clause-true_block c =
     let t = c.self.inside.table in
     let views = c.self.inside.desks.items in
     let old = c.index_mut-history.result.now in
     let within : c.args.line.now.desk < length (map (λ h. h.state) views) = search rules in
-    at_bench (λ t r. OnOk c.check.result (AreTrue t (statements_of r) c.args.block.now)) t views c.args.line.now.desk old c.args.self.now within c.index_mut-history.ensures.value c.self.view_is
+    at_bench (λ t r. OnOk c.check.result (IsTrueBlock t r c.args.block.now)) t views c.args.line.now.desk old c.args.self.now within c.index_mut-history.ensures.value c.self.view_is
     (checked_true t old.state c.args.line.now c.args.block.now c.check.result (lawful_now t old.state (kept_at t views c.args.line.now.desk old c.self.invariant within c.index_mut-history.ensures.value))
     (checked_proved t old.state c.args.line.now c.args.block.now c.check.result c.if-block-line.false c.check.ensures.body))
 

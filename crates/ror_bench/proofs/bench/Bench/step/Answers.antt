@@ -1,8 +1,8 @@
 use Rattle.std.proofs.Common.{rules, ◌≡◌, ◌<◌, ◌^◌, ◌-◌, length, map, refl, sym, ap, subst, ◌∙◌}
 use Rattle.std.proofs.lemmas.Result.{err_from_is_err_and}
 use Rattle.ror_pivot.specs.Answers.{most_of}
-use Rattle.ror_relation.specs.Answers.{IsGiven}
 use Rattle.ror_history.specs.History.{Revisions, next_number}
+use Rattle.ror_bench.specs.Allowed.{given_at}
 use Rattle.ror_bench.specs.Bench.{Workbench, revisions_at, IsLawfulThroughout}
 use Rattle.ror_bench.specs.Blocks.{IsBlockOf, HasText}
 use Rattle.ror_bench.proofs.DeskLemmas.{at_bench, kept_at, kept_set, moved_bench, state_here, state_stays}
@@ -21,13 +21,13 @@ invariant_of-self-2 c =
     let views = c.self.inside.desks.items in
     let old = c.index_mut-history.result.now in
     let within : c.args.line.now.desk < length (map (λ h. h.state) views) = search rules in
-    let given = IsGiven (most_of c.args.bits) in
+    let given = given_at (most_of c.args.bits) in
     let lawful = kept_at t views c.args.line.now.desk old c.self.invariant within c.index_mut-history.ensures.value in
     kept_set t views c.args.line.now.desk c.perform.new.history c.self.invariant (subst (IsLawfulThroughout t) (sym c.in_ok-body.ensures.moved) (moved_lawful given t old.state c.args.line.now.command c.in_ok-body.body lawful c.in_ok-body.ensures.body))
 
 pub returns-clause-block : goal.returns-clause-block
 returns-clause-block c =
-    let given = IsGiven (most_of c.args.bits) in
+    let given = given_at (most_of c.args.bits) in
     let views = c.self.inside.desks.items in
     let within : c.args.line.now.desk < length (map (λ h. h.state) views) = search rules in
     at_bench (λ t r. IsBlockOf given t r c.args.line.now (record { line = c.args.line.now.number; body = c.in_ok-body.body })) c.self.inside.table views c.args.line.now.desk c.index_mut-history.result.now c.args.self.now within c.index_mut-history.ensures.value c.self.view_is
