@@ -195,7 +195,7 @@ long_rejects : (files : Files) (names : CheckNames) → IsLongReport files names
 long_rejects files names long =
     record { table = long.table; session = long.session; session_read = long.session_read; bytes = long.bytes; there = long.there; rejected = too_long long.long refl }
 
--- where a report is proved but for its answers that are too wide, the files decide as its answers are
+-- where a report is proved but for what is too wide, the files decide by whether anything is
 decides_proved : (files : Files) (names : CheckNames) (status : Status) (x : Accepted) → ProvesReport files names x → ((y : Accepted) → ProvesAll files names y → (status ≡ statuses.Done) ⊎ (status ≡ statuses.WriteFault)) → ((y : Accepted) → ProvesTheRest files names y → (status ≡ statuses.DoneWide) ⊎ (status ≡ statuses.WriteFault)) → DecidesCheck files names status
 decides_proved files names status x proved all rest =
     record {

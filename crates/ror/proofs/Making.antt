@@ -1,22 +1,23 @@
 -- A report that is written block by block: what is written when one more is, and where it stops.
 use Rattle.std.proofs.lemmas.List.{take_all, take-append-drop, take_more}
-use Rattle.std.proofs.Common.{append-nil, zero-add, ◌≡◌, ℕ, ◌+◌, ◌<◌, ◌≤◌, Bool, true, false, ◌||◌, List, [], ◌∷◌, ◌++◌, length, take, drop, get_or, Ok, Err, refl, sym, ap, ◌∙◌, subst, arith}
+use Rattle.std.proofs.Common.{append-nil, ◌≡◌, ℕ, ◌+◌, ◌<◌, ◌≤◌, Bool, true, false, ◌||◌, List, [], ◌∷◌, ◌++◌, length, take, drop, get_or, Ok, Err, refl, sym, ap, ◌∙◌, subst, arith}
 use Rattle.std.specs.Prelude.{zero, suc, nat_lt, cond, replicate}
 use Rattle.std.specs.Bool.{beq}
 use Rattle.std.specs.List.{AllByRecursion, flat_map, list_any, sum_by, count_by}
 use Rattle.std.proofs.lemmas.List.Folds.{list_any-append}
-use Rattle.std.proofs.lemmas.List.Sums.{sum_by-append}
 use Rattle.ror_proof.specs.declared.answer.Answer.{Answer}
 use Rattle.ror_check.specs.Proof.{is_wide}
 use Rattle.ror_session.specs.declared.session.Line.{Line}
 use Rattle.ror_report.specs.declared.block.Block.{Block}
-use Rattle.ror_report.specs.Text.{answers_of, block_text, header_text, end_text, IsPrintableBlock}
+use Rattle.ror_report.specs.declared.block.Body.{Body}
+use Rattle.ror_report.specs.declared.block.Body.TheVariants as bodies
+use Rattle.ror_report.specs.Text.{block_text, header_text, end_text, IsPrintableBlock}
 use Rattle.ror_table.specs.Table.{DecisionTable}
 use Rattle.ror_session.specs.declared.session.Session.{Session}
-use Rattle.ror_relation.specs.Answers.{IsGiven}
 use Rattle.ror_io.specs.Counts.{Rose}
 use Rattle.ror_io.specs.Writing.{Grew, GrewShort}
 use Rattle.ror_io.proofs.Writes.{Grew-none, Grew-append, GrewShort-more, GrewShort-after}
+use Rattle.ror_bench.specs.Allowed.{given_at}
 use Rattle.ror_bench.specs.Bench.{Workbench, revisions_at, IsLawfulThroughout, IsLawfulBench}
 use Rattle.ror_bench.specs.Blocks.{passed_of, IsBlockOf, with_block}
 use Rattle.ror_bench.specs.Reports.{accepted_of}
@@ -30,9 +31,9 @@ use Rattle.ror.specs.declared.work.Stop.{Stop}
 use Rattle.ror.specs.declared.work.Stop.TheVariants as stops
 use Rattle.ror.specs.States.{SinkState}
 use Rattle.ror.specs.Work.{bench_for}
-use Rattle.ror.specs.Replaying.{most, has_wide, AreFirstBlocks, IsBeginningOf, WritesReport, MakesBlocks}
+use Rattle.ror.specs.Replaying.{most, is_wide_body, has_wide, AreFirstBlocks, IsBeginningOf, WritesReport, MakesBlocks}
 
--- ---- whether an answer is too wide
+-- ---- whether anything is too wide
 
 some_of_either : (m n : ℕ) → nat_lt 0 (m + n) ≡ (nat_lt 0 m || nat_lt 0 n)
 some_of_either m n = grind arith
@@ -50,11 +51,21 @@ wide_answers (x ∷ xs) =
     let f : Answer → ℕ = λ x. cond (beq (is_wide x.verdict) true) 1 0 in
     ap (λ b. b || list_any (λ x. is_wide x.verdict) xs) (one_wide x) ∙ ap (λ b. nat_lt 0 (f x) || b) (wide_answers xs) ∙ sym (some_of_either (f x) (sum_by f xs)) ∙ ap (nat_lt 0) (sym (sums f x xs))
 
+wide_body : (body : Body) → is_wide_body body ≡ nat_lt 0 (passed_of body).wide
+wide_body (bodies.Added n) = refl
+wide_body (bodies.Withdrawn n) = refl
+wide_body (bodies.Replaced n) = refl
+wide_body bodies.Undone = refl
+wide_body (bodies.Repaired kept) = refl
+wide_body (bodies.RepairWide n note) = refl
+wide_body (bodies.Answers xs) = wide_answers xs
+wide_body (bodies.Refused fault) = refl
+
 pub wide_blocks : (bs : List Block) → list_any has_wide bs ≡ nat_lt 0 (accepted_of bs).wide
 wide_blocks [] = refl
 wide_blocks (b ∷ bs) =
-    let f : Block → ℕ = λ b. (passed_of (answers_of b.body)).wide in
-    ap (λ x. x || list_any has_wide bs) (wide_answers (answers_of b.body)) ∙ ap (λ x. nat_lt 0 (f b) || x) (wide_blocks bs) ∙ sym (some_of_either (f b) (sum_by f bs)) ∙ ap (nat_lt 0) (sym (sums f b bs))
+    let f : Block → ℕ = λ b. (passed_of b.body).wide in
+    ap (λ x. x || list_any has_wide bs) (wide_body b.body) ∙ ap (λ x. nat_lt 0 (f b) || x) (wide_blocks bs) ∙ sym (some_of_either (f b) (sum_by f bs)) ∙ ap (nat_lt 0) (sym (sums f b bs))
 
 -- ---- the blocks that are written
 
@@ -70,7 +81,7 @@ pub none_written : (start : Workbench) (out : SinkState) → AreWritten start []
 none_written start out = record { blocks = []; made = made_nothing most start; wide_is = refl; faults = refl; grew = Grew-none out.written }
 
 -- one block more
-pub one_written : (start : Workbench) (lines : List Line) (bench moved : Workbench) (old between new : SinkState) (wide : Bool) (line : Line) (block : Block) → AreWritten start lines bench old between wide → line.desk < length start.state → IsBlockOf (IsGiven most) bench.table (revisions_at bench line.desk) line block → IsPrintableBlock bench.table block → moved ≡ with_block bench line block → new.faults ≡ between.faults → Grew between.written new.written (block_text bench.table block) → AreWritten start (lines ++ line ∷ []) moved old new (wide || has_wide block)
+pub one_written : (start : Workbench) (lines : List Line) (bench moved : Workbench) (old between new : SinkState) (wide : Bool) (line : Line) (block : Block) → AreWritten start lines bench old between wide → line.desk < length start.state → IsBlockOf (given_at most) bench.table (revisions_at bench line.desk) line block → IsPrintableBlock bench.table block → moved ≡ with_block bench line block → new.faults ≡ between.faults → Grew between.written new.written (block_text bench.table block) → AreWritten start (lines ++ line ∷ []) moved old new (wide || has_wide block)
 one_written start lines bench moved old between new wide line block were within is text moves faults grew =
     let same : block_text bench.table block ≡ block_text start.table block = ap (λ (t : DecisionTable). block_text t block) were.made.after.table in
     record {
@@ -86,7 +97,7 @@ one_written start lines bench moved old between new wide line block were within 
     or_false false = refl
 
 -- one block more was made, and only a front of it written
-pub block_cut : (start : Workbench) (lines : List Line) (i : ℕ) (bench moved : Workbench) (old between new : SinkState) (wide : Bool) (line : Line) (block : Block) → i < length lines → line ≡ get_or lines i line → AreWritten start (take i lines) bench old between wide → line.desk < length start.state → IsBlockOf (IsGiven most) bench.table (revisions_at bench line.desk) line block → IsPrintableBlock bench.table block → moved ≡ with_block bench line block → between.faults ≤ new.faults → Rose between.faults new.faults → GrewShort between.written new.written (block_text bench.table block) → MakesBlocks start lines old new (Err stops.WriteFault)
+pub block_cut : (start : Workbench) (lines : List Line) (i : ℕ) (bench moved : Workbench) (old between new : SinkState) (wide : Bool) (line : Line) (block : Block) → i < length lines → line ≡ get_or lines i line → AreWritten start (take i lines) bench old between wide → line.desk < length start.state → IsBlockOf (given_at most) bench.table (revisions_at bench line.desk) line block → IsPrintableBlock bench.table block → moved ≡ with_block bench line block → between.faults ≤ new.faults → Rose between.faults new.faults → GrewShort between.written new.written (block_text bench.table block) → MakesBlocks start lines old new (Err stops.WriteFault)
 block_cut start lines i bench moved old between new wide line block within item were named is text moves up rose short =
     let same : block_text bench.table block ≡ block_text start.table block = ap (λ (t : DecisionTable). block_text t block) were.made.after.table in
     let blocks = were.blocks ++ block ∷ [] in
@@ -151,7 +162,7 @@ module _ (t : DecisionTable) (s : Session) where
 
   whole : (blocks : List Block) → AreBlocksAt most (bench_for t s) s.lines blocks → IsReplayedReport most (bench_for t s) s.lines (header_text ++ (flat_map (block_text t) blocks ++ end_text (length s.lines))) (accepted_of blocks)
   whole blocks made =
-      let count = as_many (IsBlockOf (IsGiven most) t) (bench_for t s) [] s.lines blocks made.given in
+      let count = as_many (IsBlockOf (given_at most) t) (bench_for t s) [] s.lines blocks made.given in
       record { blocks = blocks; made = made; text = ap (λ n. header_text ++ (flat_map (block_text t) blocks ++ end_text n)) count; counted = refl }
 
   -- the end was not made
@@ -183,7 +194,7 @@ module _ (t : DecisionTable) (s : Session) where
         kept ∙ makes.0 ∙ same,
         header_text ++ whole_text,
         accepted_of blocks,
-        record { given = report; checked = record { proved = proved; answers_true = report_true (bench_for t s) s.lines (header_text ++ whole_text) (accepted_of blocks) lawful proved } },
+        record { given = report; checked = record { proved = proved; blocks_true = report_true (bench_for t s) s.lines (header_text ++ whole_text) (accepted_of blocks) lawful proved } },
         makes.3,
         Grew-append old.written between.written new.written header_text whole_text header (Grew-append between.written after.written new.written (flat_map (block_text t) blocks) (end_text (length s.lines)) makes.4 ended),
       )

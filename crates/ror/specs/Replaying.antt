@@ -1,5 +1,5 @@
 -- What a replay writes, and what its files are like.
-use Rattle.std.specs.Prelude.{◌≡◌, ℕ, ◌≤◌, ◌⊎◌, Bool, List, ◌++◌, take, Option, Some, Result, Ok, Err, nat_lt}
+use Rattle.std.specs.Prelude.{◌≡◌, ℕ, ◌≤◌, ◌⊎◌, Bool, true, List, ◌++◌, take, Option, Some, Result, Ok, Err, nat_lt}
 use Rattle.std.specs.List.{flat_map, list_any}
 use Rattle.ror_io.specs.Files.{Files}
 use Rattle.ror_io.specs.Counts.{Rose, DidNotRise}
@@ -9,6 +9,8 @@ use Rattle.ror_session.specs.declared.session.Line.{Line}
 use Rattle.ror_session.specs.declared.session.Session.{Session}
 use Rattle.ror_check.specs.Proof.{is_wide}
 use Rattle.ror_report.specs.declared.block.Block.{Block}
+use Rattle.ror_report.specs.declared.block.Body.{Body}
+use Rattle.ror_report.specs.declared.block.Body.TheVariants.{RepairWide}
 use Rattle.ror_report.specs.Text.{answers_of, block_text}
 use Rattle.ror_pivot.specs.Answers.{most_of}
 use Rattle.ror_pivot.specs.declared.note.Bits.TheVariants.{B127}
@@ -27,8 +29,9 @@ use Rattle.ror.specs.Stops.{ShowsStop}
 abbrev pub most : ℕ
 most = most_of B127
 
--- The text is the report of the session: a block for each line, in order, with answers that may be given at 127 bits. Each
--- answer that isn't too wide has a proof and is true of all compatible value functions.
+-- The text is the report of the session: a block for each line, in order, with answers and repairs that may be given at 127
+-- bits. Each that isn't too wide has a proof: an answer is true of all compatible value functions, and a repair drops what the
+-- repair over these drops.
 pub record IsReportOf (t : DecisionTable) (s : Session) (text : List ℕ)
     (accepted : Accepted) : Type 0 where
   pub given : IsReplayedReport most (bench_for t s) s.lines text accepted
@@ -38,8 +41,8 @@ pub record IsReportOf (t : DecisionTable) (s : Session) (text : List ℕ)
 abbrev pub IsBeginningOf : DecisionTable → Session → List ℕ → Type 0
 IsBeginningOf t s text = IsBegunReport most (bench_for t s) s.lines text
 
--- What was written where the report of a session was due: the whole of it, and whether an answer is too wide; a proper front
--- of its beginning where a write failed; or some front where memory ran out.
+-- What was written where the report of a session was due: the whole of it, and whether anything is too wide; a proper front of
+-- its beginning where a write failed; or some front where memory ran out.
 abbrev pub WritesReport : DecisionTable → Session → SinkState → SinkState → Result Bool Stop → Type 0
 WritesReport t s old new (Ok wide) = (new.faults ≡ old.faults) × (text : List ℕ)
     × (accepted : Accepted) × IsReportOf t s text accepted × (wide ≡ nat_lt 0 accepted.wide)
@@ -53,9 +56,13 @@ WritesReport t s old new (Err stop) = ⊥
 
 -- ---- the blocks of lines, one after another
 
--- an answer of the block is too wide
+-- an answer of the body is too wide, or its repair
+abbrev pub is_wide_body : Body → Bool
+is_wide_body (RepairWide number note) = true
+is_wide_body body = list_any (λ x. is_wide x.verdict) (answers_of body)
+
 abbrev pub has_wide : Block → Bool
-has_wide block = list_any (λ x. is_wide x.verdict) (answers_of block.body)
+has_wide block = is_wide_body block.body
 
 -- the text is that of the blocks of the first lines
 pub record AreFirstBlocks (bench : Workbench) (lines : List Line) (text : List ℕ) : Type 0 where
@@ -66,8 +73,8 @@ pub record AreFirstBlocks (bench : Workbench) (lines : List Line) (text : List �
   pub made : AreBlocksAt most bench taken blocks
   pub text_is : text ≡ flat_map (block_text bench.table) blocks
 
--- what was written of the blocks of lines: all of them, and whether an answer is too wide; a proper front of some where a
--- write failed; or the first ones where memory ran out
+-- what was written of the blocks of lines: all of them, and whether anything is too wide; a proper front of some where a write
+-- failed; or the first ones where memory ran out
 abbrev pub MakesBlocks : Workbench → List Line → SinkState → SinkState → Result Bool Stop → Type 0
 MakesBlocks bench lines old new (Ok wide) = (new.faults ≡ old.faults) × (blocks : List Block)
     × AreBlocksAt most bench lines blocks × (wide ≡ nat_lt 0 (accepted_of blocks).wide)

@@ -136,7 +136,7 @@ DecidesStatus told before now words status =
 
 -- ---- what is written on standard output
 
--- the report that such files prove has so many answers with a proof, and so many that are too wide
+-- the report that such files prove has so many answers with a proof, and so many answers and repairs that are too wide
 abbrev pub CountsAnswers : Option Files → ℕ → ℕ → CheckNames → Accepted → Type 0
 CountsAnswers told before now names accepted =
     (files : Files) → told ≡ Some files → DidNotRise before now → ProvesReport files names accepted
@@ -155,8 +155,8 @@ WritesLine told before now names old new statuses.WriteFault = (accepted : Accep
     × CountsAnswers told before now names accepted × GrewShort old new (accepted_text accepted)
 WritesLine told before now names old new _ = new ≡ old
 
--- By a replay, where it is told: the report of the session, in which an answer is too wide or none is, a proper front of its
--- beginning where a write failed, some front where memory ran out, and nothing under every other status.
+-- By a replay, where it is told: the report of the session, in which something is too wide or nothing is, a proper front of
+-- its beginning where a write failed, some front where memory ran out, and nothing under every other status.
 abbrev pub WritesBlocks : Option Files → ℕ → ℕ → InputNames → Option (List ℕ) → Option (List ℕ)
     → Status → Type 0
 WritesBlocks told before now names old new statuses.Done = (t : DecisionTable) × (s : Session)

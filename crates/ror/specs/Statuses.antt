@@ -10,6 +10,8 @@ use Rattle.ror_system.specs.declared.reject.Reject.{Reject}
 use Rattle.ror_system.specs.declared.reject.Reject.TheVariants as rejects
 use Rattle.ror_check.specs.declared.fault.CheckFault.{CheckFault}
 use Rattle.ror_check.specs.declared.fault.CheckFault.TheVariants as checks
+use Rattle.ror_check.specs.declared.fault.RepairCheckFault.{RepairCheckFault}
+use Rattle.ror_check.specs.declared.fault.RepairCheckFault.TheVariants as repairs
 use Rattle.ror_table.specs.declared.fault.TableFault.{TableFault}
 use Rattle.ror_bench.specs.declared.report.Accepted.{Accepted}
 use Rattle.ror_bench.specs.declared.report.Rejection.{Rejection}
@@ -29,7 +31,7 @@ code_of statuses.WriteFault = 7
 code_of statuses.Memory = 8
 code_of statuses.DoneWide = 9
 
--- the status where the work was done: by whether an answer is too wide
+-- the status where the work was done: by whether an answer or a repair is too wide
 abbrev pub status_of : Accepted → Status
 status_of accepted = if accepted.wide == 0 then statuses.Done else statuses.DoneWide
 
@@ -76,6 +78,14 @@ fault_text (checks.Base r) = codes "base " ++ reject_text r
 fault_text (checks.Part k r) = codes "part " ++ decimal k ++ codes " " ++ reject_text r
 fault_text checks.Memory = codes "Memory"
 
+abbrev pub repair_fault_text : RepairCheckFault → List ℕ
+repair_fault_text repairs.WrongList = codes "WrongList"
+repair_fault_text repairs.WrongKind = codes "WrongKind"
+repair_fault_text (repairs.Dropped n r) =
+    codes "dropped " ++ decimal n ++ codes " " ++ reject_text r
+repair_fault_text (repairs.Base r) = codes "base " ++ reject_text r
+repair_fault_text repairs.Memory = codes "Memory"
+
 abbrev pub reason_text : Reason → List ℕ
 reason_text reasons.TooLong = codes "TooLong"
 reason_text reasons.NotUtf8 = codes "NotUtf8"
@@ -83,6 +93,7 @@ reason_text (reasons.BadLine n) = codes "BadLine " ++ decimal n
 reason_text (reasons.BadNumber n) = codes "BadNumber " ++ decimal n
 reason_text reasons.WrongBlock = codes "WrongBlock"
 reason_text (reasons.Answer k f) = codes "answer " ++ decimal k ++ codes " " ++ fault_text f
+reason_text (reasons.Repair f) = codes "repair " ++ repair_fault_text f
 
 -- the lines of the three refusals
 abbrev pub table_line : TableFault → List ℕ
@@ -114,7 +125,7 @@ status_text statuses.WriteFault = codes "write fault\n"
 status_text statuses.Memory = codes "memory\n"
 status_text statuses.DoneWide = []
 
--- the line of an accepted report: how many answers were accepted, and how many are too wide
+-- the line of an accepted report: how many answers were accepted, and how many answers and repairs are too wide
 unfoldable pub accepted_text : Accepted → List ℕ
 accepted_text accepted =
     codes "accepted " ++ decimal accepted.answers ++ codes " wide " ++ decimal accepted.wide ++ codes "\n"

@@ -121,8 +121,8 @@ ReadsSessionAs reading (Err stops.ReadFault) = ⊥
 ReadsSessionAs reading (Err stops.WriteFault) = ⊥
 ReadsSessionAs reading (Err stops.Memory) = Unit {0}
 
--- what a step answered of a report's bytes: how many of its answers have a proof, and are true, and how many are too
--- wide; or that the bytes are the text of no such report, and why
+-- what a step answered of a report's bytes: how many of its answers have a proof, and are true, and how many answers and
+-- repairs are too wide; or that the bytes are the text of no such report, and why
 abbrev pub Judges : DecisionTable → Session → List ℕ → Result Accepted Stop → Type 0
 Judges t s bytes (Ok accepted) =
     (length bytes ≤ MOST_REPORT_BYTES) × IsAcceptedReport (bench_for t s) s.lines bytes accepted

@@ -49,7 +49,8 @@ pub record RefusesSession (files : Files) (names : InputNames) (fault : SessionF
   pub refused : session_of bytes ≡ Err fault
 
 -- table and session were read, and the report's bytes, of which there are at most 268,435,456, are the text of a
--- report that is proved for them but for its answers that are too wide: so many have a proof, and so many are too wide
+-- report that is proved for them but for what is too wide: so many answers have a proof, and so many answers and repairs are
+-- too wide
 pub record ProvesReport (files : Files) (names : CheckNames) (accepted : Accepted) : Type 0 where
   pub table : DecisionTable
   pub session : Session
@@ -59,7 +60,7 @@ pub record ProvesReport (files : Files) (names : CheckNames) (accepted : Accepte
   pub short : length bytes ≤ MOST_REPORT_BYTES
   pub proved : IsProvedReport (bench_for table session) session.lines bytes accepted
 
--- such a report of which no answer is too wide; of which one is
+-- such a report of which nothing is too wide; of which something is
 abbrev pub ProvesAll : Files → CheckNames → Accepted → Type 0
 ProvesAll files names accepted = ProvesReport files names accepted × (accepted.wide ≡ 0)
 
@@ -107,7 +108,7 @@ pub record RefutesReport (files : Files) (names : CheckNames) (rejection : Rejec
   pub not_proved : IsNotProved files names
   pub rejected : RejectsReport files names rejection
 
--- every answer of the report that isn't too wide is true of all compatible value functions
+-- every answer of the report that isn't too wide is true of all compatible value functions, and so is what its repairs drop
 pub record AnswersTrue (files : Files) (names : CheckNames) : Type 0 where
   pub table : DecisionTable
   pub session : Session

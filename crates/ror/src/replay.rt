@@ -1,7 +1,8 @@
 //! The report of a session: its header, the block of each line, each written before the next line is taken, and its end.
 
 ghost use Rattle.std.specs.Prelude.{◌≡◌, length};
-ghost use Rattle.std.specs.List.{AllByRecursion};
+ghost use Rattle.std.specs.List.{AllByRecursion, list_any};
+ghost use Rattle.ror_check.specs.Proof.{is_wide};
 ghost use Rattle.ror_session.specs.Sound.{IsSound};
 ghost use Rattle.ror_bench.specs.Bench.{LeavesNumbers};
 ghost use Rattle.ror_bench.specs.Reports.{NamesADesk};
@@ -12,7 +13,7 @@ use crate::work::Stop;
 use ror_bench::Bench;
 use ror_io::{Sink, SinkFault, write_all};
 use ror_pivot::Bits;
-use ror_proof::Verdict;
+use ror_proof::{Answer, Verdict};
 use ror_report::{Block, Body, header, print_block, print_end};
 use ror_session::{Line, Session};
 use ror_table::Table;
@@ -30,7 +31,7 @@ impl From<SinkFault> for Stop {
     }
 }
 
-/// Writes the report of a session over a table, and says whether an answer is too wide. Each block is written before the
+/// Writes the report of a session over a table, and says whether anything is too wide. Each block is written before the
 /// next line is taken, and after a write that failed nothing more is.
 pub fn write_report<O: Sink>(
     alloc: Global,
@@ -53,7 +54,7 @@ pub fn write_report<O: Sink>(
     Ok(wide)
 }
 
-/// Writes the block of each line, and says whether an answer is too wide.
+/// Writes the block of each line, and says whether anything is too wide.
 fn write_blocks<O: Sink>(
     alloc: Global,
     bench: &mut Bench,
@@ -70,20 +71,27 @@ fn write_blocks<O: Sink>(
         let block = bench.step(line, Bits::B127)?;
         let text = print_block(alloc, bench.table(), &block)?;
         write_all(out, text.as_slice())?;
-        wide = wide || has_wide_answer(&block);
+        wide = wide || has_wide(&block);
     }
     Ok(wide)
 }
 
-/// Whether an answer of the block is too wide.
-fn has_wide_answer(block: &Block) -> bool
+/// Whether an answer of the block is too wide, or its repair.
+fn has_wide(block: &Block) -> bool
     ensures { result ≡ has_wide block.now }
 {
     match &block.body {
-        Body::Answers(answers) => answers
-            .as_slice()
-            .iter()
-            .any(|answer| matches!(answer.verdict, Verdict::Wide { .. })),
+        Body::Answers(answers) => has_wide_answer(answers.as_slice()),
+        Body::RepairWide(_, _) => true,
         _ => false,
     }
+}
+
+/// Whether one of the answers is too wide.
+fn has_wide_answer(answers: &[Answer]) -> bool
+    ensures { result ≡ list_any (λ x. is_wide x.verdict) answers.now }
+{
+    answers
+        .iter()
+        .any(|answer| matches!(answer.verdict, Verdict::Wide { .. }))
 }

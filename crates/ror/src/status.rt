@@ -9,7 +9,7 @@ use ror_table::TableFault;
 /// How a run ended.
 #[derive(Debug, Drop)]
 pub enum Status {
-    /// The work was done to the last line, and no answer is too wide.
+    /// The work was done to the last line, and nothing is too wide.
     Done,
     /// The words are not those of a command.
     Usage,
@@ -17,7 +17,7 @@ pub enum Status {
     BadTable(TableFault),
     /// The session's bytes are no session: the first fault.
     BadSession(SessionFault),
-    /// The report's bytes are no report that is proved for the session but for answers that are too wide: why.
+    /// The report's bytes are no report that is proved for the session but for answers and repairs that are too wide: why.
     Rejected(Rejection),
     /// A file is not there, or could not be read.
     ReadFault,
@@ -25,7 +25,7 @@ pub enum Status {
     WriteFault,
     /// There was not enough memory.
     Memory,
-    /// The work was done to the last line, and at least one answer is too wide.
+    /// The work was done to the last line, and at least one answer or repair is too wide.
     DoneWide,
 }
 

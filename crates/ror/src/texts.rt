@@ -2,12 +2,12 @@
 
 ghost use Rattle.std.specs.Prelude.{◌≡◌, ◌++◌};
 ghost use Rattle.ror.specs.Printing.{Prints};
-ghost use Rattle.ror.specs.Statuses.{kind_text, reject_text, fault_text, reason_text, table_line, session_line, rejection_line, usage_text, status_text, accepted_text};
+ghost use Rattle.ror.specs.Statuses.{kind_text, reject_text, fault_text, repair_fault_text, reason_text, table_line, session_line, rejection_line, usage_text, status_text, accepted_text};
 
 use crate::status::Status;
 use itoa::{Buffer, Integer};
 use ror_bench::{Accepted, Reason, Rejection};
-use ror_check::CheckFault;
+use ror_check::{CheckFault, RepairCheckFault};
 use ror_io::{Sink, SinkFault, write_all, write_pieces};
 use ror_session::SessionFault;
 use ror_system::Reject;
@@ -31,7 +31,7 @@ pub fn write_status<S: Sink>(sink: &mut S, status: &Status) -> Result<(), SinkFa
     }
 }
 
-/// Writes the line of an accepted report: how many answers were accepted, and how many are too wide.
+/// Writes the line of an accepted report: how many answers were accepted, and how many answers and repairs are too wide.
 #[tactic(auto, unfolding(crate::specs::Statuses::accepted_text))]
 pub fn write_accepted<S: Sink>(sink: &mut S, accepted: Accepted) -> Result<(), SinkFault>
     ensures { Prints (S.faults sink.old) (S.faults sink.new)
@@ -181,6 +181,10 @@ fn write_reason<S: Sink>(sink: &mut S, reason: &Reason) -> Result<(), SinkFault>
             write_numbered(sink, b"answer ", *answer, b" ")?;
             write_check_fault(sink, fault)
         }
+        Reason::Repair(fault) => {
+            write_text(sink, b"repair ")?;
+            write_repair_fault(sink, fault)
+        }
     }
 }
 
@@ -201,6 +205,25 @@ fn write_check_fault<S: Sink>(sink: &mut S, fault: &CheckFault) -> Result<(), Si
             write_reject(sink, reject)
         }
         CheckFault::Memory => write_text(sink, b"Memory"),
+    }
+}
+
+fn write_repair_fault<S: Sink>(sink: &mut S, fault: &RepairCheckFault) -> Result<(), SinkFault>
+    ensures { Prints (S.faults sink.old) (S.faults sink.new)
+        (S.written sink.old) (S.written sink.new) (repair_fault_text fault.now) result }
+{
+    match fault {
+        RepairCheckFault::WrongList => write_text(sink, b"WrongList"),
+        RepairCheckFault::WrongKind => write_text(sink, b"WrongKind"),
+        RepairCheckFault::Dropped(number, reject) => {
+            write_numbered(sink, b"dropped ", *number, b" ")?;
+            write_reject(sink, reject)
+        }
+        RepairCheckFault::Base(reject) => {
+            write_text(sink, b"base ")?;
+            write_reject(sink, reject)
+        }
+        RepairCheckFault::Memory => write_text(sink, b"Memory"),
     }
 }
 

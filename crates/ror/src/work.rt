@@ -32,7 +32,7 @@ pub enum Stop {
     BadTable(TableFault),
     /// The session's bytes are no session.
     BadSession(SessionFault),
-    /// The report's bytes are no report that is proved for the session but for answers that are too wide.
+    /// The report's bytes are no report that is proved for the session but for answers and repairs that are too wide.
     Rejected(Rejection),
     /// A file is not there, or could not be read.
     ReadFault,
@@ -121,7 +121,7 @@ impl From<Stop> for Status {
     }
 }
 
-/// Fetches table and session, each once those before it were read, and writes the report of the session: whether an answer
+/// Fetches table and session, each once those before it were read, and writes the report of the session: whether anything
 /// is too wide.
 pub fn replay_files<F: Shelf, O: Sink>(
     alloc: Global,
@@ -143,7 +143,7 @@ pub fn replay_files<F: Shelf, O: Sink>(
 }
 
 /// Fetches the three files in order, each once those before it were read, and gives how many answers of the report were
-/// accepted and how many are too wide.
+/// accepted and how many answers and repairs are too wide.
 pub fn check_files<F: Shelf>(
     alloc: Global,
     names: &FileNames<'_>,

@@ -45,6 +45,9 @@ print_block-requires-clause-valid g c =
 pub print_block-requires-clause-narrow : goal.print_block-requires-clause-narrow
 print_block-requires-clause-narrow g c = c.in_ok-block.ensures.text.narrow
 
+pub print_block-requires-clause-repair : goal.print_block-requires-clause-repair
+print_block-requires-clause-repair g c = c.in_ok-block.ensures.text.repair
+
 pub returns-in_err-block : goal.returns-in_err-block
 returns-in_err-block g c =
     let were = c.loop-line.invariant.were in
@@ -84,7 +87,7 @@ loop-line-preserved g c =
     let text = c.as_slice.ensures.value ∙ c.in_ok-text.ensures.text ∙ ap (λ t. block_text t block) (c.table.ensures.value ∙ ap (λ (b : Workbench). b.table) c.in_ok-block.ensures.moved) in
     let wide : c.if-wide.wide ≡ (c.loop-line.wide || has_wide block) = elim c.if-wide.branch [
       | then-wide w ↦ w.wide-is ∙ w.if-wide.true ∙ sym (ap (λ b. b || has_wide block) w.if-wide.true)
-      | else-wide w ↦ w.wide-is ∙ w.has_wide_answer-wide.ensures ∙ sym (ap (λ b. b || has_wide block) w.if-wide.false)
+      | else-wide w ↦ w.wide-is ∙ w.has_wide-wide.ensures ∙ sym (ap (λ b. b || has_wide block) w.if-wide.false)
     ] in
     let one = one_written start (take i lines) c.loop-line.bench c.step.new.self _ _ (sink_state (g.O.Sink.written c.write_all.new.sink) (g.O.Sink.faults c.write_all.new.sink)) c.loop-line.wide line block were desk c.in_ok-block.ensures.block c.in_ok-block.ensures.text.printable c.in_ok-block.ensures.moved done.ok (rw (sym text) done.all_taken) in
     let more : take (i + 1) lines ≡ take i lines ++ line ∷ [] = take_more lines i line c.loop-line-test.true ∙ ap (λ (x : Line). take i lines ++ x ∷ []) (sym c.line-item.is) in

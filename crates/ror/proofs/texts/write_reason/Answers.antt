@@ -12,3 +12,12 @@ returns-in_err-write_numbered-in-Answer g c =
 pub returns-in_ok-write_numbered-in-Answer : goal.returns-in_ok-write_numbered-in-Answer
 returns-in_ok-write_numbered-in-Answer g c =
     follow _ _ _ _ _ _ _ _ _ _ c.in_ok-write_numbered-in-Answer.ensures c.write_check_fault.ensures (ap reason_text c.in-Answer.is)
+
+pub returns-in_err-write_text-in-Repair : goal.returns-in_err-write_text-in-Repair
+returns-in_err-write_text-in-Repair g c =
+    let p = err_from_is_err_and c.from_residual-in_err-write_text-in-Repair.result c.from_residual-in_err-write_text-in-Repair.ensures.1 in
+    rw p.1 (cut _ _ _ _ _ _ _ c.in_err-write_text-in-Repair.ensures (ap reason_text c.in-Repair.is))
+
+pub returns-in_ok-write_text-in-Repair : goal.returns-in_ok-write_text-in-Repair
+returns-in_ok-write_text-in-Repair g c =
+    follow _ _ _ _ _ _ _ _ _ _ c.in_ok-write_text-in-Repair.ensures c.write_repair_fault.ensures (ap reason_text c.in-Repair.is)
