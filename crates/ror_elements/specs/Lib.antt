@@ -1,0 +1,13 @@
+pub mod Tree
+pub mod Kept
+pub mod Marks
+pub mod Mode
+pub mod Faults
+pub mod Open
+pub mod References
+pub mod Declarations
+pub mod Reader
+pub mod Tags
+pub mod Elements
+pub mod Depth
+pub mod Laws

@@ -1,0 +1,26 @@
+//! Laws of the definitions, each the clause of a function that does nothing.
+
+ghost use Rattle.ror_elements.specs.Laws.{LinesAreCounted, GivesTheFirstFault, NoneIsTooDeep, NothingIsReplaced};
+
+/// The line that is known of a byte is one more than the line ends before it.
+pub fn lines_are_counted()
+    ensures { LinesAreCounted }
+{}
+
+/// The fault that is given is the first that the text has, and each first fault is given: that it is
+/// no UTF-8, else the fault at the first byte that what was read before it does not allow, else that
+/// of its end.
+pub fn the_first_fault_is_given()
+    ensures { GivesTheFirstFault }
+{}
+
+/// No element that is read is deeper than [`MOST_DEPTH`](crate::MOST_DEPTH).
+pub fn none_is_too_deep()
+    ensures { NoneIsTooDeep }
+{}
+
+/// Names, ids and texts are the bytes that stand in the text, or that references stand for: nothing
+/// of them is replaced for being no UTF-8.
+pub fn nothing_is_replaced()
+    ensures { NothingIsReplaced }
+{}
