@@ -10,4 +10,5 @@ pub mod Reader
 pub mod Tags
 pub mod Elements
 pub mod Depth
+pub mod Grammar
 pub mod Laws
