@@ -46,11 +46,11 @@ read-line r next byte e =
     line_of_next acted.0 (line_after r.line byte) next acted.2
 
 -- the line ends of some bytes, one by one
-abbrev ends : List ℕ → ℕ
+abbrev pub ends : List ℕ → ℕ
 ends [] = 0
 ends (byte ∷ bytes) = if byte == 10 then 1 + ends bytes else ends bytes
 
-line_step : (line byte more : ℕ) → line_after line byte + more ≡ line + (if byte == 10 then 1 + more else more)
+pub line_step : (line byte more : ℕ) → line_after line byte + more ≡ line + (if byte == 10 then 1 + more else more)
 line_step line byte more = elim (cases_Bool (byte == 10)) [ inl hit ↦ rw hit (omega arith) | inr miss ↦ rw miss refl ]
 
 lines_from : (bytes : List ℕ) (r last : Reader) → read_all read r bytes ≡ Ok last → last.line ≡ r.line + ends bytes
@@ -72,7 +72,7 @@ not_true : (s : Bool) → not s ≡ true → s ≡ true → ⊥
 not_true true e f = absurd cc
 not_true false e f = absurd cc
 
-not_false : (s : Bool) → not s ≡ false → s ≡ true
+pub not_false : (s : Bool) → not s ≡ false → s ≡ true
 not_false true e = refl
 not_false false e = absurd cc
 
@@ -93,7 +93,7 @@ is_first bytes first e = elim (bind_err (refuse_bad_utf8 bytes) (λ _. read_all 
       first_of_all bytes first (IsUtf8-from_is_utf8 bytes valid) good.2
 ]
 
-past_utf8 : (bytes : List ℕ) → IsUtf8 bytes → elements_of bytes ≡ (read_all read nothing_read (without_mark bytes) >>= finish)
+pub past_utf8 : (bytes : List ℕ) → IsUtf8 bytes → elements_of bytes ≡ (read_all read nothing_read (without_mark bytes) >>= finish)
 unfolding elements_of
 past_utf8 bytes u = bind-at_ok (refuse_bad_utf8 bytes) (λ _. read_all read nothing_read (without_mark bytes) >>= finish) tt (is_valid bytes u)
 
@@ -193,7 +193,7 @@ opened-gathered : (r : Reader) → InTag r.top r.tag → finished (opened r) ≡
 unfolding opened
 opened-gathered r h = gathered _ h.name h.id IsUtf8-nil
 
-closing-gathered : (p : List ℕ) (mode : Mode) (r : Reader) → IsNamed r.top → AtMode p mode r.top r.tag r.piece → IfSome (closing mode r) (λ element. element.kept ≡ true → finished element ≡ as_gathered element)
+pub closing-gathered : (p : List ℕ) (mode : Mode) (r : Reader) → IsNamed r.top → AtMode p mode r.top r.tag r.piece → IfSome (closing mode r) (λ element. element.kept ≡ true → finished element ≡ as_gathered element)
 closing-gathered p modes.EndName r named h = λ k. gathered r.top (named.name k) (named.id k) (h k)
 closing-gathered p modes.AfterEndName r named h = λ k. gathered r.top (named.name k) (named.id k) (h k)
 closing-gathered p modes.EmptyTag r named h = λ k. opened-gathered r h
@@ -206,7 +206,7 @@ mark_is = refl
 marked : (bytes : List ℕ) → bytes_eq (take 3 bytes) mark ≡ true → bytes ≡ encode_utf8 0xFEFF ++ drop 3 bytes
 marked bytes e = sym (take-append-drop 3 bytes) ∙ ap (λ (front : List ℕ). front ++ drop 3 bytes) ((bytes_eq-Decides (take 3 bytes) mark).0 e ∙ sym mark_is)
 
-without_mark-IsUtf8 : (bytes : List ℕ) → IsUtf8 bytes → IsUtf8 (without_mark bytes)
+pub without_mark-IsUtf8 : (bytes : List ℕ) → IsUtf8 bytes → IsUtf8 (without_mark bytes)
 unfolding without_mark
 without_mark-IsUtf8 bytes u = elim (cases_Bool (bytes_eq (take 3 bytes) mark)) [
   | inl there ↦ rw there (IsUtf8-past_char bytes (drop 3 bytes) 0xFEFF u (marked bytes there))

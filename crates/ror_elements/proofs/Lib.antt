@@ -4,3 +4,14 @@ pub mod NumberLemmas
 pub mod DepthLemmas
 pub mod TextLemmas
 pub mod LawLemmas
+pub mod PlainReader
+pub mod Runs
+pub mod NameLemmas
+pub mod TagRuns
+pub mod ElementRuns
+pub mod Grown
+pub mod ContentRuns
+pub mod Declared
+pub mod DeclaredBack
+pub mod StartRuns
+pub mod ReadsLemmas

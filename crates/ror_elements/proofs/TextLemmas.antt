@@ -589,7 +589,7 @@ act_in-kept p rest modes.BeforeValue r byte is u s h = before_value-kept p r byt
 act_in-kept p rest (modes.Value quote) r byte is u s h = in_value-kept p rest quote r byte is u s h.0 h.1
 act_in-kept p rest (modes.Reference home) r byte is u s h = in_reference-kept p home r byte is s h
 
-read-kept : (p rest : List ℕ) (r : Reader) (byte : ℕ) → IsUtf8 (p ++ byte ∷ rest) → IsGathered p r → Gathers (p ++ byte ∷ []) (read r byte)
+pub read-kept : (p rest : List ℕ) (r : Reader) (byte : ℕ) → IsUtf8 (p ++ byte ∷ rest) → IsGathered p r → Gathers (p ++ byte ∷ []) (read r byte)
 unfolding read act
 read-kept p rest r byte u s = past _ _ (is_control byte) _ (λ _. keeps (IsGathered (p ++ byte ∷ [])) (act_in r.mode r byte) _ (λ next e.
     let gathered : IsGathered (p ++ byte ∷ []) next = subst (λ result. Gathers (p ++ byte ∷ []) result) e (act_in-kept p rest r.mode r byte refl u s s.here) in
