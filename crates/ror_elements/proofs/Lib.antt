@@ -15,3 +15,9 @@ pub mod Declared
 pub mod DeclaredBack
 pub mod StartRuns
 pub mod ReadsLemmas
+pub mod Behind
+pub mod EndsLemmas
+pub mod Prepend
+pub mod BackTags
+pub mod BackContent
+pub mod DocumentLemmas

@@ -13,6 +13,7 @@ use Rattle.ror_elements.specs.declared.reader.Reader.{Reader}
 use Rattle.ror_elements.specs.Depth.{tree_depth}
 use Rattle.ror_elements.specs.Elements.{read, finish, elements_of, without_mark}
 use Rattle.ror_elements.specs.Faults.{fault}
+use Rattle.ror_elements.specs.Grammar.{IsDocument}
 use Rattle.ror_elements.specs.Marks.{local_name, trimmed}
 use Rattle.ror_elements.specs.Open.{finished}
 use Rattle.ror_elements.specs.Reader.{nothing_read}
@@ -70,3 +71,13 @@ abbrev pub NothingIsReplaced : Type 0
 NothingIsReplaced = (bytes before after : List ℕ) (reached : Reader) → IsUtf8 bytes
     → without_mark bytes ≡ before ++ after → IsReached before reached
     → IfSome (closing reached.mode reached) (λ element. element.kept ≡ true → finished element ≡ as_gathered element)
+
+-- ---- the grammar
+
+-- what is read are the documents of the grammar, each as its root
+abbrev pub DocumentsAreRead : Type 0
+DocumentsAreRead = (bytes : List ℕ) (root : Tree) → (elements_of bytes ≡ Ok root) ↔ IsDocument bytes root
+
+-- so a document has one root
+abbrev pub OneRoot : Type 0
+OneRoot = (bytes : List ℕ) (root other : Tree) → IsDocument bytes root → IsDocument bytes other → root ≡ other

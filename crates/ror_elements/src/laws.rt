@@ -1,6 +1,7 @@
 //! Laws of the definitions, each the clause of a function that does nothing.
 
-ghost use Rattle.ror_elements.specs.Laws.{LinesAreCounted, GivesTheFirstFault, NoneIsTooDeep, NothingIsReplaced};
+ghost use Rattle.ror_elements.specs.Laws.{LinesAreCounted, GivesTheFirstFault, NoneIsTooDeep};
+ghost use Rattle.ror_elements.specs.Laws.{NothingIsReplaced, DocumentsAreRead, OneRoot};
 
 /// The line that is known of a byte is one more than the line ends before it.
 pub fn lines_are_counted()
@@ -23,4 +24,14 @@ pub fn none_is_too_deep()
 /// of them is replaced for being no UTF-8.
 pub fn nothing_is_replaced()
     ensures { NothingIsReplaced }
+{}
+
+/// What is read are the documents of the grammar in `specs/Grammar`, each as its root.
+pub fn documents_are_read()
+    ensures { DocumentsAreRead }
+{}
+
+/// A document has one root.
+pub fn a_document_has_one_root()
+    ensures { OneRoot }
 {}

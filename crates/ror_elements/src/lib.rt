@@ -8,9 +8,11 @@
 //!
 //! A text is read byte by byte, in one pass and without recursion. What is known after each byte is
 //! a value, and the fault is that of the first byte that nothing before it allows. The
-//! definitions stand in `specs/`: what a byte does in text and outside of tags in `Reader`, in tags
-//! in `Tags`, and the reading of a whole text in `Elements`; the characters that references stand
-//! for in `References`, the encoding that is declared in `Declarations`, and the laws in `Laws`.
+//! definitions stand in `specs/`: which texts are documents, and what each stands for, by a grammar
+//! in `Grammar`; what a byte does in text and outside of tags in `Reader`, in tags in `Tags`, and
+//! the reading of a whole text in `Elements`; the characters that references stand for in
+//! `References`, and the encoding that is declared in `Declarations`. The laws in `Laws` say that
+//! what is read are the documents, each as its root, and that the fault is the first.
 //!
 //! ```
 //! let root = read_elements(alloc, b"<XMCDA><criteria><criterion id='q'/></criteria></XMCDA>")?;

@@ -1,12 +1,13 @@
 //! The reader of a whole text.
 
-ghost use Rattle.std.specs.Prelude.{◌≡◌, ◌≤◌, ◌<◌, ◌+◌, ◌^◌, ◌-◌, length, IfOk};
+ghost use Rattle.std.specs.Prelude.{◌≡◌, ◌≤◌, ◌<◌, ◌+◌, ◌^◌, ◌-◌, length, IfOk, IfErr, IfSome};
 ghost use Rattle.ror_text.specs.declared.lines.TheConstants.{MOST_TEXT_BYTES};
 ghost use Rattle.ror_text.specs.Reading.{Gives, read_all};
 ghost use Rattle.ror_elements.specs.declared.limits.TheConstants.{MOST_DEPTH};
 ghost use Rattle.ror_elements.specs.Depth.{tree_depth};
 ghost use Rattle.ror_elements.specs.Elements as spec;
 ghost use Rattle.ror_elements.specs.Faults.{element_fault};
+ghost use Rattle.ror_elements.specs.Grammar.{IsDocument, IsNoDocument};
 ghost use Rattle.ror_elements.specs.Reader.{nothing_read};
 ghost use Rattle.ror_elements.specs.Tree.{tree_of};
 
@@ -121,11 +122,15 @@ fn refuse_bad_utf8(bytes: &[u8]) -> Result<(), ElementError>
     }
 }
 
-/// Reads the elements of a text: the root with the kept elements inside it, or the first fault.
+/// Reads the elements of a text: the root with the kept elements inside it, or the first fault. What
+/// is read is a document of the grammar in `specs/Grammar`, and what has a fault is none.
 #[tactic(auto, unfolding(crate::specs::Elements::elements_of))]
 pub fn read_elements(alloc: Global, bytes: &[u8]) -> Result<Element, ElementError>
     requires { length bytes.now ≤ MOST_TEXT_BYTES }
     ensures exact { Gives tree_of element_fault result (spec.elements_of bytes.now) }
+    ensures document { IfOk result (λ root. IsDocument bytes.now (tree_of root)) }
+    ensures fault { IfErr result (λ error.
+        IfSome (element_fault error) (λ _. IsNoDocument bytes.now)) }
     ensures shallow { IfOk result (λ root. tree_depth (tree_of root) ≤ MOST_DEPTH) }
 {
     refuse_bad_utf8(bytes)?;
