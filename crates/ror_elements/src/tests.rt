@@ -60,7 +60,8 @@ fn elements_are_read(rt: HostRuntime) -> Result<(), Fail> {
     assert!(rt;
         reads(
             alloc,
-            "<XMCDA><alternatives><alternative name='b' id=' q&#x41; '><active> true </active><x/></alternative></alternatives></XMCDA>",
+            "<XMCDA><alternatives><alternative name='b' id=' q&#x41; '><active> true </active><x/>\
+             </alternative></alternatives></XMCDA>",
             "XMCDA''(alternatives''(alternative#qA''(active'true')))"
         )?
     );
@@ -79,6 +80,72 @@ fn elements_are_read(rt: HostRuntime) -> Result<(), Fail> {
         )?
     );
     assert!(rt; reads(alloc, " <?xml encoding='latin1'?><XMCDA/>", "XMCDA''")?);
+    assert!(rt;
+        reads(
+            alloc,
+            "<?xml version=\"1.0\"?>\n<x:XMCDA><!-- one -->\n  <alternatives>\
+             <alternative id=\" a \">A &amp; B<active>true</active></alternative>\
+             </alternatives>\n  <notes>none</notes>\n</x:XMCDA>\n",
+            "XMCDA''(alternatives''(alternative#a'A & B'(active'true')))"
+        )?
+    );
+    Ok(())
+}
+
+#[test]
+fn each_row_of_the_table_is_kept(rt: HostRuntime) -> Result<(), Fail> {
+    let alloc = rt.alloc();
+    assert!(rt;
+        reads(
+            alloc,
+            "<XMCDA><alternatives><alternative><active/><x/></alternative><x/></alternatives><x/></XMCDA>",
+            "XMCDA''(alternatives''(alternative''(active'')))"
+        )?
+    );
+    assert!(rt;
+        reads(
+            alloc,
+            "<XMCDA><criteria><criterion><active/><scale><quantitative><preferenceDirection/><x/>\
+             </quantitative><qualitative/><x/></scale><x/></criterion><x/></criteria><x/></XMCDA>",
+            "XMCDA''(criteria''(criterion''(active'')(scale''(quantitative''(preferenceDirection''))(qualitative''))))"
+        )?
+    );
+    assert!(rt;
+        reads(
+            alloc,
+            "<XMCDA><performanceTable><alternativePerformances><alternativeID/><performance>\
+             <criterionID/><value><rational><numerator/><denominator/><x/></rational></value><x/>\
+             </performance><x/></alternativePerformances><x/></performanceTable><x/></XMCDA>",
+            "XMCDA''(performanceTable''(alternativePerformances''(alternativeID'')(performance''(\
+             criterionID'')(value''(rational''(numerator'')(denominator''))))))"
+        )?
+    );
+    assert!(rt;
+        reads(
+            alloc,
+            "<XMCDA><categories><category><active/><rank><integer/><x/></rank><x/></category><x/>\
+             </categories><x/></XMCDA>",
+            "XMCDA''(categories''(category''(active'')(rank''(integer''))))"
+        )?
+    );
+    assert!(rt;
+        reads(
+            alloc,
+            "<XMCDA><alternativesComparisons><pairs><pair><initial><a/></initial><terminal><b/>\
+             </terminal><x/></pair><x/></pairs><x/></alternativesComparisons><x/></XMCDA>",
+            "XMCDA''(alternativesComparisons''(pairs''(pair''(initial''(a''))(terminal''(b'')))))"
+        )?
+    );
+    assert!(rt;
+        reads(
+            alloc,
+            "<XMCDA><alternativesAffectations><alternativeAffectation><categoriesInterval><lowerBound>\
+             <categoryID/><x/></lowerBound><upperBound><categoryID/><x/></upperBound><x/>\
+             </categoriesInterval></alternativeAffectation><x/></alternativesAffectations><x/></XMCDA>",
+            "XMCDA''(alternativesAffectations''(alternativeAffectation''(categoriesInterval''(\
+             lowerBound''(categoryID''))(upperBound''(categoryID'')))))"
+        )?
+    );
     Ok(())
 }
 
