@@ -81,3 +81,9 @@ DocumentsAreRead = (bytes : List ℕ) (root : Tree) → (elements_of bytes ≡ O
 -- so a document has one root
 abbrev pub OneRoot : Type 0
 OneRoot = (bytes : List ℕ) (root other : Tree) → IsDocument bytes root → IsDocument bytes other → root ≡ other
+
+-- ---- limits
+
+-- what the limit is: how deep elements may be
+abbrev pub LimitsAre : Type 0
+LimitsAre = MOST_DEPTH ≡ 64

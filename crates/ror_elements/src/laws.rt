@@ -1,6 +1,6 @@
 //! Laws of the definitions, each the clause of a function that does nothing.
 
-ghost use Rattle.ror_elements.specs.Laws.{LinesAreCounted, GivesTheFirstFault, NoneIsTooDeep};
+ghost use Rattle.ror_elements.specs.Laws.{LinesAreCounted, GivesTheFirstFault, NoneIsTooDeep, LimitsAre};
 ghost use Rattle.ror_elements.specs.Laws.{NothingIsReplaced, DocumentsAreRead, OneRoot};
 
 /// The line that is known of a byte is one more than the line ends before it.
@@ -34,4 +34,9 @@ pub fn documents_are_read()
 /// A document has one root.
 pub fn a_document_has_one_root()
     ensures { OneRoot }
+{}
+
+/// An element may be at most 64 deep.
+pub fn limits()
+    ensures { LimitsAre }
 {}
