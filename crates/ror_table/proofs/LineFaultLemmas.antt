@@ -13,9 +13,9 @@ use Rattle.ror_text.specs.Reading.{◌>>=◌, refuse, need}
 use Rattle.ror_table.specs.declared.direction.Direction.{Direction}
 use Rattle.ror_table.specs.declared.fault.TableFault.{TableFault}
 use Rattle.ror_table.specs.declared.fault.TableKind.{TableKind}
-use Rattle.ror_table.specs.declared.fault.TableKind.TheVariants.{Form, NotUtf8, BadLine, RepeatedId, MissingPerformance, BadNumber, TooMany, Empty, TooLong}
+use Rattle.ror_table.specs.declared.fault.TableKind.TheVariants.{BadLine, RepeatedId, MissingPerformance, BadNumber, TooMany}
 use Rattle.ror_table.specs.declared.fault.What.{What}
-use Rattle.ror_table.specs.declared.fault.What.TheVariants.{Alternatives, Criteria, Steps, Classes}
+use Rattle.ror_table.specs.declared.fault.What.TheVariants.{Alternatives, Criteria, Classes}
 use Rattle.ror_table.specs.declared.limits.TheConstants.{MOST_ALTERNATIVES, MOST_CLASSES, MOST_CRITERIA}
 use Rattle.ror_table.specs.Table.{DecisionTable, criterion_ids, alternative_ids}
 use Rattle.ror_table.specs.Draft.{has_id, add_criterion, add_alternative, with_criterion}
@@ -89,10 +89,7 @@ no_earlier t line k form fresh complete written room RepeatedId less fails = fre
 no_earlier t line k form fresh complete written room MissingPerformance less fails = complete less fails
 no_earlier t line k form fresh complete written room BadNumber less fails = written less fails
 no_earlier t line k form fresh complete written room (TooMany what) less fails = room less what fails
-no_earlier t line k form fresh complete written room Form less fails = fails
-no_earlier t line k form fresh complete written room NotUtf8 less fails = fails
-no_earlier t line k form fresh complete written room Empty less fails = fails
-no_earlier t line k form fresh complete written room TooLong less fails = fails
+no_earlier t line k form fresh complete written room _ less fails = fails
 
 stage_small : (kind : TableKind) → line_stage kind < 5
 stage_small BadLine = omega arith
@@ -100,10 +97,7 @@ stage_small RepeatedId = omega arith
 stage_small MissingPerformance = omega arith
 stage_small BadNumber = omega arith
 stage_small (TooMany what) = omega arith
-stage_small Form = omega arith
-stage_small NotUtf8 = omega arith
-stage_small Empty = omega arith
-stage_small TooLong = omega arith
+stage_small _ = omega arith
 
 -- a fault at a line, and the first of that line
 abbrev FirstAt : ℕ → DecisionTable → LineWords → TableFault → Type 0
@@ -377,17 +371,17 @@ adds_room : (t : DecisionTable) (line : LineWords) (t' : DecisionTable) → Adds
 adds_room t line t' (a_criterion adds) Criteria fails = omega (arith, adds.room, fails.1)
 adds_room t line t' (a_criterion adds) Classes fails = apart (codes "criterion") (codes "classes") line refl (ap (λ (l : LineWords). word_at l 0) adds.is) fails.0
 adds_room t line t' (a_criterion adds) Alternatives fails = apart (codes "criterion") (codes "alternative") line refl (ap (λ (l : LineWords). word_at l 0) adds.is) fails.0
-adds_room t line t' (a_criterion adds) Steps fails = fails
+adds_room t line t' (a_criterion adds) _ fails = fails
 adds_room t line t' (the_classes sets) Criteria fails = apart (codes "classes") (codes "criterion") line refl (ap (λ (l : LineWords). word_at l 0) sets.is) fails.0
 adds_room t line t' (the_classes sets) Classes fails =
     let same : sets.count ≡ fails.1.0 = some_classes (word_at line 1) sets.count fails.1.0 (ap (λ (l : LineWords). count_of (word_at l 1)) sets.is ∙ sets.written) fails.1.1 in
     omega (arith, same, sets.few, fails.1.2)
 adds_room t line t' (the_classes sets) Alternatives fails = apart (codes "classes") (codes "alternative") line refl (ap (λ (l : LineWords). word_at l 0) sets.is) fails.0
-adds_room t line t' (the_classes sets) Steps fails = fails
+adds_room t line t' (the_classes sets) _ fails = fails
 adds_room t line t' (an_alternative adds) Criteria fails = apart (codes "alternative") (codes "criterion") line refl (ap (λ (l : LineWords). word_at l 0) adds.writes.is) fails.0
 adds_room t line t' (an_alternative adds) Classes fails = apart (codes "alternative") (codes "classes") line refl (ap (λ (l : LineWords). word_at l 0) adds.writes.is) fails.0
 adds_room t line t' (an_alternative adds) Alternatives fails = omega (arith, adds.room, fails.1)
-adds_room t line t' (an_alternative adds) Steps fails = fails
+adds_room t line t' (an_alternative adds) _ fails = fails
 
 adds_form : (t : DecisionTable) (line : LineWords) (t' : DecisionTable) → has_control line ≡ false → Adds t line t' → HasForm t line
 adds_form t line t' visible (a_criterion adds) = record { visible = visible; known = inl (record { criterion = adds.criterion; is = adds.is; valid = adds.valid; early = is_early t adds.early }) }
@@ -454,11 +448,7 @@ kind_again t line BadNumber fails = refl
 kind_again t line (TooMany Criteria) fails = rw (is_named (codes "criterion") line fails.0) refl
 kind_again t line (TooMany Classes) fails = rw (named_other (codes "classes") (codes "criterion") line fails.0 refl, is_named (codes "classes") line fails.0) refl
 kind_again t line (TooMany Alternatives) fails = rw (named_other (codes "alternative") (codes "criterion") line fails.0 refl, named_other (codes "alternative") (codes "classes") line fails.0 refl) refl
-kind_again t line (TooMany Steps) fails = absurd fails
-kind_again t line Form fails = absurd fails
-kind_again t line NotUtf8 fails = absurd fails
-kind_again t line Empty fails = absurd fails
-kind_again t line TooLong fails = absurd fails
+kind_again t line _ fails = absurd fails
 
 same_kind : (t : DecisionTable) (line : LineWords) (k l : TableKind) → IsFirstOfLine t line k → IsFirstOfLine t line l → k ≡ l
 same_kind t line k l p q = elim (cases_order (line_stage k) (line_stage l)) [

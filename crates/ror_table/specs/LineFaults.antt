@@ -5,9 +5,9 @@ use Rattle.ror_text.specs.FirstFault.{IsFirst}
 use Rattle.ror_text.specs.Ids.{IsId}
 use Rattle.ror_text.specs.Lines.{has_control}
 use Rattle.ror_text.specs.Numbers.{read_performance, count_of}
-use Rattle.ror_table.specs.declared.fault.What.TheVariants.{Alternatives, Criteria, Steps, Classes}
+use Rattle.ror_table.specs.declared.fault.What.TheVariants.{Alternatives, Criteria, Classes}
 use Rattle.ror_table.specs.declared.fault.TableKind.{TableKind}
-use Rattle.ror_table.specs.declared.fault.TableKind.TheVariants.{Form, NotUtf8, BadLine, RepeatedId, MissingPerformance, BadNumber, TooMany, Empty, TooLong}
+use Rattle.ror_table.specs.declared.fault.TableKind.TheVariants.{BadLine, RepeatedId, MissingPerformance, BadNumber, TooMany}
 use Rattle.ror_table.specs.declared.limits.TheConstants.{MOST_ALTERNATIVES, MOST_CLASSES, MOST_CRITERIA}
 use Rattle.ror_table.specs.Table.{Criterion, DecisionTable, criterion_ids, alternative_ids}
 use Rattle.ror_table.specs.Grammar.{LineWords, word_at, criterion_words}
@@ -73,11 +73,7 @@ FailsLine t line (TooMany Alternatives) =
 FailsLine t line (TooMany Classes) =
     IsNamed (codes "classes") line
     × ((n : ℕ) × (count_of (word_at line 1) ≡ Some n) × (MOST_CLASSES < n))
-FailsLine t line (TooMany Steps) = ⊥
-FailsLine t line Form = ⊥
-FailsLine t line NotUtf8 = ⊥
-FailsLine t line Empty = ⊥
-FailsLine t line TooLong = ⊥
+FailsLine t line _ = ⊥
 
 -- the tests in their order
 abbrev pub line_stage : TableKind → ℕ

@@ -16,22 +16,55 @@ pub enum What {
     Steps,
     /// More than 100 classes.
     Classes,
+    /// Elements more than 64 deep.
+    Levels,
+    /// More than 200 statements that come with a table.
+    Statements,
+    /// More than 2,000 rows of the statements that come with a table.
+    Rows,
 }
 
-/// The kinds of fault of a table's text, in the order in which they are looked for.
+/// What of XMCDA is not supported.
+#[derive(Clone, Copy, Debug, PartialEq, Eq)]
+pub enum Kind {
+    /// A document type declaration.
+    Doctype,
+    /// Another encoding than UTF-8.
+    Encoding,
+    /// An entity other than the five of XML.
+    Entity,
+    /// A qualitative scale.
+    Qualitative,
+    /// A direction other than `max` and `min`.
+    Direction,
+    /// A value that is no number.
+    Value,
+    /// A set in the place of an alternative or of a category.
+    Member,
+    /// An id that is missing, or that no line of a session could name.
+    Id,
+    /// A category without a rank.
+    Rank,
+}
+
+/// The kinds of fault of a table's text.
 #[derive(Clone, Copy, Debug, PartialEq, Eq)]
 pub enum TableKind {
-    /// The first line that is not passed over is not `ror-table 1`.
+    /// The first line that is not passed over is not `ror-table 1`, or the root is not `XMCDA`.
     Form,
     /// The bytes are no UTF-8.
     NotUtf8,
-    /// A line of no known form, with a bad id, or out of order.
+    /// A line of no known form, with a bad id, or out of order; bad markup.
     BadLine,
-    /// An id that an earlier criterion or alternative has.
+    /// An id that an earlier criterion, alternative or category has.
     RepeatedId,
-    /// An alternative with fewer performances than there are criteria.
+    /// An id that is missing, or that nothing has.
+    UnknownId,
+    /// An alternative without a performance on some criterion.
     MissingPerformance,
-    /// A performance or a count that is none.
+    /// A second performance of an alternative on a criterion.
+    RepeatedPerformance,
+    /// A performance, a count or a rank that is none.
     BadNumber,
     /// Past a limit.
     TooMany(What),
@@ -39,6 +72,12 @@ pub enum TableKind {
     Empty,
     /// More than 16,777,216 bytes.
     TooLong,
+    /// The bytes end inside an element, or before the root.
+    Unclosed,
+    /// An end tag with another name than the innermost open element.
+    Mismatched,
+    /// What of XMCDA is not supported.
+    Unsupported(Kind),
 }
 
 /// A fault and its line, from 1; a fault of the whole file has line 0.

@@ -37,7 +37,7 @@ mod table;
 
 pub use direction::Direction;
 pub use draft::Draft;
-pub use fault::{DraftFault, TableError, TableFault, TableKind, What};
+pub use fault::{DraftFault, Kind, TableError, TableFault, TableKind, What};
 pub use limits::{MOST_ALTERNATIVES, MOST_CLASSES, MOST_CRITERIA, MOST_STEPS};
 pub use plain::read_plain;
 pub use table::Table;
