@@ -1,0 +1,84 @@
+-- The table of what is kept, place by place.
+use Rattle.std.proofs.Common.{◌≡◌, ◌≢◌, ℕ, suc, ◌+◌, ◌-◌, ◌<◌, false, List, [], ◌∷◌, ◌++◌, length, Result, Ok, Err, ℤ, refl, sym, ap, ◌∙◌, arith, subst, append-nil, append_assoc}
+use Rattle.std.specs.Prelude.{IfSome, slice_index_or}
+use Rattle.std.specs.List.{range_with_len, enumerate_from}
+use Rattle.std.proofs.lemmas.Bool.{lt-leb}
+use Rattle.std.proofs.lemmas.List.{length-map, map_push}
+use Rattle.ror_text.specs.Ids.{IsId}
+use Rattle.ror_text.specs.Reading.{◌>>=◌, read_all}
+use Rattle.ror_text.proofs.ReadingLemmas.{gives_exit}
+use Rattle.ror_table.specs.declared.direction.Direction.{Direction}
+use Rattle.ror_table.specs.declared.direction.Direction.TheVariants.{Max}
+use Rattle.ror_table.specs.declared.limits.TheConstants.{MOST_ALTERNATIVES, MOST_CRITERIA}
+use Rattle.ror_table.specs.declared.fault.DraftFault.{DraftFault}
+use Rattle.ror_table.specs.declared.fault.DraftFault.TheVariants.{BadId, RepeatedId, TooMany, Empty, Memory}
+use Rattle.ror_table.specs.declared.fault.TableError.{TableError}
+use Rattle.ror_table.specs.declared.fault.TableFault.{TableFault}
+use Rattle.ror_table.specs.Draft.{draft_fault, empty_table, has_id, add_criterion, add_alternative, with_criterion}
+use Rattle.ror_table.specs.Draft as table
+use Rattle.ror_table.specs.Plain.{table_fault}
+use Rattle.ror_table.specs.Table.{DecisionTable, criterion_ids, alternative_ids}
+use Rattle.ror_xmcda.specs.declared.criteria.Criteria.{Criteria}
+use Rattle.ror_xmcda.specs.Whole.{with_criteria, criteria_table}
+
+-- where the step at a place fails, so does the whole
+pub row_exit : (step : List ℤ → ℕ → Result (List ℤ) TableFault) (row : List ℤ) (i n : ℕ) (all : Result (List ℤ) TableFault) (e : TableError) → i < n → read_all step row (range_with_len i (n - i)) ≡ all
+    → IfSome (table_fault e) (λ g. step row i ≡ Err g) → IfSome (table_fault e) (λ g. all ≡ Err g)
+row_exit step row i n all e within is h =
+    let next : n - i ≡ suc (n - suc i) = omega arith in
+    let split : read_all step row (range_with_len i (n - i)) ≡ (step row i >>= λ more. read_all step more (range_with_len (i + 1) (n - suc i))) = ap (λ (m : ℕ). read_all step row (range_with_len i m)) next in
+    subst (λ (r : Result (List ℤ) TableFault). IfSome (table_fault e) (λ g. r ≡ Err g)) (sym split ∙ is) (gives_exit table_fault e (step row i) (λ more. read_all step more (range_with_len (i + 1) (n - suc i))) h)
+
+-- ---- ids
+
+pub ids-add_criterion : (t : DecisionTable) (id : List ℕ) (direction : Direction) → criterion_ids (add_criterion t id direction) ≡ criterion_ids t ++ id ∷ []
+ids-add_criterion t id direction = map_push (λ c. c.id) t.criteria (record { id = id; direction = direction })
+
+pub ids-add_alternative : (t : DecisionTable) (id : List ℕ) (performances : List ℤ) → alternative_ids (add_alternative t id performances) ≡ alternative_ids t ++ id ∷ []
+ids-add_alternative t id performances = map_push (λ a. a.id) t.alternatives (record { id = id; performances = performances })
+
+-- ---- the table of the criteria
+
+ids-with_criteria : (ds : List Direction) (t : DecisionTable) (k : ℕ) (ids : List (List ℕ)) → criterion_ids (with_criteria ds t (enumerate_from k ids)) ≡ criterion_ids t ++ ids
+ids-with_criteria ds t k [] = sym (append-nil (criterion_ids t))
+ids-with_criteria ds t k (id ∷ ids) =
+    let d : Direction = slice_index_or ds k Max in
+    ids-with_criteria ds (add_criterion t id d) (k + 1) ids ∙ ap (λ (l : List (List ℕ)). l ++ ids) (ids-add_criterion t id d) ∙ append_assoc (criterion_ids t) (id ∷ []) ids
+
+alternatives-with_criteria : (ds : List Direction) (t : DecisionTable) (k : ℕ) (ids : List (List ℕ)) → (with_criteria ds t (enumerate_from k ids)).alternatives ≡ t.alternatives
+alternatives-with_criteria ds t k [] = refl
+alternatives-with_criteria ds t k (id ∷ ids) = alternatives-with_criteria ds (add_criterion t id (slice_index_or ds k Max)) (k + 1) ids
+
+-- its ids are those that are kept
+pub ids-criteria_table : (c : Criteria) → criterion_ids (criteria_table c) ≡ c.ids.kept
+unfolding criteria_table
+ids-criteria_table c = ids-with_criteria c.directions empty_table 0 c.ids.kept
+
+-- there is one criterion for each id that is kept
+pub length-criteria_table : (c : Criteria) → length (criteria_table c).criteria ≡ length c.ids.kept
+length-criteria_table c = sym (length-map (criteria_table c).criteria (λ c. c.id)) ∙ ap length (ids-criteria_table c)
+
+-- and no alternative yet
+pub alternatives-criteria_table : (c : Criteria) → (criteria_table c).alternatives ≡ []
+unfolding criteria_table
+alternatives-criteria_table c = alternatives-with_criteria c.directions empty_table 0 c.ids.kept
+
+-- ---- what a draft doesn't refuse
+
+pub criterion_fits : {F : Type 0} (no_id repeated full : F) (t : DecisionTable) (id : List ℕ) (direction : Direction) → IsId id → has_id (criterion_ids t) id ≡ false → length t.criteria < MOST_CRITERIA
+    → with_criterion no_id repeated full t id direction ≡ Ok (add_criterion t id direction)
+unfolding with_criterion
+criterion_fits no_id repeated full t id direction valid absent room = rw (valid, absent, lt-leb MOST_CRITERIA (length t.criteria) room) refl
+
+pub alternative_fits : {F : Type 0} (no_id repeated full : F) (t : DecisionTable) (id : List ℕ) (performances : List ℤ) → IsId id → has_id (alternative_ids t) id ≡ false → length t.alternatives < MOST_ALTERNATIVES
+    → table.with_alternative no_id repeated full t id performances ≡ Ok (add_alternative t id performances)
+unfolding table.with_alternative
+alternative_fits no_id repeated full t id performances valid absent room = rw (valid, absent, lt-leb MOST_ALTERNATIVES (length t.alternatives) room) refl
+
+-- then nothing but memory can lack
+pub never_refused : (r : Result DecisionTable DraftFault) (t : DecisionTable) (fault : DraftFault) → r ≡ Ok t → (fault ≢ Memory) → IfSome (draft_fault fault) (λ f. r ≡ Err f) → ⊥
+never_refused r t Memory e other h = other refl
+never_refused r t BadId e other h = absurd (let c : ◌≡◌ {A = Result DecisionTable DraftFault} (Ok t) (Err BadId) = sym e ∙ h in cc)
+never_refused r t RepeatedId e other h = absurd (let c : ◌≡◌ {A = Result DecisionTable DraftFault} (Ok t) (Err RepeatedId) = sym e ∙ h in cc)
+never_refused r t (TooMany what) e other h = absurd (let c : ◌≡◌ {A = Result DecisionTable DraftFault} (Ok t) (Err (TooMany what)) = sym e ∙ h in cc)
+never_refused r t Empty e other h = absurd (let c : ◌≡◌ {A = Result DecisionTable DraftFault} (Ok t) (Err Empty) = sym e ∙ h in cc)

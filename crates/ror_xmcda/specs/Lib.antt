@@ -1,0 +1,17 @@
+pub mod Nodes
+pub mod Roster
+pub mod Listing
+pub mod Categories
+pub mod Alternatives
+pub mod Criteria
+pub mod Numbers
+pub mod Performances
+pub mod Whole
+pub mod Ends
+pub mod Comparisons
+pub mod Affectations
+pub mod Opening
+pub mod Content
+pub mod Input
+pub mod Laws
+pub mod Meaning

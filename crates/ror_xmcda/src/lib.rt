@@ -1,0 +1,41 @@
+#![tactic(auto)]
+//! Tables, with the statements that come with them, from XMCDA files and from plain texts.
+//!
+//! [`read_input`] reads either form. An XMCDA file's elements come from `ror_elements`; what they mean is read here in
+//! passes, each over the whole file: categories, alternatives, criteria, performances, the table of what is kept,
+//! comparisons, assignments, and the limits of all statements. The first fault of the first faulty pass is given, in order
+//! of the document.
+//!
+//! The definitions stand in `specs/`, a file for each pass; `Content` puts the passes together, and `Input` says which form
+//! a file has.
+//!
+//! ```
+//! let input = read_input(alloc, bytes, false)?;
+//! assert_eq!(input.table.alternatives(), 3);
+//! ```
+
+mod affectations;
+mod alternatives;
+mod categories;
+mod comparisons;
+mod content;
+mod criteria;
+mod ends;
+mod fault;
+mod growing;
+mod input;
+pub mod laws;
+mod listing;
+mod nodes;
+mod numbers;
+mod opening;
+mod performances;
+mod roster;
+mod stated;
+mod whole;
+
+pub use input::read_input;
+pub use ror_value::Input;
+
+#[cfg(test)]
+mod tests;

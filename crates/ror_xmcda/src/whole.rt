@@ -1,0 +1,191 @@
+//! The table of what is kept.
+
+ghost use Rattle.std.specs.Prelude.{◌≡◌, ◌+◌, ◌≤◌, ◌<◌, ◌^◌, [], ◌∷◌, ◌++◌, false, length, map, All, unsigned_abs, OnOk, IfOk};
+ghost use Rattle.std.specs.List.{enumerate_from};
+ghost use Rattle.std.specs.String.{string_bytes};
+ghost use Rattle.ror_text.specs.Ids.{IsId};
+ghost use Rattle.ror_text.specs.Reading.{Gives, read_all};
+ghost use Rattle.ror_table.specs.declared.fault.TableKind.TheVariants.{Empty, TooMany};
+ghost use Rattle.ror_table.specs.declared.fault.What.TheVariants.{Steps};
+ghost use Rattle.ror_table.specs.declared.limits.TheConstants.{MOST_ALTERNATIVES, MOST_CLASSES, MOST_CRITERIA};
+ghost use Rattle.ror_table.specs.Draft.{has_id, add_criterion, add_alternative, finished};
+ghost use Rattle.ror_table.specs.Plain.{table_fault, at_line};
+ghost use Rattle.ror_table.specs.Table.{IsTable, criterion_ids, alternative_ids};
+ghost use Rattle.ror_xmcda.specs.Criteria.{AreCriteria};
+ghost use Rattle.ror_xmcda.specs.Roster.{AreIds};
+ghost use Rattle.ror_xmcda.specs.Whole as spec;
+
+use crate::criteria::Criteria;
+use crate::fault::fault;
+use crate::performances::Given;
+use crate::roster::Ids;
+use ror_table::{Direction, Draft, DraftFault, Table, TableError, TableKind};
+use ror_text::reading::{need, refuse_if};
+use std::alloc::{AllocError, Global};
+
+/// Adds a criterion with a valid id that is free, for which there is room.
+fn put_criterion(draft: &mut Draft, id: &str, direction: Direction) -> Result<(), AllocError>
+    requires first { draft.old.alternatives ≡ [] }
+    requires valid { IsId id.now }
+    requires absent { has_id (criterion_ids draft.old) id.now ≡ false }
+    requires room { length draft.old.criteria < MOST_CRITERIA }
+    ensures { OnOk result (draft.new ≡ add_criterion draft.old id.now direction) }
+{
+    match draft.criterion(id, direction) {
+        Ok(()) => Ok(()),
+        Err(fault) => match fault {
+            DraftFault::Memory => Err(AllocError),
+            _ => unreachable!(),
+        },
+    }
+}
+
+/// Adds an alternative with a valid id that is free, for which there is room.
+fn put_alternative(draft: &mut Draft, id: &str, row: &[i64]) -> Result<(), AllocError>
+    requires width { length row.now ≡ length draft.old.criteria }
+    requires bounded { All (λ p. unsigned_abs p < 10 ^ 18) row.now }
+    requires valid { IsId id.now }
+    requires absent { has_id (alternative_ids draft.old) id.now ≡ false }
+    requires room { length draft.old.alternatives < MOST_ALTERNATIVES }
+    ensures { OnOk result (draft.new ≡ add_alternative draft.old id.now row.now) }
+{
+    match draft.alternative(id, row) {
+        Ok(()) => Ok(()),
+        Err(fault) => match fault {
+            DraftFault::Memory => Err(AllocError),
+            _ => unreachable!(),
+        },
+    }
+}
+
+/// A draft of the criteria.
+#[tactic(auto, unfolding(crate::specs::Whole::criteria_table))]
+fn criteria_table(alloc: Global, criteria: &Criteria) -> Result<Draft, AllocError>
+    requires { AreCriteria criteria.now }
+    ensures { IfOk result (λ draft. draft ≡ spec.criteria_table criteria.now) }
+{
+    let directions = criteria.directions.as_slice();
+    let ids = criteria.ids.kept.as_slice();
+    let mut draft = Draft::new(alloc);
+    for (k, id) in ids.iter().enumerate() {
+        put_criterion(&mut draft, id.as_str(), directions[k])?;
+    }
+    Ok(draft)
+}
+
+/// Adds the performance on a criterion.
+#[tactic(auto, unfolding(crate::specs::Whole::next_performance))]
+fn next_performance(given: &Given, a: usize, row: &mut Vec<i64>, i: usize) -> Result<(), TableError>
+    ensures exact { Gives (λ _. row.new.items) table_fault result
+        (spec.next_performance given.now a row.old.items i) }
+    ensures number { OnOk result (length row.new.items ≡ length row.old.items + 1) }
+    ensures bounded { OnOk result
+        (All (λ p. unsigned_abs p < 10 ^ 18) row.old.items
+        → All (λ p. unsigned_abs p < 10 ^ 18) row.new.items) }
+{
+    let performance = need(given.at((a, i)), fault(TableKind::MissingPerformance, 0))?;
+    row.push(performance)?;
+    Ok(())
+}
+
+/// The performances of an alternative on so many criteria.
+#[tactic(auto, unfolding(crate::specs::Whole::row_of))]
+fn row_of(alloc: Global, given: &Given, criteria: usize, a: usize) -> Result<Vec<i64>, TableError>
+    ensures exact { Gives (λ row. row.items) table_fault result (spec.row_of given.now criteria a) }
+    ensures number { IfOk result (λ row. length row.items ≡ criteria) }
+    ensures bounded { IfOk result (λ row. All (λ p. unsigned_abs p < 10 ^ 18) row.items) }
+{
+    let mut row = Vec::new(alloc);
+    for i in 0..criteria {
+        next_performance(given, a, &mut row, i)?;
+    }
+    Ok(row)
+}
+
+/// Adds an alternative with its performances on all criteria, of which there are so many.
+#[tactic(auto, unfolding(crate::specs::Whole::with_alternative))]
+fn with_alternative(
+    alloc: Global,
+    given: &Given,
+    criteria: usize,
+    draft: &mut Draft,
+    a: usize,
+    id: &str,
+) -> Result<(), TableError>
+    requires width { criteria ≡ length draft.old.criteria }
+    requires valid { IsId id.now }
+    requires absent { has_id (alternative_ids draft.old) id.now ≡ false }
+    requires room { length draft.old.alternatives < MOST_ALTERNATIVES }
+    ensures exact { Gives (λ _. draft.new) table_fault result
+        (spec.with_alternative given.now draft.old (a, id.now)) }
+    ensures width { OnOk result (length draft.new.criteria ≡ criteria) }
+    ensures ids { OnOk result (alternative_ids draft.new ≡ alternative_ids draft.old ++ id.now ∷ []) }
+{
+    let row = row_of(alloc, given, criteria, a)?;
+    put_alternative(draft, id, &row)?;
+    Ok(())
+}
+
+/// Adds all alternatives.
+fn with_alternatives(
+    alloc: Global,
+    given: &Given,
+    criteria: usize,
+    draft: &mut Draft,
+    ids: &[String],
+) -> Result<(), TableError>
+    requires width { criteria ≡ length draft.old.criteria }
+    requires ids { AreIds MOST_ALTERNATIVES (alternative_ids draft.old ++ map string_bytes ids.now) }
+    ensures { Gives (λ _. draft.new) table_fault result
+        (read_all (spec.with_alternative given.now) draft.old (enumerate_from 0 (map string_bytes ids.now))) }
+{
+    for (a, id) in ids.iter().enumerate() {
+        with_alternative(alloc, given, criteria, draft, a, id.as_str())?;
+    }
+    Ok(())
+}
+
+/// The table of a draft.
+#[tactic(auto, unfolding(ror_table::specs::Draft::finished))]
+fn finished(draft: Draft) -> Result<Table, TableError>
+    ensures exact { Gives (λ t. t) table_fault result
+        (finished (at_line 0 Empty) (at_line 0 (TooMany Steps)) draft) }
+    ensures table { IfOk result IsTable }
+{
+    match draft.finish() {
+        Ok(table) => Ok(table),
+        Err(refusal) => match refusal {
+            DraftFault::Empty => Err(fault(TableKind::Empty, 0)),
+            DraftFault::TooMany(what) => Err(fault(TableKind::TooMany(what), 0)),
+            DraftFault::Memory => Err(TableError::Memory),
+            _ => unreachable!(),
+        },
+    }
+}
+
+/// The table of what is kept.
+#[tactic(auto, unfolding(crate::specs::Whole::table_of))]
+pub(crate) fn table_of(
+    alloc: Global,
+    given: &Given,
+    criteria: &Criteria,
+    alternatives: &Ids,
+    classes: u32,
+) -> Result<Table, TableError>
+    requires criteria { AreCriteria criteria.now }
+    requires alternatives { AreIds MOST_ALTERNATIVES alternatives.now }
+    requires classes { classes ≤ MOST_CLASSES }
+    ensures exact { Gives (λ t. t) table_fault result
+        (spec.table_of given.now criteria.now alternatives.now classes) }
+    ensures table { IfOk result IsTable }
+{
+    let count = criteria.ids.kept.len();
+    refuse_if(
+        count == 0 || alternatives.len() == 0,
+        fault(TableKind::Empty, 0),
+    )?;
+    let mut draft = criteria_table(alloc, criteria)?;
+    draft.classes(classes);
+    with_alternatives(alloc, given, count, &mut draft, alternatives.as_slice())?;
+    finished(draft)
+}
