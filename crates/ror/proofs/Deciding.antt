@@ -2,10 +2,11 @@
 use Rattle.ror_bench.specs.declared.report.TheConstants.{MOST_REPORT_BYTES}
 use Rattle.std.proofs.Common.{◌≡◌, ◌≢◌, ℕ, ◌≤◌, ◌⊎◌, List, length, Some, Ok, Err, refl, sym, ap, subst, ◌∙◌, inl, inr, arith}
 use Rattle.ror_io.specs.Files.{Files, file}
-use Rattle.ror_table.specs.Table.{DecisionTable, IsTable}
-use Rattle.ror_table.specs.Plain.{plain_table}
+use Rattle.ror_table.specs.Table.{IsTable}
 use Rattle.ror_table.specs.declared.fault.TableFault.{TableFault}
-use Rattle.ror_table.proofs.GrammarLemmas.{read_plain_text}
+use Rattle.ror_value.specs.declared.input.Input.{Input}
+use Rattle.ror_xmcda.specs.Input.{input_of}
+use Rattle.ror_xmcda.proofs.TableLemmas.{input_table}
 use Rattle.ror_session.specs.declared.session.Session.{Session}
 use Rattle.ror_session.specs.declared.session.SessionFault.{SessionFault}
 use Rattle.ror_session.specs.Session.{session_of}
@@ -23,38 +24,38 @@ use Rattle.ror.specs.Words.{InputNames, CheckNames, Task, Replay, Check}
 use Rattle.ror.specs.Work.{bench_for, ReadsTable, RefusesTable, ReadsSession, RefusesSession, ProvesReport, ProvesAll, ProvesTheRest, IsNotProved, IsLongReport, IsRejectionOf, too_long, at_fault, RejectsReport, MissesInput, no_table, no_session, Misses, no_input, no_report, ReadsInputs}
 use Rattle.ror.specs.Running.{IsDone, ShowsChecked, ShowsReplayed, ShowsStatus, DecidesInputs, DecidesCheck, DecidesReplay, Decides}
 
--- one table is read, or none
-one_table : (files : Files) (names : InputNames) (t u : DecisionTable) → ReadsTable files names t → ReadsTable files names u → t ≡ u
-one_table files names t u a b =
+-- one input is read, or none
+one_input : (files : Files) (names : InputNames) (i j : Input) → ReadsTable files names i → ReadsTable files names j → i ≡ j
+one_input files names i j a b =
     let p = a.there in let q = b.there in
     let same : a.bytes ≡ b.bytes = cc in
-    let r : plain_table b.bytes ≡ Ok t = subst (λ (xs : List ℕ). plain_table xs ≡ Ok t) same a.read in
+    let r : input_of b.bytes names.best_first ≡ Ok i = subst (λ (xs : List ℕ). input_of xs names.best_first ≡ Ok i) same a.read in
     let s = b.read in cc
 
-table_or_fault : (files : Files) (names : InputNames) (t : DecisionTable) (f : TableFault) → ReadsTable files names t → RefusesTable files names f → ⊥
-table_or_fault files names t f a b =
+table_or_fault : (files : Files) (names : InputNames) (i : Input) (f : TableFault) → ReadsTable files names i → RefusesTable files names f → ⊥
+table_or_fault files names i f a b =
     let p = a.there in let q = b.there in
     let same : a.bytes ≡ b.bytes = cc in
-    let r : plain_table b.bytes ≡ Ok t = subst (λ (xs : List ℕ). plain_table xs ≡ Ok t) same a.read in
+    let r : input_of b.bytes names.best_first ≡ Ok i = subst (λ (xs : List ℕ). input_of xs names.best_first ≡ Ok i) same a.read in
     let s = b.refused in cc
 
 one_table_fault : (files : Files) (names : InputNames) (f g : TableFault) → RefusesTable files names f → RefusesTable files names g → f ≡ g
 one_table_fault files names f g a b =
     let p = a.there in let q = b.there in
     let same : a.bytes ≡ b.bytes = cc in
-    let r : plain_table b.bytes ≡ Err f = subst (λ (xs : List ℕ). plain_table xs ≡ Err f) same a.refused in
+    let r : input_of b.bytes names.best_first ≡ Err f = subst (λ (xs : List ℕ). input_of xs names.best_first ≡ Err f) same a.refused in
     let s = b.refused in cc
 
 -- one session is read, or none
-one_session : (files : Files) (names : InputNames) (t v : DecisionTable) (s u : Session) → ReadsSession files names t s → ReadsSession files names v u → s ≡ u
-one_session files names t v s u a b =
+one_session : (files : Files) (names : InputNames) (i v : Input) (s u : Session) → ReadsSession files names i s → ReadsSession files names v u → s ≡ u
+one_session files names i v s u a b =
     let p = a.there in let q = b.there in
     let same : a.bytes ≡ b.bytes = cc in
     let r : session_of b.bytes ≡ Ok s = subst (λ (xs : List ℕ). session_of xs ≡ Ok s) same a.read in
     let w = b.read in cc
 
-session_or_fault : (files : Files) (names : InputNames) (t : DecisionTable) (s : Session) (f : SessionFault) → ReadsSession files names t s → RefusesSession files names f → ⊥
-session_or_fault files names t s f a b =
+session_or_fault : (files : Files) (names : InputNames) (i : Input) (s : Session) (f : SessionFault) → ReadsSession files names i s → RefusesSession files names f → ⊥
+session_or_fault files names i s f a b =
     let p = a.there in let q = b.there in
     let same : a.bytes ≡ b.bytes = cc in
     let r : session_of b.bytes ≡ Ok s = subst (λ (xs : List ℕ). session_of xs ≡ Ok s) same a.read in
@@ -68,30 +69,30 @@ one_session_fault files names f g a b =
     let v = b.refused in cc
 
 -- a proof of the report, over a table and a session that were read
-proof_over : (files : Files) (names : CheckNames) (x : Accepted) (t : DecisionTable) (s : Session) (bytes : List ℕ) → ReadsSession files names.inputs t s → file files names.report ≡ Some bytes → ProvesReport files names x → (length bytes ≤ MOST_REPORT_BYTES) × IsProvedReport (bench_for t s) s.lines bytes x
-proof_over files names x t s bytes read there proves =
+proof_over : (files : Files) (names : CheckNames) (x : Accepted) (i : Input) (s : Session) (bytes : List ℕ) → ReadsSession files names.inputs i s → file files names.report ≡ Some bytes → ProvesReport files names x → (length bytes ≤ MOST_REPORT_BYTES) × IsProvedReport (bench_for i s) s.lines bytes x
+proof_over files names x i s bytes read there proves =
     let p = proves.there in
     let same : proves.bytes ≡ bytes = cc in
-    let tables : proves.table ≡ t = one_table files names.inputs proves.table t proves.session_read.table read.table in
-    let sessions : proves.session ≡ s = one_session files names.inputs proves.table t proves.session s proves.session_read read in
-    let moved : IsProvedReport (bench_for t proves.session) proves.session.lines proves.bytes x = subst (λ (u : DecisionTable). IsProvedReport (bench_for u proves.session) proves.session.lines proves.bytes x) tables proves.proved in
-    let again : IsProvedReport (bench_for t s) s.lines proves.bytes x = subst (λ (u : Session). IsProvedReport (bench_for t u) u.lines proves.bytes x) sessions moved in
-    (subst (λ (xs : List ℕ). length xs ≤ MOST_REPORT_BYTES) same proves.short, subst (λ (xs : List ℕ). IsProvedReport (bench_for t s) s.lines xs x) same again)
+    let inputs : proves.input ≡ i = one_input files names.inputs proves.input i proves.session_read.table read.table in
+    let sessions : proves.session ≡ s = one_session files names.inputs proves.input i proves.session s proves.session_read read in
+    let moved : IsProvedReport (bench_for i proves.session) proves.session.lines proves.bytes x = subst (λ (u : Input). IsProvedReport (bench_for u proves.session) proves.session.lines proves.bytes x) inputs proves.proved in
+    let again : IsProvedReport (bench_for i s) s.lines proves.bytes x = subst (λ (u : Session). IsProvedReport (bench_for i u) u.lines proves.bytes x) sessions moved in
+    (subst (λ (xs : List ℕ). length xs ≤ MOST_REPORT_BYTES) same proves.short, subst (λ (xs : List ℕ). IsProvedReport (bench_for i s) s.lines xs x) same again)
 
-is_table : (files : Files) (names : InputNames) (t : DecisionTable) → ReadsTable files names t → IsTable t
-is_table files names t read = (read_plain_text read.bytes t read.read).table
+is_table : (files : Files) (names : InputNames) (i : Input) → ReadsTable files names i → IsTable i.table
+is_table files names i read = input_table read.bytes names.best_first i read.read
 
 -- a report is proved, or not
 proved_or_not : (files : Files) (names : CheckNames) (x : Accepted) → ProvesReport files names x → IsNotProved files names → ⊥
 proved_or_not files names x proves not =
-    let proof = proof_over files names x not.table not.session not.bytes not.session_read not.there proves in
+    let proof = proof_over files names x not.input not.session not.bytes not.session_read not.there proves in
     not.not_proved x proof.0 proof.1
 
 -- and its answers are counted in one way
 one_count_of : (files : Files) (names : CheckNames) (x y : Accepted) → ProvesReport files names x → ProvesReport files names y → x ≡ y
 one_count_of files names x y a b =
-    let proof = proof_over files names x b.table b.session b.bytes b.session_read b.there a in
-    one_count (bench_for b.table b.session) b.session.lines b.bytes x y (is_table files names.inputs b.table b.session_read.table) proof.1 b.proved
+    let proof = proof_over files names x b.input b.session b.bytes b.session_read b.there a in
+    one_count (bench_for b.input b.session) b.session.lines b.bytes x y (is_table files names.inputs b.input b.session_read.table) proof.1 b.proved
 
 -- all answers have a proof, or one is too wide
 all_or_rest : (files : Files) (names : CheckNames) (x y : Accepted) → ProvesAll files names x → ProvesTheRest files names y → ⊥
@@ -102,24 +103,24 @@ all_or_rest files names x y a b =
 
 long_is_not_proved : (files : Files) (names : CheckNames) → IsLongReport files names → IsNotProved files names
 long_is_not_proved files names long =
-    record { table = long.table; session = long.session; session_read = long.session_read; bytes = long.bytes; there = long.there; not_proved = λ n short proved. absurd (omega (arith, long.long, short)) }
+    record { input = long.input; session = long.session; session_read = long.session_read; bytes = long.bytes; there = long.there; not_proved = λ n short proved. absurd (omega (arith, long.long, short)) }
 
 -- what is missing was not refused
 missed_or_bad_table : (files : Files) (names : InputNames) (f : TableFault) → MissesInput files names → RefusesTable files names f → ⊥
 missed_or_bad_table files names f (no_table gone) b = let p = b.there in cc
-missed_or_bad_table files names f (no_session t read gone) b = table_or_fault files names t f read b
+missed_or_bad_table files names f (no_session i read gone) b = table_or_fault files names i f read b
 
 missed_or_bad_session : (files : Files) (names : InputNames) (f : SessionFault) → MissesInput files names → RefusesSession files names f → ⊥
 missed_or_bad_session files names f (no_table gone) b = let p = b.table_read.there in cc
-missed_or_bad_session files names f (no_session t read gone) b = let p = b.there in cc
+missed_or_bad_session files names f (no_session i read gone) b = let p = b.there in cc
 
-missed_or_read : (files : Files) (names : InputNames) (t : DecisionTable) (s : Session) → MissesInput files names → ReadsSession files names t s → ⊥
-missed_or_read files names t s (no_table gone) read = let p = read.table.there in cc
-missed_or_read files names t s (no_session u other gone) read = let p = read.there in cc
+missed_or_read : (files : Files) (names : InputNames) (i : Input) (s : Session) → MissesInput files names → ReadsSession files names i s → ⊥
+missed_or_read files names i s (no_table gone) read = let p = read.table.there in cc
+missed_or_read files names i s (no_session u other gone) read = let p = read.there in cc
 
-missed_or_there : (files : Files) (names : CheckNames) (t : DecisionTable) (s : Session) (bytes : List ℕ) → Misses files names → ReadsSession files names.inputs t s → file files names.report ≡ Some bytes → ⊥
-missed_or_there files names t s bytes (no_input missed) read found = missed_or_read files names.inputs t s missed read
-missed_or_there files names t s bytes (no_report u v other gone) read found = cc
+missed_or_there : (files : Files) (names : CheckNames) (i : Input) (s : Session) (bytes : List ℕ) → Misses files names → ReadsSession files names.inputs i s → file files names.report ≡ Some bytes → ⊥
+missed_or_there files names i s bytes (no_input missed) read found = missed_or_read files names.inputs i s missed read
+missed_or_there files names i s bytes (no_report u v other gone) read found = cc
 
 -- ---- table and session
 
@@ -149,12 +150,12 @@ missing_decides files names shows =
     }
 
 -- where both were read they decide nothing more
-read_decides : (files : Files) (names : InputNames) (status : Status) (t : DecisionTable) (s : Session) → ReadsSession files names t s → DecidesInputs files names status
-read_decides files names status t s read =
+read_decides : (files : Files) (names : InputNames) (status : Status) (i : Input) (s : Session) → ReadsSession files names i s → DecidesInputs files names status
+read_decides files names status i s read =
     record {
-      bad_table = λ f refused. absurd (table_or_fault files names t f read.table refused);
-      bad_session = λ f refused. absurd (session_or_fault files names t s f read refused);
-      missing = λ missed. absurd (missed_or_read files names t s missed read);
+      bad_table = λ f refused. absurd (table_or_fault files names i f read.table refused);
+      bad_session = λ f refused. absurd (session_or_fault files names i s f read refused);
+      missing = λ missed. absurd (missed_or_read files names i s missed read);
     }
 
 -- ---- a check
@@ -172,28 +173,28 @@ one_rejection_of bench lines bytes q r (at_fault few fault) (too_long many is) =
 one_rejection_of bench lines bytes q r (at_fault few fault) (at_fault less other) = one_rejection bench lines bytes q r fault other
 
 -- a rejection of the report, over a table and a session that were read
-rejection_over : (files : Files) (names : CheckNames) (r : Rejection) (t : DecisionTable) (s : Session) (bytes : List ℕ) → ReadsSession files names.inputs t s → file files names.report ≡ Some bytes → RejectsReport files names r → IsRejectionOf (bench_for t s) s.lines bytes r
-rejection_over files names r t s bytes read there rejects =
+rejection_over : (files : Files) (names : CheckNames) (r : Rejection) (i : Input) (s : Session) (bytes : List ℕ) → ReadsSession files names.inputs i s → file files names.report ≡ Some bytes → RejectsReport files names r → IsRejectionOf (bench_for i s) s.lines bytes r
+rejection_over files names r i s bytes read there rejects =
     let p = rejects.there in
     let same : rejects.bytes ≡ bytes = cc in
-    let tables : rejects.table ≡ t = one_table files names.inputs rejects.table t rejects.session_read.table read.table in
-    let sessions : rejects.session ≡ s = one_session files names.inputs rejects.table t rejects.session s rejects.session_read read in
-    let moved : IsRejectionOf (bench_for t rejects.session) rejects.session.lines rejects.bytes r = subst (λ (u : DecisionTable). IsRejectionOf (bench_for u rejects.session) rejects.session.lines rejects.bytes r) tables rejects.rejected in
-    let again : IsRejectionOf (bench_for t s) s.lines rejects.bytes r = subst (λ (u : Session). IsRejectionOf (bench_for t u) u.lines rejects.bytes r) sessions moved in
-    subst (λ (xs : List ℕ). IsRejectionOf (bench_for t s) s.lines xs r) same again
+    let inputs : rejects.input ≡ i = one_input files names.inputs rejects.input i rejects.session_read.table read.table in
+    let sessions : rejects.session ≡ s = one_session files names.inputs rejects.input i rejects.session s rejects.session_read read in
+    let moved : IsRejectionOf (bench_for i rejects.session) rejects.session.lines rejects.bytes r = subst (λ (u : Input). IsRejectionOf (bench_for u rejects.session) rejects.session.lines rejects.bytes r) inputs rejects.rejected in
+    let again : IsRejectionOf (bench_for i s) s.lines rejects.bytes r = subst (λ (u : Session). IsRejectionOf (bench_for i u) u.lines rejects.bytes r) sessions moved in
+    subst (λ (xs : List ℕ). IsRejectionOf (bench_for i s) s.lines xs r) same again
 
 proved_or_rejected : (files : Files) (names : CheckNames) (x : Accepted) (r : Rejection) → ProvesReport files names x → RejectsReport files names r → ⊥
 proved_or_rejected files names x r proved rejects =
-    rejection_or_proof (bench_for proved.table proved.session) proved.session.lines proved.bytes r x (is_table files names.inputs proved.table proved.session_read.table) (rejection_over files names r proved.table proved.session proved.bytes proved.session_read proved.there rejects) proved.short proved.proved
+    rejection_or_proof (bench_for proved.input proved.session) proved.session.lines proved.bytes r x (is_table files names.inputs proved.input proved.session_read.table) (rejection_over files names r proved.input proved.session proved.bytes proved.session_read proved.there rejects) proved.short proved.proved
 
 one_first_fault : (files : Files) (names : CheckNames) (q r : Rejection) → RejectsReport files names q → RejectsReport files names r → q ≡ r
 one_first_fault files names q r rejects other =
-    one_rejection_of (bench_for rejects.table rejects.session) rejects.session.lines rejects.bytes q r rejects.rejected (rejection_over files names r rejects.table rejects.session rejects.bytes rejects.session_read rejects.there other)
+    one_rejection_of (bench_for rejects.input rejects.session) rejects.session.lines rejects.bytes q r rejects.rejected (rejection_over files names r rejects.input rejects.session rejects.bytes rejects.session_read rejects.there other)
 
 -- bytes that are too many are rejected for that
 long_rejects : (files : Files) (names : CheckNames) → IsLongReport files names → RejectsReport files names (record { block = 0; reason = TooLong })
 long_rejects files names long =
-    record { table = long.table; session = long.session; session_read = long.session_read; bytes = long.bytes; there = long.there; rejected = too_long long.long refl }
+    record { input = long.input; session = long.session; session_read = long.session_read; bytes = long.bytes; there = long.there; rejected = too_long long.long refl }
 
 -- where a report is proved but for what is too wide, the files decide by whether anything is
 decides_proved : (files : Files) (names : CheckNames) (status : Status) (x : Accepted) → ProvesReport files names x → ((y : Accepted) → ProvesAll files names y → (status ≡ statuses.Done) ⊎ (status ≡ statuses.WriteFault)) → ((y : Accepted) → ProvesTheRest files names y → (status ≡ statuses.DoneWide) ⊎ (status ≡ statuses.WriteFault)) → DecidesCheck files names status
@@ -209,7 +210,7 @@ decides_proved files names status x proved all rest =
     }
 
 -- where table or session were not read, nothing is said of a report
-decides_unread : (files : Files) (names : CheckNames) (status : Status) → DecidesInputs files names.inputs status → (Misses files names → status ≡ statuses.ReadFault) → ((t : DecisionTable) (s : Session) → ReadsSession files names.inputs t s → ⊥) → DecidesCheck files names status
+decides_unread : (files : Files) (names : CheckNames) (status : Status) → DecidesInputs files names.inputs status → (Misses files names → status ≡ statuses.ReadFault) → ((i : Input) (s : Session) → ReadsSession files names.inputs i s → ⊥) → DecidesCheck files names status
 decides_unread files names status inputs missing unread =
     record {
       inputs = inputs;
@@ -223,18 +224,18 @@ decides_unread files names status inputs missing unread =
 
 refused_table_missing : (files : Files) (names : CheckNames) (fault : TableFault) → RefusesTable files names.inputs fault → Misses files names → ⊥
 refused_table_missing files names fault shows (no_input missed) = missed_or_bad_table files names.inputs fault missed shows
-refused_table_missing files names fault shows (no_report t s read gone) = table_or_fault files names.inputs t fault read.table shows
+refused_table_missing files names fault shows (no_report i s read gone) = table_or_fault files names.inputs i fault read.table shows
 
 refused_session_missing : (files : Files) (names : CheckNames) (fault : SessionFault) → RefusesSession files names.inputs fault → Misses files names → ⊥
 refused_session_missing files names fault shows (no_input missed) = missed_or_bad_session files names.inputs fault missed shows
-refused_session_missing files names fault shows (no_report t s read gone) = session_or_fault files names.inputs t s fault read shows
+refused_session_missing files names fault shows (no_report i s read gone) = session_or_fault files names.inputs i s fault read shows
 
 missing_checked : (files : Files) (names : CheckNames) → Misses files names → DecidesCheck files names statuses.ReadFault
 missing_checked files names (no_input missed) =
-    decides_unread files names statuses.ReadFault (missing_decides files names.inputs missed) (λ again. refl) (λ t s read. missed_or_read files names.inputs t s missed read)
-missing_checked files names (no_report t s read gone) =
+    decides_unread files names statuses.ReadFault (missing_decides files names.inputs missed) (λ again. refl) (λ i s read. missed_or_read files names.inputs i s missed read)
+missing_checked files names (no_report i s read gone) =
     record {
-      inputs = read_decides files names.inputs statuses.ReadFault t s read;
+      inputs = read_decides files names.inputs statuses.ReadFault i s read;
       missing = λ again. refl;
       rejected = λ refuted. let p = refuted.there in absurd cc;
       first_fault = λ r rejects. let p = rejects.there in absurd cc;
@@ -251,9 +252,9 @@ decides_checked files names statuses.DoneWide shows other =
     decides_proved files names statuses.DoneWide shows.0.0 shows.0.1.0 (λ y all. absurd (all_or_rest files names y shows.0.0 all shows.0.1)) (λ y rest. inl refl)
 decides_checked files names statuses.Usage shows other = absurd shows
 decides_checked files names (statuses.BadTable fault) shows other =
-    decides_unread files names (statuses.BadTable fault) (bad_table_decides files names.inputs fault shows) (λ missed. absurd (refused_table_missing files names fault shows missed)) (λ t s read. table_or_fault files names.inputs t fault read.table shows)
+    decides_unread files names (statuses.BadTable fault) (bad_table_decides files names.inputs fault shows) (λ missed. absurd (refused_table_missing files names fault shows missed)) (λ i s read. table_or_fault files names.inputs i fault read.table shows)
 decides_checked files names (statuses.BadSession fault) shows other =
-    decides_unread files names (statuses.BadSession fault) (bad_session_decides files names.inputs fault shows) (λ missed. absurd (refused_session_missing files names fault shows missed)) (λ t s read. session_or_fault files names.inputs t s fault read shows)
+    decides_unread files names (statuses.BadSession fault) (bad_session_decides files names.inputs fault shows) (λ missed. absurd (refused_session_missing files names fault shows missed)) (λ i s read. session_or_fault files names.inputs i s fault read shows)
 decides_checked files names (statuses.Rejected rejection) shows other =
     let refuted = shows.not_proved in
     record {
@@ -276,7 +277,7 @@ replay_done : (files : Files) (names : InputNames) (status : Status) → ReadsIn
 replay_done files names status reads done =
     record { inputs = read_decides files names status _ _ reads.read; done = λ again. done }
 
-replay_unread : (files : Files) (names : InputNames) (status : Status) → DecidesInputs files names status → ((t : DecisionTable) (s : Session) → ReadsSession files names t s → ⊥) → DecidesReplay files names status
+replay_unread : (files : Files) (names : InputNames) (status : Status) → DecidesInputs files names status → ((i : Input) (s : Session) → ReadsSession files names i s → ⊥) → DecidesReplay files names status
 replay_unread files names status inputs unread =
     record { inputs = inputs; done = λ reads. absurd (unread _ _ reads.read) }
 
@@ -285,12 +286,12 @@ decides_replayed files names statuses.Done shows other = replay_done files names
 decides_replayed files names statuses.DoneWide shows other = replay_done files names statuses.DoneWide shows (inl (inr refl))
 decides_replayed files names statuses.Usage shows other = absurd shows
 decides_replayed files names (statuses.BadTable fault) shows other =
-    replay_unread files names (statuses.BadTable fault) (bad_table_decides files names fault shows) (λ t s read. table_or_fault files names t fault read.table shows)
+    replay_unread files names (statuses.BadTable fault) (bad_table_decides files names fault shows) (λ i s read. table_or_fault files names i fault read.table shows)
 decides_replayed files names (statuses.BadSession fault) shows other =
-    replay_unread files names (statuses.BadSession fault) (bad_session_decides files names fault shows) (λ t s read. session_or_fault files names t s fault read shows)
+    replay_unread files names (statuses.BadSession fault) (bad_session_decides files names fault shows) (λ i s read. session_or_fault files names i s fault read shows)
 decides_replayed files names (statuses.Rejected rejection) shows other = absurd shows
 decides_replayed files names statuses.ReadFault shows other =
-    replay_unread files names statuses.ReadFault (missing_decides files names shows) (λ t s read. missed_or_read files names t s shows read)
+    replay_unread files names statuses.ReadFault (missing_decides files names shows) (λ i s read. missed_or_read files names i s shows read)
 decides_replayed files names statuses.WriteFault shows other = replay_done files names statuses.WriteFault shows (inr refl)
 decides_replayed files names statuses.Memory shows other = absurd (other refl)
 

@@ -3,7 +3,7 @@ use Rattle.std.proofs.Common.{◌≡◌, ◌∙◌, ◌<◌, ◌≤◌, ℕ, Boo
 use Rattle.ror_io.specs.Files.{Files, Lacks}
 use Rattle.ror_io.specs.Counts.{next_count}
 use Rattle.ror_io.proofs.CountLemmas.{then-Rose}
-use Rattle.ror_table.specs.Table.{DecisionTable}
+use Rattle.ror_value.specs.declared.input.Input.{Input}
 use Rattle.ror_session.specs.declared.session.Session.{Session}
 use Rattle.ror_bench.specs.declared.report.Accepted.{Accepted}
 use Rattle.ror.specs.declared.work.Stop.{Stop}
@@ -137,9 +137,9 @@ ended_third {A} {B} names a b d f x y r first second third shows =
 
 -- ---- a replay
 
-module _ (t : DecisionTable) (s : Session) (old new : SinkState) where
+module _ (i : Input) (s : Session) (old new : SinkState) where
   -- the writing of a report stops nowhere else
-  writes_after : (names : InputNames) (r : Result Bool Stop) → WritesReport t s old new r → WorksAfter (Replay names) r 2
+  writes_after : (names : InputNames) (r : Result Bool Stop) → WritesReport i s old new r → WorksAfter (Replay names) r 2
   writes_after names (Ok wide) writes = refl
   writes_after names (Err (stops.BadTable fault)) writes = absurd writes
   writes_after names (Err (stops.BadSession fault)) writes = absurd writes
@@ -148,7 +148,7 @@ module _ (t : DecisionTable) (s : Session) (old new : SinkState) where
   writes_after names (Err stops.WriteFault) writes = (omega arith, refl)
   writes_after names (Err stops.Memory) writes = (omega arith, tt)
 
-  writes_purely : (r : Result Bool Stop) → WritesReport t s old new r → IfErr r IsPure
+  writes_purely : (r : Result Bool Stop) → WritesReport i s old new r → IfErr r IsPure
   writes_purely (Ok wide) writes = tt
   writes_purely (Err (stops.BadTable fault)) writes = absurd writes
   writes_purely (Err (stops.BadSession fault)) writes = absurd writes
@@ -157,7 +157,7 @@ module _ (t : DecisionTable) (s : Session) (old new : SinkState) where
   writes_purely (Err stops.WriteFault) writes = tt
   writes_purely (Err stops.Memory) writes = tt
 
-  writes_may_stop : (names : InputNames) (r : Result Bool Stop) → WritesReport t s old new r → IfErr r (MayStop (Replay names))
+  writes_may_stop : (names : InputNames) (r : Result Bool Stop) → WritesReport i s old new r → IfErr r (MayStop (Replay names))
   writes_may_stop names (Ok wide) writes = tt
   writes_may_stop names (Err (stops.BadTable fault)) writes = tt
   writes_may_stop names (Err (stops.BadSession fault)) writes = tt
@@ -166,42 +166,42 @@ module _ (t : DecisionTable) (s : Session) (old new : SinkState) where
   writes_may_stop names (Err stops.WriteFault) writes = tt
   writes_may_stop names (Err stops.Memory) writes = tt
 
-  writes_unread : (r : Result Bool Stop) → WritesReport t s old new r → r ≡ Err stops.ReadFault → ⊥
-  writes_unread r writes is = subst (WritesReport t s old new) is writes
+  writes_unread : (r : Result Bool Stop) → WritesReport i s old new r → r ≡ Err stops.ReadFault → ⊥
+  writes_unread r writes is = subst (WritesReport i s old new) is writes
 
-  pub writes_shown : (names : InputNames) (files : Files) (r : Result Bool Stop) → WritesReport t s old new r → ReadsSession files names t s → ShowsReplay names r files
-  writes_shown names files (Ok wide) writes read = record { table = t; session = s; read = read }
+  pub writes_shown : (names : InputNames) (files : Files) (r : Result Bool Stop) → WritesReport i s old new r → ReadsSession files names i s → ShowsReplay names r files
+  writes_shown names files (Ok wide) writes read = record { input = i; session = s; read = read }
   writes_shown names files (Err (stops.BadTable fault)) writes read = absurd writes
   writes_shown names files (Err (stops.BadSession fault)) writes read = absurd writes
   writes_shown names files (Err (stops.Rejected rejection)) writes read = absurd writes
   writes_shown names files (Err stops.ReadFault) writes read = absurd writes
-  writes_shown names files (Err stops.WriteFault) writes read = record { table = t; session = s; read = read }
+  writes_shown names files (Err stops.WriteFault) writes read = record { input = i; session = s; read = read }
   writes_shown names files (Err stops.Memory) writes read = tt
 
-  pub writes_of_files : (told : Option Files) (before now : ℕ) (names : InputNames) (r : Result Bool Stop) → AreOfFiles told before now names t s → WritesReport t s old new r → WritesOfFiles told before now names old new r
-  writes_of_files told before now names (Ok wide) of writes = (t, s, of, writes)
+  pub writes_of_files : (told : Option Files) (before now : ℕ) (names : InputNames) (r : Result Bool Stop) → AreOfFiles told before now names i s → WritesReport i s old new r → WritesOfFiles told before now names old new r
+  writes_of_files told before now names (Ok wide) of writes = (i, s, of, writes)
   writes_of_files told before now names (Err (stops.BadTable fault)) of writes = absurd writes
   writes_of_files told before now names (Err (stops.BadSession fault)) of writes = absurd writes
   writes_of_files told before now names (Err (stops.Rejected rejection)) of writes = absurd writes
   writes_of_files told before now names (Err stops.ReadFault) of writes = absurd writes
-  writes_of_files told before now names (Err stops.WriteFault) of writes = (t, s, of, writes)
-  writes_of_files told before now names (Err stops.Memory) of writes = inr (t, s, of, writes)
+  writes_of_files told before now names (Err stops.WriteFault) of writes = (i, s, of, writes)
+  writes_of_files told before now names (Err stops.Memory) of writes = inr (i, s, of, writes)
 
 -- table and session were read, and the report was written
-pub replayed : {A B : Type 0} (names : InputNames) (a b d : ShelfState) (x : A) (y : B) (t : DecisionTable) (s : Session) (old new : SinkState) (r : Result Bool Stop) → IsFetchOf names.table 1 a b (Ok x) → IsFetchOf names.session 2 b d (Ok y) → WritesReport t s old new r → OfToldFiles a.told a.faults d.faults (ShowsReplay names r) → IsWorkOn (Replay names) a d (ShowsReplay names) r
-replayed {A} {B} names a b d x y t s old new r first second writes shows =
+pub replayed : {A B : Type 0} (names : InputNames) (a b d : ShelfState) (x : A) (y : B) (i : Input) (s : Session) (old new : SinkState) (r : Result Bool Stop) → IsFetchOf names.table 1 a b (Ok x) → IsFetchOf names.session 2 b d (Ok y) → WritesReport i s old new r → OfToldFiles a.told a.faults d.faults (ShowsReplay names r) → IsWorkOn (Replay names) a d (ShowsReplay names) r
+replayed {A} {B} names a b d x y i s old new r first second writes shows =
     let same = never_rose names.table 1 a b x first in
     let again = never_rose names.session 2 b d y second in
     record {
       never_falls = omega (arith, same, again);
       told_stays = second.told_stays ∙ first.told_stays;
-      counted = (2, writes_after t s old new names r writes, second.counted ∙ ap next_count first.counted);
-      read_fault = λ is. absurd (writes_unread t s old new r writes is);
+      counted = (2, writes_after i s old new names r writes, second.counted ∙ ap next_count first.counted);
+      read_fault = λ is. absurd (writes_unread i s old new r writes is);
       rose = λ rose. absurd (omega (arith, same, again, rose));
       lacking = λ lacks. absurd (both_there names a b d x y first second lacks);
       no_table = λ lacks. absurd (lacks_not names.table 1 a b x first lacks);
-      pure = writes_purely t s old new r writes;
-      may_stop = writes_may_stop t s old new names r writes;
+      pure = writes_purely i s old new r writes;
+      may_stop = writes_may_stop i s old new names r writes;
       shows = shows;
     }
 

@@ -7,8 +7,8 @@ use Rattle.ror_io.specs.Fetching.{OnFailed}
 use Rattle.ror_io.specs.declared.shelf.ShelfFault.{ShelfFault}
 use Rattle.ror_io.specs.declared.shelf.ShelfFault.TheVariants as shelf_faults
 use Rattle.ror_io.proofs.CountLemmas.{never_both}
-use Rattle.ror_table.specs.Table.{DecisionTable}
-use Rattle.ror_table.specs.Plain.{plain_table}
+use Rattle.ror_value.specs.declared.input.Input.{Input}
+use Rattle.ror_xmcda.specs.Input.{input_of}
 use Rattle.ror_session.specs.declared.session.Session.{Session}
 use Rattle.ror_session.specs.declared.session.Line.{Line}
 use Rattle.ror_session.specs.Session.{session_of}
@@ -44,8 +44,8 @@ missed P told files name before now shelf_faults.Failed is stayed failed misses 
     ]
 missed P told files name before now shelf_faults.Memory is stayed failed misses memory = memory
 
-pub table_shown : (files : Files) (names : InputNames) (bytes : List ℕ) (result : Result DecisionTable Stop) → file files names.table ≡ Some bytes → ReadsTableAs (plain_table bytes) result → ShowsTable names result files
-table_shown files names bytes (Ok t) found reads = record { bytes = bytes; there = found; read = reads }
+pub table_shown : (files : Files) (names : InputNames) (bytes : List ℕ) (result : Result Input Stop) → file files names.table ≡ Some bytes → ReadsTableAs (input_of bytes names.best_first) result → ShowsTable names result files
+table_shown files names bytes (Ok i) found reads = record { bytes = bytes; there = found; read = reads }
 table_shown files names bytes (Err (stops.BadTable fault)) found reads = record { bytes = bytes; there = found; refused = reads }
 table_shown files names bytes (Err (stops.BadSession fault)) found reads = absurd reads
 table_shown files names bytes (Err (stops.Rejected rejection)) found reads = absurd reads
@@ -53,34 +53,34 @@ table_shown files names bytes (Err stops.ReadFault) found reads = absurd reads
 table_shown files names bytes (Err stops.WriteFault) found reads = absurd reads
 table_shown files names bytes (Err stops.Memory) found reads = tt
 
-pub session_shown : (files : Files) (names : InputNames) (t : DecisionTable) (bytes : List ℕ) (result : Result Session Stop) → ReadsTable files names t → file files names.session ≡ Some bytes → ReadsSessionAs (session_of bytes) result → ShowsSession names t result files
-session_shown files names t bytes (Ok s) table found reads = record { table = table; bytes = bytes; there = found; read = reads }
-session_shown files names t bytes (Err (stops.BadTable fault)) table found reads = absurd reads
-session_shown files names t bytes (Err (stops.BadSession fault)) table found reads = record { table = t; table_read = table; bytes = bytes; there = found; refused = reads }
-session_shown files names t bytes (Err (stops.Rejected rejection)) table found reads = absurd reads
-session_shown files names t bytes (Err stops.ReadFault) table found reads = absurd reads
-session_shown files names t bytes (Err stops.WriteFault) table found reads = absurd reads
-session_shown files names t bytes (Err stops.Memory) table found reads = tt
+pub session_shown : (files : Files) (names : InputNames) (i : Input) (bytes : List ℕ) (result : Result Session Stop) → ReadsTable files names i → file files names.session ≡ Some bytes → ReadsSessionAs (session_of bytes) result → ShowsSession names i result files
+session_shown files names i bytes (Ok s) table found reads = record { table = table; bytes = bytes; there = found; read = reads }
+session_shown files names i bytes (Err (stops.BadTable fault)) table found reads = absurd reads
+session_shown files names i bytes (Err (stops.BadSession fault)) table found reads = record { input = i; table_read = table; bytes = bytes; there = found; refused = reads }
+session_shown files names i bytes (Err (stops.Rejected rejection)) table found reads = absurd reads
+session_shown files names i bytes (Err stops.ReadFault) table found reads = absurd reads
+session_shown files names i bytes (Err stops.WriteFault) table found reads = absurd reads
+session_shown files names i bytes (Err stops.Memory) table found reads = tt
 
-pub work_shown : (files : Files) (names : CheckNames) (t : DecisionTable) (s : Session) (bytes : List ℕ) (result : Result Accepted Stop) → ReadsSession files names.inputs t s → file files names.report ≡ Some bytes → Judges t s bytes result → ShowsWork names result files
-work_shown files names t s bytes (Ok x) session found judges =
-    (record { table = t; session = s; session_read = session; bytes = bytes; there = found; short = judges.0; proved = judges.1.proved }, record { table = t; session = s; session_read = session; bytes = bytes; there = found; counts = x; accepted = judges.1 })
-work_shown files names t s bytes (Err (stops.BadTable fault)) session found judges = absurd judges
-work_shown files names t s bytes (Err (stops.BadSession fault)) session found judges = absurd judges
-work_shown files names t s bytes (Err (stops.Rejected rejection)) session found judges =
+pub work_shown : (files : Files) (names : CheckNames) (i : Input) (s : Session) (bytes : List ℕ) (result : Result Accepted Stop) → ReadsSession files names.inputs i s → file files names.report ≡ Some bytes → Judges i s bytes result → ShowsWork names result files
+work_shown files names i s bytes (Ok x) session found judges =
+    (record { input = i; session = s; session_read = session; bytes = bytes; there = found; short = judges.0; proved = judges.1.proved }, record { input = i; session = s; session_read = session; bytes = bytes; there = found; counts = x; accepted = judges.1 })
+work_shown files names i s bytes (Err (stops.BadTable fault)) session found judges = absurd judges
+work_shown files names i s bytes (Err (stops.BadSession fault)) session found judges = absurd judges
+work_shown files names i s bytes (Err (stops.Rejected rejection)) session found judges =
     record {
-      not_proved = record { table = t; session = s; session_read = session; bytes = bytes; there = found; not_proved = judges.0 };
-      rejected = record { table = t; session = s; session_read = session; bytes = bytes; there = found; rejected = judges.1 };
+      not_proved = record { input = i; session = s; session_read = session; bytes = bytes; there = found; not_proved = judges.0 };
+      rejected = record { input = i; session = s; session_read = session; bytes = bytes; there = found; rejected = judges.1 };
     }
-work_shown files names t s bytes (Err stops.ReadFault) session found judges = absurd judges
-work_shown files names t s bytes (Err stops.WriteFault) session found judges = absurd judges
-work_shown files names t s bytes (Err stops.Memory) session found judges = tt
+work_shown files names i s bytes (Err stops.ReadFault) session found judges = absurd judges
+work_shown files names i s bytes (Err stops.WriteFault) session found judges = absurd judges
+work_shown files names i s bytes (Err stops.Memory) session found judges = tt
 
 -- what is refused of the bytes that were fetched is not proved, and rejected for this
-pub judged : (t : DecisionTable) (s : Session) (bench : Workbench) (lines : List Line) (got bytes : List ℕ) (error : ReportError) → bench ≡ bench_for t s → lines ≡ s.lines → got ≡ bytes → length got ≤ MOST_REPORT_BYTES → (error ≢ report_errors.Memory → (x : Accepted) → IsProvedReport bench lines got x → ⊥) → IfRejected (IsRejectedFor bench lines got) error → Judges t s bytes (Err (stop_at_report error))
-judged t s bench lines got bytes (report_errors.Rejected rejection) benches same whole short refuted why =
-    (λ x within proved. refuted (λ e. cc) x (subst (λ (b : Workbench). IsProvedReport b lines got x) (sym benches) (subst (λ (ls : List Line). IsProvedReport (bench_for t s) ls got x) (sym same) (subst (λ (bs : List ℕ). IsProvedReport (bench_for t s) s.lines bs x) (sym whole) proved))), at_fault (subst (λ (bs : List ℕ). length bs ≤ MOST_REPORT_BYTES) whole short) (subst (λ (b : Workbench). IsRejectedFor b s.lines bytes rejection) benches (subst (λ (ls : List Line). IsRejectedFor bench ls bytes rejection) same (subst (λ (bs : List ℕ). IsRejectedFor bench lines bs rejection) whole why))))
-judged t s bench lines got bytes report_errors.Memory benches same whole short refuted why = tt
+pub judged : (i : Input) (s : Session) (bench : Workbench) (lines : List Line) (got bytes : List ℕ) (error : ReportError) → bench ≡ bench_for i s → lines ≡ s.lines → got ≡ bytes → length got ≤ MOST_REPORT_BYTES → (error ≢ report_errors.Memory → (x : Accepted) → IsProvedReport bench lines got x → ⊥) → IfRejected (IsRejectedFor bench lines got) error → Judges i s bytes (Err (stop_at_report error))
+judged i s bench lines got bytes (report_errors.Rejected rejection) benches same whole short refuted why =
+    (λ x within proved. refuted (λ e. cc) x (subst (λ (b : Workbench). IsProvedReport b lines got x) (sym benches) (subst (λ (ls : List Line). IsProvedReport (bench_for i s) ls got x) (sym same) (subst (λ (bs : List ℕ). IsProvedReport (bench_for i s) s.lines bs x) (sym whole) proved))), at_fault (subst (λ (bs : List ℕ). length bs ≤ MOST_REPORT_BYTES) whole short) (subst (λ (b : Workbench). IsRejectedFor b s.lines bytes rejection) benches (subst (λ (ls : List Line). IsRejectedFor bench ls bytes rejection) same (subst (λ (bs : List ℕ). IsRejectedFor bench lines bs rejection) whole why))))
+judged i s bench lines got bytes report_errors.Memory benches same whole short refuted why = tt
 
 -- a stop at the table or the session is one of a check, and of a replay
 pub stop_in_check : (files : Files) (names : CheckNames) (stop : Stop) → ShowsStop files names.inputs stop → ShowsCheckStop files names stop

@@ -1,4 +1,3 @@
-pub mod WordLemmas
 pub mod PrintLemmas
 pub mod LongTexts
 pub mod FileSteps

@@ -12,20 +12,26 @@ use Rattle.ror_report.specs.declared.block.Block.{Block}
 use Rattle.ror_report.specs.declared.block.Body.{Body}
 use Rattle.ror_report.specs.declared.block.Body.TheVariants as bodies
 use Rattle.ror_report.specs.Text.{block_text, header_text, end_text, IsPrintableBlock}
+use Rattle.ror_statement.specs.declared.statement.Statement.{Statement}
 use Rattle.ror_table.specs.Table.{DecisionTable}
+use Rattle.ror_value.specs.declared.input.Input.{Input}
+use Rattle.ror_value.specs.Over.{IsLawfulIn}
+use Rattle.ror_history.specs.History.{Revision, statements_of}
+use Rattle.ror_history.proofs.HistoryLemmas.{with_numbers_from-statements}
+use Rattle.ror_history.proofs.TurnLemmas.{next_number-first}
+use Rattle.ror_session.specs.declared.limits.TheConstants.{MOST_LINES}
 use Rattle.ror_session.specs.declared.session.Session.{Session}
 use Rattle.ror_io.specs.Counts.{Rose}
 use Rattle.ror_io.specs.Writing.{Grew, GrewShort}
 use Rattle.ror_io.proofs.Writes.{Grew-none, Grew-append, GrewShort-more, GrewShort-after}
 use Rattle.ror_bench.specs.Allowed.{given_at}
-use Rattle.ror_bench.specs.Bench.{Workbench, revisions_at, IsLawfulThroughout, IsLawfulBench}
+use Rattle.ror_bench.specs.Bench.{Workbench, revisions_at, IsLawfulThroughout, IsLawfulBench, LeavesNumbers}
 use Rattle.ror_bench.specs.Blocks.{passed_of, IsBlockOf, with_block}
 use Rattle.ror_bench.specs.Reports.{accepted_of}
 use Rattle.ror_bench.proofs.MakingLemmas.{IsMade, made_nothing, made_more, text_more}
 use Rattle.ror_bench.specs.Replays.{AreBlocksAt, IsReplayedReport, some_lines, all_lines}
 use Rattle.ror_bench.proofs.ReportProofs.{as_many, sums}
 use Rattle.ror_bench.proofs.ReplayLemmas.{replayed_proved}
-use Rattle.ror_bench.proofs.DeskLemmas.{nothing_lawful}
 use Rattle.ror_bench.proofs.Truth.{report_true}
 use Rattle.ror.specs.declared.work.Stop.{Stop}
 use Rattle.ror.specs.declared.work.Stop.TheVariants as stops
@@ -124,77 +130,96 @@ first_blocks start lines n bench old new wide were =
 
 -- ---- the report of a session
 
--- desks at which nothing stands are lawful
-pub lawful_desks : (t : DecisionTable) (n : ℕ) → AllByRecursion (IsLawfulThroughout t) (replicate n (record { opening = []; surviving = [] }))
-lawful_desks t zero = tt
-lawful_desks t (suc n) = (nothing_lawful t, lawful_desks t n)
+-- a list that may stand at a desk is lawful there from the first line on
+begun : (t : DecisionTable) (opening : List Statement) → IsLawfulIn t opening → IsLawfulThroughout t (record { opening = opening; surviving = [] })
+begun t opening lawful before after e =
+    let none : before ≡ [] = nothing before after e in
+    let stands : statements_of (record { opening = opening; surviving = [] }) ≡ opening = with_numbers_from-statements 1 opening in
+    subst (λ (l : List Revision). IsLawfulIn t (statements_of (record { opening = opening; surviving = l }))) (sym none) (subst (IsLawfulIn t) (sym stands) lawful)
+  where
+    nothing : (before after : List Revision) → [] ≡ before ++ after → before ≡ []
+    nothing [] after e = refl
+    nothing (x ∷ xs) after e = absurd cc
 
-module _ (t : DecisionTable) (s : Session) where
-  begun : (text : List ℕ) → AreFirstBlocks (bench_for t s) s.lines text → IsBeginningOf t s (header_text ++ text)
-  begun text first = some_lines first.taken first.left first.blocks first.split first.made (ap (λ (l : List ℕ). header_text ++ l) first.text_is)
+-- desks that begin with it are lawful
+pub lawful_desks : (i : Input) (n : ℕ) → IsLawfulIn i.table i.opening → AllByRecursion (IsLawfulThroughout i.table) (replicate n (record { opening = i.opening; surviving = [] }))
+lawful_desks i zero lawful = tt
+lawful_desks i (suc n) lawful = (begun i.table i.opening lawful, lawful_desks i n lawful)
 
-  no_blocks : AreFirstBlocks (bench_for t s) s.lines []
+-- and have a number left for each line
+pub numbers_left : (i : Input) (n lines : ℕ) → IsLawfulIn i.table i.opening → lines ≤ MOST_LINES → AllByRecursion (LeavesNumbers lines) (replicate n (record { opening = i.opening; surviving = [] }))
+numbers_left i zero lines lawful few = tt
+numbers_left i (suc n) lines lawful few =
+    let next = next_number-first i.opening in
+    let statements = lawful.few in
+    (omega (arith, next, statements, few), numbers_left i n lines lawful few)
+
+module _ (i : Input) (s : Session) where
+  begins : (text : List ℕ) → AreFirstBlocks (bench_for i s) s.lines text → IsBeginningOf i s (header_text ++ text)
+  begins text first = some_lines first.taken first.left first.blocks first.split first.made (ap (λ (l : List ℕ). header_text ++ l) first.text_is)
+
+  no_blocks : AreFirstBlocks (bench_for i s) s.lines []
   no_blocks = record { taken = []; left = s.lines; blocks = []; split = refl; made = record { printable = tt; given = tt }; text_is = refl }
 
   -- memory ran out before anything was written
-  pub unwritten : (out : SinkState) → WritesReport t s out out (Err stops.Memory)
-  unwritten out = (refl, header_text ++ [], 0, begun [] no_blocks, Grew-none out.written)
+  pub unwritten : (out : SinkState) → WritesReport i s out out (Err stops.Memory)
+  unwritten out = (refl, header_text ++ [], 0, begins [] no_blocks, Grew-none out.written)
 
   -- the header was not written
-  pub header_cut : (old new : SinkState) → old.faults ≤ new.faults → Rose old.faults new.faults → GrewShort old.written new.written header_text → WritesReport t s old new (Err stops.WriteFault)
-  header_cut old new up rose short = (up, rose, header_text ++ [], begun [] no_blocks, GrewShort-more old.written new.written header_text [] short)
+  pub header_cut : (old new : SinkState) → old.faults ≤ new.faults → Rose old.faults new.faults → GrewShort old.written new.written header_text → WritesReport i s old new (Err stops.WriteFault)
+  header_cut old new up rose short = (up, rose, header_text ++ [], begins [] no_blocks, GrewShort-more old.written new.written header_text [] short)
 
   -- after the header the blocks were written, or were not
-  pub blocks_cut : (old between new : SinkState) (stop : Stop) → between.faults ≡ old.faults → Grew old.written between.written header_text → MakesBlocks (bench_for t s) s.lines between new (Err stop) → WritesReport t s old new (Err stop)
+  pub blocks_cut : (old between new : SinkState) (stop : Stop) → between.faults ≡ old.faults → Grew old.written between.written header_text → MakesBlocks (bench_for i s) s.lines between new (Err stop) → WritesReport i s old new (Err stop)
   blocks_cut old between new (stops.BadTable fault) same header makes = absurd makes
   blocks_cut old between new (stops.BadSession fault) same header makes = absurd makes
   blocks_cut old between new (stops.Rejected rejection) same header makes = absurd makes
   blocks_cut old between new stops.ReadFault same header makes = absurd makes
   blocks_cut old between new stops.WriteFault same header makes =
-      (subst (λ n. n ≤ new.faults) same makes.0, subst (λ n. Rose n new.faults) same makes.1, header_text ++ makes.2, begun makes.2 makes.3, GrewShort-after old.written between.written new.written header_text makes.2 header makes.4)
+      (subst (λ n. n ≤ new.faults) same makes.0, subst (λ n. Rose n new.faults) same makes.1, header_text ++ makes.2, begins makes.2 makes.3, GrewShort-after old.written between.written new.written header_text makes.2 header makes.4)
   blocks_cut old between new stops.Memory same header makes =
       let text = header_text ++ makes.1 in
-      (makes.0 ∙ same, text, length text, begun makes.1 makes.2, subst (Grew old.written new.written) (sym (take_all (length text) text (omega arith))) (Grew-append old.written between.written new.written header_text makes.1 header makes.3))
+      (makes.0 ∙ same, text, length text, begins makes.1 makes.2, subst (Grew old.written new.written) (sym (take_all (length text) text (omega arith))) (Grew-append old.written between.written new.written header_text makes.1 header makes.3))
 
   -- the blocks of all lines
-  all_blocks : (blocks : List Block) → AreBlocksAt most (bench_for t s) s.lines blocks → AreFirstBlocks (bench_for t s) s.lines (flat_map (block_text t) blocks)
+  all_blocks : (blocks : List Block) → AreBlocksAt most (bench_for i s) s.lines blocks → AreFirstBlocks (bench_for i s) s.lines (flat_map (block_text i.table) blocks)
   all_blocks blocks made = record { taken = s.lines; left = []; blocks = blocks; split = sym (append-nil s.lines); made = made; text_is = refl }
 
-  whole : (blocks : List Block) → AreBlocksAt most (bench_for t s) s.lines blocks → IsReplayedReport most (bench_for t s) s.lines (header_text ++ (flat_map (block_text t) blocks ++ end_text (length s.lines))) (accepted_of blocks)
+  whole : (blocks : List Block) → AreBlocksAt most (bench_for i s) s.lines blocks → IsReplayedReport most (bench_for i s) s.lines (header_text ++ (flat_map (block_text i.table) blocks ++ end_text (length s.lines))) (accepted_of blocks)
   whole blocks made =
-      let count = as_many (IsBlockOf (given_at most) t) (bench_for t s) [] s.lines blocks made.given in
-      record { blocks = blocks; made = made; text = ap (λ n. header_text ++ (flat_map (block_text t) blocks ++ end_text n)) count; counted = refl }
+      let count = as_many (IsBlockOf (given_at most) i.table) (bench_for i s) [] s.lines blocks made.given in
+      record { blocks = blocks; made = made; text = ap (λ n. header_text ++ (flat_map (block_text i.table) blocks ++ end_text n)) count; counted = refl }
 
   -- the end was not made
-  pub end_unmade : (old between new : SinkState) (wide : Bool) → between.faults ≡ old.faults → Grew old.written between.written header_text → MakesBlocks (bench_for t s) s.lines between new (Ok wide) → WritesReport t s old new (Err stops.Memory)
+  pub end_unmade : (old between new : SinkState) (wide : Bool) → between.faults ≡ old.faults → Grew old.written between.written header_text → MakesBlocks (bench_for i s) s.lines between new (Ok wide) → WritesReport i s old new (Err stops.Memory)
   end_unmade old between new wide same header makes =
       let blocks = makes.1 in
-      let text = header_text ++ flat_map (block_text t) blocks in
-      (makes.0 ∙ same, text, length text, begun (flat_map (block_text t) blocks) (all_blocks blocks makes.2), subst (Grew old.written new.written) (sym (take_all (length text) text (omega arith))) (Grew-append old.written between.written new.written header_text (flat_map (block_text t) blocks) header makes.4))
+      let text = header_text ++ flat_map (block_text i.table) blocks in
+      (makes.0 ∙ same, text, length text, begins (flat_map (block_text i.table) blocks) (all_blocks blocks makes.2), subst (Grew old.written new.written) (sym (take_all (length text) text (omega arith))) (Grew-append old.written between.written new.written header_text (flat_map (block_text i.table) blocks) header makes.4))
 
   -- it was not written
-  pub end_cut : (old between after new : SinkState) (wide : Bool) → between.faults ≡ old.faults → Grew old.written between.written header_text → MakesBlocks (bench_for t s) s.lines between after (Ok wide) → after.faults ≤ new.faults → Rose after.faults new.faults → GrewShort after.written new.written (end_text (length s.lines)) → WritesReport t s old new (Err stops.WriteFault)
+  pub end_cut : (old between after new : SinkState) (wide : Bool) → between.faults ≡ old.faults → Grew old.written between.written header_text → MakesBlocks (bench_for i s) s.lines between after (Ok wide) → after.faults ≤ new.faults → Rose after.faults new.faults → GrewShort after.written new.written (end_text (length s.lines)) → WritesReport i s old new (Err stops.WriteFault)
   end_cut old between after new wide same header makes up rose short =
       let blocks = makes.1 in
-      let whole_text = flat_map (block_text t) blocks ++ end_text (length s.lines) in (
+      let whole_text = flat_map (block_text i.table) blocks ++ end_text (length s.lines) in (
         subst (λ n. n ≤ new.faults) (makes.0 ∙ same) up,
         subst (λ n. Rose n new.faults) (makes.0 ∙ same) rose,
         header_text ++ whole_text,
         all_lines (accepted_of blocks) (whole blocks makes.2),
-        GrewShort-after old.written between.written new.written header_text whole_text header (GrewShort-after between.written after.written new.written (flat_map (block_text t) blocks) (end_text (length s.lines)) makes.4 short),
+        GrewShort-after old.written between.written new.written header_text whole_text header (GrewShort-after between.written after.written new.written (flat_map (block_text i.table) blocks) (end_text (length s.lines)) makes.4 short),
       )
 
   -- all was written
-  pub report_whole : (old between after new : SinkState) (wide : Bool) → IsLawfulBench (bench_for t s) → between.faults ≡ old.faults → Grew old.written between.written header_text → MakesBlocks (bench_for t s) s.lines between after (Ok wide) → new.faults ≡ after.faults → Grew after.written new.written (end_text (length s.lines)) → WritesReport t s old new (Ok wide)
+  pub report_whole : (old between after new : SinkState) (wide : Bool) → IsLawfulBench (bench_for i s) → between.faults ≡ old.faults → Grew old.written between.written header_text → MakesBlocks (bench_for i s) s.lines between after (Ok wide) → new.faults ≡ after.faults → Grew after.written new.written (end_text (length s.lines)) → WritesReport i s old new (Ok wide)
   report_whole old between after new wide lawful same header makes kept ended =
       let blocks = makes.1 in
-      let whole_text = flat_map (block_text t) blocks ++ end_text (length s.lines) in
+      let whole_text = flat_map (block_text i.table) blocks ++ end_text (length s.lines) in
       let report = whole blocks makes.2 in
-      let proved = replayed_proved most (bench_for t s) s.lines (header_text ++ whole_text) (accepted_of blocks) report in (
+      let proved = replayed_proved most (bench_for i s) s.lines (header_text ++ whole_text) (accepted_of blocks) report in (
         kept ∙ makes.0 ∙ same,
         header_text ++ whole_text,
         accepted_of blocks,
-        record { given = report; checked = record { proved = proved; blocks_true = report_true (bench_for t s) s.lines (header_text ++ whole_text) (accepted_of blocks) lawful proved } },
+        record { given = report; checked = record { proved = proved; blocks_true = report_true (bench_for i s) s.lines (header_text ++ whole_text) (accepted_of blocks) lawful proved } },
         makes.3,
-        Grew-append old.written between.written new.written header_text whole_text header (Grew-append between.written after.written new.written (flat_map (block_text t) blocks) (end_text (length s.lines)) makes.4 ended),
+        Grew-append old.written between.written new.written header_text whole_text header (Grew-append between.written after.written new.written (flat_map (block_text i.table) blocks) (end_text (length s.lines)) makes.4 ended),
       )

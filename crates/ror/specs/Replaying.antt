@@ -4,7 +4,7 @@ use Rattle.std.specs.List.{flat_map, list_any}
 use Rattle.ror_io.specs.Files.{Files}
 use Rattle.ror_io.specs.Counts.{Rose, DidNotRise}
 use Rattle.ror_io.specs.Writing.{Grew, GrewShort}
-use Rattle.ror_table.specs.Table.{DecisionTable}
+use Rattle.ror_value.specs.declared.input.Input.{Input}
 use Rattle.ror_session.specs.declared.session.Line.{Line}
 use Rattle.ror_session.specs.declared.session.Session.{Session}
 use Rattle.ror_check.specs.Proof.{is_wide}
@@ -32,27 +32,27 @@ most = most_of B127
 -- The text is the report of the session: a block for each line, in order, with answers and repairs that may be given at 127
 -- bits. Each that isn't too wide has a proof: an answer is true of all compatible value functions, and a repair drops what the
 -- repair over these drops.
-pub record IsReportOf (t : DecisionTable) (s : Session) (text : List ℕ)
+pub record IsReportOf (i : Input) (s : Session) (text : List ℕ)
     (accepted : Accepted) : Type 0 where
-  pub given : IsReplayedReport most (bench_for t s) s.lines text accepted
-  pub checked : IsAcceptedReport (bench_for t s) s.lines text accepted
+  pub given : IsReplayedReport most (bench_for i s) s.lines text accepted
+  pub checked : IsAcceptedReport (bench_for i s) s.lines text accepted
 
 -- the text is how such a report begins
-abbrev pub IsBeginningOf : DecisionTable → Session → List ℕ → Type 0
-IsBeginningOf t s text = IsBegunReport most (bench_for t s) s.lines text
+abbrev pub IsBeginningOf : Input → Session → List ℕ → Type 0
+IsBeginningOf i s text = IsBegunReport most (bench_for i s) s.lines text
 
 -- What was written where the report of a session was due: the whole of it, and whether anything is too wide; a proper front of
 -- its beginning where a write failed; or some front where memory ran out.
-abbrev pub WritesReport : DecisionTable → Session → SinkState → SinkState → Result Bool Stop → Type 0
-WritesReport t s old new (Ok wide) = (new.faults ≡ old.faults) × (text : List ℕ)
-    × (accepted : Accepted) × IsReportOf t s text accepted × (wide ≡ nat_lt 0 accepted.wide)
+abbrev pub WritesReport : Input → Session → SinkState → SinkState → Result Bool Stop → Type 0
+WritesReport i s old new (Ok wide) = (new.faults ≡ old.faults) × (text : List ℕ)
+    × (accepted : Accepted) × IsReportOf i s text accepted × (wide ≡ nat_lt 0 accepted.wide)
     × Grew old.written new.written text
-WritesReport t s old new (Err stops.WriteFault) = (old.faults ≤ new.faults)
-    × Rose old.faults new.faults × (text : List ℕ) × IsBeginningOf t s text
+WritesReport i s old new (Err stops.WriteFault) = (old.faults ≤ new.faults)
+    × Rose old.faults new.faults × (text : List ℕ) × IsBeginningOf i s text
     × GrewShort old.written new.written text
-WritesReport t s old new (Err stops.Memory) = (new.faults ≡ old.faults) × (text : List ℕ) × (n : ℕ)
-    × IsBeginningOf t s text × Grew old.written new.written (take n text)
-WritesReport t s old new (Err stop) = ⊥
+WritesReport i s old new (Err stops.Memory) = (new.faults ≡ old.faults) × (text : List ℕ) × (n : ℕ)
+    × IsBeginningOf i s text × Grew old.written new.written (take n text)
+WritesReport i s old new (Err stop) = ⊥
 
 -- ---- the blocks of lines, one after another
 
@@ -89,21 +89,21 @@ MakesBlocks bench lines old new (Err stop) = ⊥
 -- ---- by the files
 
 -- the table and the session are those of the files, where these are told
-abbrev pub AreOfFiles : Option Files → ℕ → ℕ → InputNames → DecisionTable → Session → Type 0
-AreOfFiles told before now names t s =
-    (files : Files) → told ≡ Some files → DidNotRise before now → ReadsSession files names t s
+abbrev pub AreOfFiles : Option Files → ℕ → ℕ → InputNames → Input → Session → Type 0
+AreOfFiles told before now names i s =
+    (files : Files) → told ≡ Some files → DidNotRise before now → ReadsSession files names i s
 
 -- what a replay has written: nothing where its files were not read
 abbrev pub WritesOfFiles : Option Files → ℕ → ℕ → InputNames → SinkState → SinkState
     → Result Bool Stop → Type 0
-WritesOfFiles told before now names old new (Ok wide) = (t : DecisionTable) × (s : Session)
-    × AreOfFiles told before now names t s × WritesReport t s old new (Ok wide)
-WritesOfFiles told before now names old new (Err stops.WriteFault) = (t : DecisionTable)
-    × (s : Session) × AreOfFiles told before now names t s
-    × WritesReport t s old new (Err stops.WriteFault)
+WritesOfFiles told before now names old new (Ok wide) = (i : Input) × (s : Session)
+    × AreOfFiles told before now names i s × WritesReport i s old new (Ok wide)
+WritesOfFiles told before now names old new (Err stops.WriteFault) = (i : Input)
+    × (s : Session) × AreOfFiles told before now names i s
+    × WritesReport i s old new (Err stops.WriteFault)
 WritesOfFiles told before now names old new (Err stops.Memory) = (new ≡ old)
-    ⊎ ((t : DecisionTable) × (s : Session) × AreOfFiles told before now names t s
-    × WritesReport t s old new (Err stops.Memory))
+    ⊎ ((i : Input) × (s : Session) × AreOfFiles told before now names i s
+    × WritesReport i s old new (Err stops.Memory))
 WritesOfFiles told before now names old new (Err stop) = new ≡ old
 
 -- what the files are like where a replay is done or stops

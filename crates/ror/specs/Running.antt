@@ -5,8 +5,8 @@ use Rattle.ror_io.specs.Counts.{Rose, DidNotRise, next_count, count_after}
 use Rattle.ror_io.specs.Writing.{Grew, GrewShort}
 use Rattle.ror.specs.declared.status.Status.{Status}
 use Rattle.ror.specs.declared.status.Status.TheVariants as statuses
-use Rattle.ror_table.specs.Table.{DecisionTable}
 use Rattle.ror_table.specs.declared.fault.TableFault.{TableFault}
+use Rattle.ror_value.specs.declared.input.Input.{Input}
 use Rattle.ror_session.specs.declared.session.Session.{Session}
 use Rattle.ror_session.specs.declared.session.SessionFault.{SessionFault}
 use Rattle.ror_session.specs.declared.session.SessionFault.TheVariants as session_faults
@@ -159,18 +159,18 @@ WritesLine told before now names old new _ = new ≡ old
 -- its beginning where a write failed, some front where memory ran out, and nothing under every other status.
 abbrev pub WritesBlocks : Option Files → ℕ → ℕ → InputNames → Option (List ℕ) → Option (List ℕ)
     → Status → Type 0
-WritesBlocks told before now names old new statuses.Done = (t : DecisionTable) × (s : Session)
-    × AreOfFiles told before now names t s × (text : List ℕ) × (accepted : Accepted)
-    × IsReportOf t s text accepted × (accepted.wide ≡ 0) × Grew old new text
-WritesBlocks told before now names old new statuses.DoneWide = (t : DecisionTable) × (s : Session)
-    × AreOfFiles told before now names t s × (text : List ℕ) × (accepted : Accepted)
-    × IsReportOf t s text accepted × (0 < accepted.wide) × Grew old new text
-WritesBlocks told before now names old new statuses.WriteFault = (t : DecisionTable)
-    × (s : Session) × AreOfFiles told before now names t s × (text : List ℕ)
-    × IsBeginningOf t s text × GrewShort old new text
+WritesBlocks told before now names old new statuses.Done = (i : Input) × (s : Session)
+    × AreOfFiles told before now names i s × (text : List ℕ) × (accepted : Accepted)
+    × IsReportOf i s text accepted × (accepted.wide ≡ 0) × Grew old new text
+WritesBlocks told before now names old new statuses.DoneWide = (i : Input) × (s : Session)
+    × AreOfFiles told before now names i s × (text : List ℕ) × (accepted : Accepted)
+    × IsReportOf i s text accepted × (0 < accepted.wide) × Grew old new text
+WritesBlocks told before now names old new statuses.WriteFault = (i : Input)
+    × (s : Session) × AreOfFiles told before now names i s × (text : List ℕ)
+    × IsBeginningOf i s text × GrewShort old new text
 WritesBlocks told before now names old new statuses.Memory = (new ≡ old)
-    ⊎ ((t : DecisionTable) × (s : Session) × AreOfFiles told before now names t s
-    × (text : List ℕ) × (n : ℕ) × IsBeginningOf t s text × Grew old new (take n text))
+    ⊎ ((i : Input) × (s : Session) × AreOfFiles told before now names i s
+    × (text : List ℕ) × (n : ℕ) × IsBeginningOf i s text × Grew old new (take n text))
 WritesBlocks told before now names old new _ = new ≡ old
 
 -- by what the words ask for

@@ -2,6 +2,8 @@
 use Rattle.std.specs.Prelude.{ℕ, ◌==◌, List, [], ◌++◌, codes, decimal, if◌then◌else◌}
 use Rattle.ror_table.specs.declared.fault.What.{What}
 use Rattle.ror_table.specs.declared.fault.What.TheVariants as whats
+use Rattle.ror_table.specs.declared.fault.Kind.{Kind}
+use Rattle.ror_table.specs.declared.fault.Kind.TheVariants as unsupported
 use Rattle.ror_table.specs.declared.fault.TableKind.{TableKind}
 use Rattle.ror_table.specs.declared.fault.TableKind.TheVariants as kinds
 use Rattle.ror_session.specs.declared.session.SessionFault.{SessionFault}
@@ -40,17 +42,36 @@ what_text whats.Alternatives = codes "Alternatives"
 what_text whats.Criteria = codes "Criteria"
 what_text whats.Steps = codes "Steps"
 what_text whats.Classes = codes "Classes"
+what_text whats.Levels = codes "Levels"
+what_text whats.Statements = codes "Statements"
+what_text whats.Rows = codes "Rows"
+
+abbrev pub unsupported_text : Kind → List ℕ
+unsupported_text unsupported.Doctype = codes "Doctype"
+unsupported_text unsupported.Encoding = codes "Encoding"
+unsupported_text unsupported.Entity = codes "Entity"
+unsupported_text unsupported.Qualitative = codes "Qualitative"
+unsupported_text unsupported.Direction = codes "Direction"
+unsupported_text unsupported.Value = codes "Value"
+unsupported_text unsupported.Member = codes "Member"
+unsupported_text unsupported.Id = codes "Id"
+unsupported_text unsupported.Rank = codes "Rank"
 
 abbrev pub kind_text : TableKind → List ℕ
 kind_text kinds.Form = codes "Form"
 kind_text kinds.NotUtf8 = codes "NotUtf8"
 kind_text kinds.BadLine = codes "BadLine"
 kind_text kinds.RepeatedId = codes "RepeatedId"
+kind_text kinds.UnknownId = codes "UnknownId"
 kind_text kinds.MissingPerformance = codes "MissingPerformance"
+kind_text kinds.RepeatedPerformance = codes "RepeatedPerformance"
 kind_text kinds.BadNumber = codes "BadNumber"
 kind_text (kinds.TooMany what) = codes "TooMany " ++ what_text what
 kind_text kinds.Empty = codes "Empty"
 kind_text kinds.TooLong = codes "TooLong"
+kind_text kinds.Unclosed = codes "Unclosed"
+kind_text kinds.Mismatched = codes "Mismatched"
+kind_text (kinds.Unsupported kind) = codes "Unsupported " ++ unsupported_text kind
 
 abbrev pub session_text : SessionFault → List ℕ
 session_text sessions.NotUtf8 = codes "NotUtf8"

@@ -6,10 +6,10 @@ use Rattle.ror_io.specs.Counts.{Rose, DidNotRise, next_count, count_after}
 use Rattle.ror_io.specs.Writing.{Grew, GrewShort}
 use Rattle.ror_io.specs.declared.shelf.ShelfFault.{ShelfFault}
 use Rattle.ror_io.specs.declared.shelf.ShelfFault.TheVariants as shelf_faults
-use Rattle.ror_table.specs.Table.{DecisionTable}
 use Rattle.ror_table.specs.declared.fault.TableFault.{TableFault}
 use Rattle.ror_table.specs.declared.fault.TableError.{TableError}
 use Rattle.ror_table.specs.declared.fault.TableError.TheVariants as table_errors
+use Rattle.ror_value.specs.declared.input.Input.{Input}
 use Rattle.ror_session.specs.declared.session.Session.{Session}
 use Rattle.ror_session.specs.declared.session.SessionFault.{SessionFault}
 use Rattle.ror_session.specs.declared.session.SessionFault.TheVariants as session_faults
@@ -103,8 +103,8 @@ pub record IsOfBytes (n : ℕ) (stop : Stop) : Type 0 where
   pub write : stop ≢ stops.WriteFault
 
 -- what a step answered is what the definition reads of the bytes; want of memory says nothing
-abbrev pub ReadsTableAs : Result DecisionTable TableFault → Result DecisionTable Stop → Type 0
-ReadsTableAs reading (Ok t) = reading ≡ Ok t
+abbrev pub ReadsTableAs : Result Input TableFault → Result Input Stop → Type 0
+ReadsTableAs reading (Ok i) = reading ≡ Ok i
 ReadsTableAs reading (Err (stops.BadTable fault)) = reading ≡ Err fault
 ReadsTableAs reading (Err (stops.BadSession fault)) = ⊥
 ReadsTableAs reading (Err (stops.Rejected rejection)) = ⊥
@@ -123,18 +123,18 @@ ReadsSessionAs reading (Err stops.Memory) = Unit {0}
 
 -- what a step answered of a report's bytes: how many of its answers have a proof, and are true, and how many answers and
 -- repairs are too wide; or that the bytes are the text of no such report, and why
-abbrev pub Judges : DecisionTable → Session → List ℕ → Result Accepted Stop → Type 0
-Judges t s bytes (Ok accepted) =
-    (length bytes ≤ MOST_REPORT_BYTES) × IsAcceptedReport (bench_for t s) s.lines bytes accepted
-Judges t s bytes (Err (stops.BadTable fault)) = ⊥
-Judges t s bytes (Err (stops.BadSession fault)) = ⊥
-Judges t s bytes (Err (stops.Rejected rejection)) =
+abbrev pub Judges : Input → Session → List ℕ → Result Accepted Stop → Type 0
+Judges i s bytes (Ok accepted) =
+    (length bytes ≤ MOST_REPORT_BYTES) × IsAcceptedReport (bench_for i s) s.lines bytes accepted
+Judges i s bytes (Err (stops.BadTable fault)) = ⊥
+Judges i s bytes (Err (stops.BadSession fault)) = ⊥
+Judges i s bytes (Err (stops.Rejected rejection)) =
     ((accepted : Accepted) → length bytes ≤ MOST_REPORT_BYTES
-    → IsProvedReport (bench_for t s) s.lines bytes accepted → ⊥)
-    × IsRejectionOf (bench_for t s) s.lines bytes rejection
-Judges t s bytes (Err stops.ReadFault) = ⊥
-Judges t s bytes (Err stops.WriteFault) = ⊥
-Judges t s bytes (Err stops.Memory) = Unit {0}
+    → IsProvedReport (bench_for i s) s.lines bytes accepted → ⊥)
+    × IsRejectionOf (bench_for i s) s.lines bytes rejection
+Judges i s bytes (Err stops.ReadFault) = ⊥
+Judges i s bytes (Err stops.WriteFault) = ⊥
+Judges i s bytes (Err stops.Memory) = Unit {0}
 
 -- P of the files, where they are told and the count of faults did not rise
 abbrev pub OfToldFiles : Option Files → ℕ → ℕ → (Files → Type 0) → Type 0
@@ -142,13 +142,13 @@ OfToldFiles told before now P =
     (files : Files) → told ≡ Some files → DidNotRise before now → P files
 
 -- what a table, a session, and the counts of a proved report's answers show, or else the stop
-abbrev pub ShowsTable : InputNames → Result DecisionTable Stop → Files → Type 0
-ShowsTable names (Ok t) files = ReadsTable files names t
+abbrev pub ShowsTable : InputNames → Result Input Stop → Files → Type 0
+ShowsTable names (Ok i) files = ReadsTable files names i
 ShowsTable names (Err stop) files = ShowsStop files names stop
 
-abbrev pub ShowsSession : InputNames → DecisionTable → Result Session Stop → Files → Type 0
-ShowsSession names t (Ok s) files = ReadsSession files names t s
-ShowsSession names t (Err stop) files = ShowsStop files names stop
+abbrev pub ShowsSession : InputNames → Input → Result Session Stop → Files → Type 0
+ShowsSession names i (Ok s) files = ReadsSession files names i s
+ShowsSession names i (Err stop) files = ShowsStop files names stop
 
 abbrev pub ShowsWork : CheckNames → Result Accepted Stop → Files → Type 0
 ShowsWork names (Ok accepted) files = ProvesReport files names accepted × AnswersTrue files names

@@ -1,10 +1,10 @@
 -- What the bytes of the files lead to.
 use Rattle.ror_bench.specs.declared.report.TheConstants.{MOST_REPORT_BYTES}
-use Rattle.std.specs.Prelude.{◌≡◌, ℕ, ◌<◌, ◌≤◌, ◌⊎◌, List, [], length, Option, Some, None, Ok, Err}
+use Rattle.std.specs.Prelude.{◌≡◌, ℕ, ◌<◌, ◌≤◌, ◌⊎◌, List, length, Option, Some, None, Ok, Err}
 use Rattle.ror_io.specs.Files.{Files, file, Lacks}
-use Rattle.ror_table.specs.Table.{DecisionTable}
-use Rattle.ror_table.specs.Plain.{plain_table}
 use Rattle.ror_table.specs.declared.fault.TableFault.{TableFault}
+use Rattle.ror_value.specs.declared.input.Input.{Input}
+use Rattle.ror_xmcda.specs.Input.{input_of}
 use Rattle.ror_session.specs.declared.session.Session.{Session}
 use Rattle.ror_session.specs.declared.session.Line.{Line}
 use Rattle.ror_session.specs.declared.session.SessionFault.{SessionFault}
@@ -18,32 +18,31 @@ use Rattle.ror.specs.Words.{InputNames, CheckNames, Task, Replay, Check}
 
 -- ---- table and session
 
--- a workbench over the table at whose desks no statement stands
-abbrev pub bench_for : DecisionTable → Session → Workbench
-bench_for t s = bench_of (record { table = t; opening = [] }) (length s.desks)
+-- a workbench over the input's table, at each of whose desks the opening statements stand
+abbrev pub bench_for : Input → Session → Workbench
+bench_for i s = bench_of i (length s.desks)
 
--- the table's bytes are a table; are refused
-pub record ReadsTable (files : Files) (names : InputNames) (t : DecisionTable) : Type 0 where
+-- the table's bytes are read as a table with its opening statements; are refused
+pub record ReadsTable (files : Files) (names : InputNames) (i : Input) : Type 0 where
   pub bytes : List ℕ
   pub there : file files names.table ≡ Some bytes
-  pub read : plain_table bytes ≡ Ok t
+  pub read : input_of bytes names.best_first ≡ Ok i
 
 pub record RefusesTable (files : Files) (names : InputNames) (fault : TableFault) : Type 0 where
   pub bytes : List ℕ
   pub there : file files names.table ≡ Some bytes
-  pub refused : plain_table bytes ≡ Err fault
+  pub refused : input_of bytes names.best_first ≡ Err fault
 
 -- the table was read, and the session's bytes are a session; are refused
-pub record ReadsSession (files : Files) (names : InputNames) (t : DecisionTable)
-    (s : Session) : Type 0 where
-  pub table : ReadsTable files names t
+pub record ReadsSession (files : Files) (names : InputNames) (i : Input) (s : Session) : Type 0 where
+  pub table : ReadsTable files names i
   pub bytes : List ℕ
   pub there : file files names.session ≡ Some bytes
   pub read : session_of bytes ≡ Ok s
 
 pub record RefusesSession (files : Files) (names : InputNames) (fault : SessionFault) : Type 0 where
-  pub table : DecisionTable
-  pub table_read : ReadsTable files names table
+  pub input : Input
+  pub table_read : ReadsTable files names input
   pub bytes : List ℕ
   pub there : file files names.session ≡ Some bytes
   pub refused : session_of bytes ≡ Err fault
@@ -52,13 +51,13 @@ pub record RefusesSession (files : Files) (names : InputNames) (fault : SessionF
 -- report that is proved for them but for what is too wide: so many answers have a proof, and so many answers and repairs are
 -- too wide
 pub record ProvesReport (files : Files) (names : CheckNames) (accepted : Accepted) : Type 0 where
-  pub table : DecisionTable
+  pub input : Input
   pub session : Session
-  pub session_read : ReadsSession files names.inputs table session
+  pub session_read : ReadsSession files names.inputs input session
   pub bytes : List ℕ
   pub there : file files names.report ≡ Some bytes
   pub short : length bytes ≤ MOST_REPORT_BYTES
-  pub proved : IsProvedReport (bench_for table session) session.lines bytes accepted
+  pub proved : IsProvedReport (bench_for input session) session.lines bytes accepted
 
 -- such a report of which nothing is too wide; of which something is
 abbrev pub ProvesAll : Files → CheckNames → Accepted → Type 0
@@ -69,19 +68,19 @@ ProvesTheRest files names accepted = ProvesReport files names accepted × (0 < a
 
 -- table and session were read, and the report's bytes are too many, or the text of no report that is proved for them
 pub record IsNotProved (files : Files) (names : CheckNames) : Type 0 where
-  pub table : DecisionTable
+  pub input : Input
   pub session : Session
-  pub session_read : ReadsSession files names.inputs table session
+  pub session_read : ReadsSession files names.inputs input session
   pub bytes : List ℕ
   pub there : file files names.report ≡ Some bytes
   pub not_proved : (accepted : Accepted) → length bytes ≤ MOST_REPORT_BYTES
-      → IsProvedReport (bench_for table session) session.lines bytes accepted → ⊥
+      → IsProvedReport (bench_for input session) session.lines bytes accepted → ⊥
 
 -- table and session were read, and the report's bytes are too many
 pub record IsLongReport (files : Files) (names : CheckNames) : Type 0 where
-  pub table : DecisionTable
+  pub input : Input
   pub session : Session
-  pub session_read : ReadsSession files names.inputs table session
+  pub session_read : ReadsSession files names.inputs input session
   pub bytes : List ℕ
   pub there : file files names.report ≡ Some bytes
   pub long : MOST_REPORT_BYTES < length bytes
@@ -96,12 +95,12 @@ pub data IsRejectionOf (bench : Workbench) (lines : List Line) (bytes : List ℕ
 
 -- table and session were read, and the report is rejected for this
 pub record RejectsReport (files : Files) (names : CheckNames) (rejection : Rejection) : Type 0 where
-  pub table : DecisionTable
+  pub input : Input
   pub session : Session
-  pub session_read : ReadsSession files names.inputs table session
+  pub session_read : ReadsSession files names.inputs input session
   pub bytes : List ℕ
   pub there : file files names.report ≡ Some bytes
-  pub rejected : IsRejectionOf (bench_for table session) session.lines bytes rejection
+  pub rejected : IsRejectionOf (bench_for input session) session.lines bytes rejection
 
 -- the report is not proved, and this is why
 pub record RefutesReport (files : Files) (names : CheckNames) (rejection : Rejection) : Type 0 where
@@ -110,30 +109,30 @@ pub record RefutesReport (files : Files) (names : CheckNames) (rejection : Rejec
 
 -- every answer of the report that isn't too wide is true of all compatible value functions, and so is what its repairs drop
 pub record AnswersTrue (files : Files) (names : CheckNames) : Type 0 where
-  pub table : DecisionTable
+  pub input : Input
   pub session : Session
-  pub session_read : ReadsSession files names.inputs table session
+  pub session_read : ReadsSession files names.inputs input session
   pub bytes : List ℕ
   pub there : file files names.report ≡ Some bytes
   pub counts : Accepted
-  pub accepted : IsAcceptedReport (bench_for table session) session.lines bytes counts
+  pub accepted : IsAcceptedReport (bench_for input session) session.lines bytes counts
 
 -- the first file that is due and not there, the files before it having been read
 pub data MissesInput (files : Files) (names : InputNames) : Type 0 where
   no_table : file files names.table ≡ None → MissesInput files names
-  no_session : (t : DecisionTable) → ReadsTable files names t → file files names.session ≡ None
+  no_session : (i : Input) → ReadsTable files names i → file files names.session ≡ None
       → MissesInput files names
 
 pub data Misses (files : Files) (names : CheckNames) : Type 0 where
   no_input : MissesInput files names.inputs → Misses files names
-  no_report : (t : DecisionTable) (s : Session) → ReadsSession files names.inputs t s
+  no_report : (i : Input) (s : Session) → ReadsSession files names.inputs i s
       → file files names.report ≡ None → Misses files names
 
 -- some table and some session were read
 pub record ReadsInputs (files : Files) (names : InputNames) : Type 0 where
-  pub table : DecisionTable
+  pub input : Input
   pub session : Session
-  pub read : ReadsSession files names table session
+  pub read : ReadsSession files names input session
 
 -- ---- the files of a task
 

@@ -4,6 +4,7 @@ ghost use Rattle.std.specs.Prelude.{◌≡◌, length};
 ghost use Rattle.std.specs.List.{AllByRecursion, list_any};
 ghost use Rattle.ror_check.specs.Proof.{is_wide};
 ghost use Rattle.ror_session.specs.Sound.{IsSound};
+ghost use Rattle.ror_value.specs.Over.{IsLawfulIn};
 ghost use Rattle.ror_bench.specs.Bench.{LeavesNumbers};
 ghost use Rattle.ror_bench.specs.Reports.{NamesADesk};
 ghost use Rattle.ror.specs.States.{sink_state};
@@ -16,9 +17,7 @@ use ror_pivot::Bits;
 use ror_proof::{Answer, Verdict};
 use ror_report::{Block, Body, header, print_block, print_end};
 use ror_session::{Line, Session};
-use ror_table::Table;
-use ror_text::Items;
-use ror_value::Input;
+use ror_xmcda::Input;
 use std::alloc::Global;
 
 impl From<SinkFault> for Stop {
@@ -31,21 +30,21 @@ impl From<SinkFault> for Stop {
     }
 }
 
-/// Writes the report of a session over a table, and says whether anything is too wide. Each block is written before the
+/// Writes the report of a session over an input, and says whether anything is too wide. Each block is written before the
 /// next line is taken, and after a write that failed nothing more is.
 pub fn write_report<O: Sink>(
     alloc: Global,
-    table: Table,
+    input: Input,
     session: &Session,
     out: &mut O,
 ) -> Result<bool, Stop>
+    requires lawful { IsLawfulIn input.table input.opening }
     requires sound { IsSound session.now }
-    ensures { WritesReport table session.now (sink_state (O.written out.old) (O.faults out.old))
+    ensures { WritesReport input session.now (sink_state (O.written out.old) (O.faults out.old))
         (sink_state (O.written out.new) (O.faults out.new)) result }
 {
-    let opening = Items::from(Vec::new(alloc));
     let desks = session.desks.len() as u32;
-    let mut bench = Bench::new(alloc, Input { table, opening }, desks)?;
+    let mut bench = Bench::new(alloc, input, desks)?;
     write_all(out, header())?;
     let lines = session.lines.as_slice();
     let wide = write_blocks(alloc, &mut bench, lines, out)?;

@@ -1,6 +1,7 @@
 //! The lines that a run writes. To write them takes no memory.
 
 ghost use Rattle.std.specs.Prelude.{◌≡◌, ◌++◌};
+ghost use Rattle.ror_table.specs.declared.fault.TableKind.TheVariants.{Unsupported};
 ghost use Rattle.ror.specs.Printing.{Prints};
 ghost use Rattle.ror.specs.Statuses.{kind_text, reject_text, fault_text, repair_fault_text, reason_text, table_line, session_line, rejection_line, usage_text, status_text, accepted_text};
 
@@ -11,7 +12,7 @@ use ror_check::{CheckFault, RepairCheckFault};
 use ror_io::{Sink, SinkFault, write_all, write_pieces};
 use ror_session::SessionFault;
 use ror_system::Reject;
-use ror_table::{TableFault, TableKind, What};
+use ror_table::{Kind, TableFault, TableKind, What};
 
 /// Writes the line of the status; nothing where the work was done.
 #[tactic(auto, unfolding(crate::specs::Statuses::status_text))]
@@ -123,14 +124,38 @@ fn kind_name(kind: TableKind) -> &'static str
         TableKind::NotUtf8 => "NotUtf8",
         TableKind::BadLine => "BadLine",
         TableKind::RepeatedId => "RepeatedId",
+        TableKind::UnknownId => "UnknownId",
         TableKind::MissingPerformance => "MissingPerformance",
+        TableKind::RepeatedPerformance => "RepeatedPerformance",
         TableKind::BadNumber => "BadNumber",
         TableKind::TooMany(What::Alternatives) => "TooMany Alternatives",
         TableKind::TooMany(What::Criteria) => "TooMany Criteria",
         TableKind::TooMany(What::Steps) => "TooMany Steps",
         TableKind::TooMany(What::Classes) => "TooMany Classes",
+        TableKind::TooMany(What::Levels) => "TooMany Levels",
+        TableKind::TooMany(What::Statements) => "TooMany Statements",
+        TableKind::TooMany(What::Rows) => "TooMany Rows",
         TableKind::Empty => "Empty",
         TableKind::TooLong => "TooLong",
+        TableKind::Unclosed => "Unclosed",
+        TableKind::Mismatched => "Mismatched",
+        TableKind::Unsupported(kind) => unsupported_name(kind),
+    }
+}
+
+fn unsupported_name(kind: Kind) -> &'static str
+    ensures { result.now ≡ kind_text (Unsupported kind) }
+{
+    match kind {
+        Kind::Doctype => "Unsupported Doctype",
+        Kind::Encoding => "Unsupported Encoding",
+        Kind::Entity => "Unsupported Entity",
+        Kind::Qualitative => "Unsupported Qualitative",
+        Kind::Direction => "Unsupported Direction",
+        Kind::Value => "Unsupported Value",
+        Kind::Member => "Unsupported Member",
+        Kind::Id => "Unsupported Id",
+        Kind::Rank => "Unsupported Rank",
     }
 }
 

@@ -2,8 +2,9 @@
 
 ghost use Rattle.std.specs.Prelude.{◌≡◌, ℕ, List, IfErr, IfOk};
 ghost use Rattle.ror_io.specs.Fetching.{Fetches, IsNoLonger};
-ghost use Rattle.ror_table.specs.Table.{DecisionTable};
-ghost use Rattle.ror_table.specs.Plain.{plain_table};
+ghost use Rattle.ror_value.specs.declared.input.Input as inputs;
+ghost use Rattle.ror_value.specs.Over.{IsLawfulIn};
+ghost use Rattle.ror_xmcda.specs.Input.{input_of};
 ghost use Rattle.ror_session.specs.Session.{session_of};
 ghost use Rattle.ror_session.specs.Sound.{IsSound};
 ghost use Rattle.ror.specs.Words.{Replay, Check};
@@ -19,10 +20,9 @@ use crate::words::FileNames;
 use ror_bench::{Accepted, Bench, MOST_REPORT_BYTES, Reason, Rejection, ReportError, check_report};
 use ror_io::{Fetched, Shelf, ShelfFault, Sink};
 use ror_session::{Session, SessionFault, read_session};
-use ror_table::{Table, TableError, TableFault, TableKind, read_plain};
-use ror_text::Items;
+use ror_table::{TableError, TableFault, TableKind};
 use ror_text::lines::MOST_TEXT_BYTES;
-use ror_value::Input;
+use ror_xmcda::{Input, read_input};
 use std::alloc::{AllocError, Global};
 
 /// Why the work came to no report, or to none that is accepted.
@@ -137,9 +137,9 @@ pub fn replay_files<F: Shelf, O: Sink>(
         (inputs_of names.now) (sink_state (O.written out.old) (O.faults out.old))
         (sink_state (O.written out.new) (O.faults out.new)) result }
 {
-    let table = fetch_table(alloc, names, shelf)?;
+    let input = fetch_table(alloc, names, shelf)?;
     let session = fetch_session(alloc, names, shelf)?;
-    write_report(alloc, table, &session, out)
+    write_report(alloc, input, &session, out)
 }
 
 /// Fetches the three files in order, each once those before it were read, and gives how many answers of the report were
@@ -155,16 +155,17 @@ pub fn check_files<F: Shelf>(
         (shelf_state (F.told shelf.new) (F.faults shelf.new) (F.fetch_count shelf.new))
         (ShowsWork (check_of names.now report.now)) result }
 {
-    let table = fetch_table(alloc, names, shelf)?;
+    let input = fetch_table(alloc, names, shelf)?;
     let session = fetch_session(alloc, names, shelf)?;
-    check_fetched(alloc, names, report, shelf, table, &session)
+    check_fetched(alloc, names, report, shelf, input, &session)
 }
 
-/// Reads a table that was fetched.
-fn table_in(alloc: Global, fetched: Fetched) -> Result<Table, Stop>
+/// Reads a table that was fetched, and the statements that come with it.
+fn table_in(alloc: Global, fetched: Fetched, best_first: bool) -> Result<Input, Stop>
     ensures reads { (bytes : List ℕ) → Fetches bytes MOST_TEXT_BYTES fetched
-        → ReadsTableAs (plain_table bytes) result }
+        → ReadsTableAs (input_of bytes best_first) result }
     ensures stop { IfErr result (IsOfBytes 1) }
+    ensures lawful { IfOk result (λ input. IsLawfulIn input.table input.opening) }
 {
     let Fetched::Whole(bytes) = fetched else {
         return Err(Stop::BadTable(TableFault {
@@ -172,7 +173,7 @@ fn table_in(alloc: Global, fetched: Fetched) -> Result<Table, Stop>
             line: 0,
         }));
     };
-    Ok(read_plain(alloc, bytes.as_slice())?)
+    Ok(read_input(alloc, bytes.as_slice(), best_first)?)
 }
 
 /// Reads a session that was fetched.
@@ -191,14 +192,15 @@ fn session_in(alloc: Global, fetched: Fetched) -> Result<Session, Stop>
 /// Checks a report that was fetched, and counts its answers.
 fn answers_in(
     alloc: Global,
-    table: Table,
+    input: Input,
     session: &Session,
     fetched: Fetched,
 ) -> Result<Accepted, Stop>
+    requires lawful { IsLawfulIn input.table input.opening }
     requires sound { IsSound session.now }
     requires within { IsNoLonger MOST_REPORT_BYTES fetched }
     ensures judges { (bytes : List ℕ) → Fetches bytes MOST_REPORT_BYTES fetched
-        → Judges table session.now bytes result }
+        → Judges input session.now bytes result }
     ensures stop { IfErr result (IsOfBytes 3) }
 {
     let Fetched::Whole(bytes) = fetched else {
@@ -207,22 +209,23 @@ fn answers_in(
             reason: Reason::TooLong,
         }));
     };
-    let opening = Items::from(Vec::new(alloc));
     let desks = session.desks.len() as u32;
-    let bench = Bench::new(alloc, Input { table, opening }, desks)?;
+    let bench = Bench::new(alloc, input, desks)?;
     let lines = session.lines.as_slice();
     Ok(check_report(alloc, bench, lines, bytes.as_slice())?)
 }
 
-/// Fetches and reads the table.
-fn fetch_table<F: Shelf>(alloc: Global, names: &FileNames<'_>, shelf: &mut F) -> Result<Table, Stop>
+/// Fetches and reads the table, and the statements that come with it.
+fn fetch_table<F: Shelf>(alloc: Global, names: &FileNames<'_>, shelf: &mut F) -> Result<Input, Stop>
     ensures fetch { IsFetchOf names.now.table.now 1
         (shelf_state (F.told shelf.old) (F.faults shelf.old) (F.fetch_count shelf.old))
         (shelf_state (F.told shelf.new) (F.faults shelf.new) (F.fetch_count shelf.new)) result }
     ensures shows { OfToldFiles (F.told shelf.old) (F.faults shelf.old) (F.faults shelf.new)
         (ShowsTable (inputs_of names.now) result) }
+    ensures lawful { IfOk result (λ input. IsLawfulIn input.table input.opening) }
 {
-    table_in(alloc, shelf.fetch(alloc, names.table, MOST_TEXT_BYTES)?)
+    let fetched = shelf.fetch(alloc, names.table, MOST_TEXT_BYTES)?;
+    table_in(alloc, fetched, names.best_first)
 }
 
 /// Fetches and reads the session.
@@ -234,9 +237,9 @@ fn fetch_session<F: Shelf>(
     ensures fetch { IsFetchOf names.now.session.now 2
         (shelf_state (F.told shelf.old) (F.faults shelf.old) (F.fetch_count shelf.old))
         (shelf_state (F.told shelf.new) (F.faults shelf.new) (F.fetch_count shelf.new)) result }
-    ensures shows { (t : DecisionTable) → OfToldFiles (F.told shelf.old) (F.faults shelf.old)
-        (F.faults shelf.new) (λ files. ReadsTable files (inputs_of names.now) t
-        → ShowsSession (inputs_of names.now) t result files) }
+    ensures shows { (i : inputs.Input) → OfToldFiles (F.told shelf.old) (F.faults shelf.old)
+        (F.faults shelf.new) (λ files. ReadsTable files (inputs_of names.now) i
+        → ShowsSession (inputs_of names.now) i result files) }
     ensures sound { IfOk result IsSound }
 {
     session_in(alloc, shelf.fetch(alloc, names.session, MOST_TEXT_BYTES)?)
@@ -248,17 +251,18 @@ fn check_fetched<F: Shelf>(
     names: &FileNames<'_>,
     report: &str,
     shelf: &mut F,
-    table: Table,
+    input: Input,
     session: &Session,
 ) -> Result<Accepted, Stop>
+    requires lawful { IsLawfulIn input.table input.opening }
     requires sound { IsSound session.now }
     ensures fetch { IsFetchOf report.now 3
         (shelf_state (F.told shelf.old) (F.faults shelf.old) (F.fetch_count shelf.old))
         (shelf_state (F.told shelf.new) (F.faults shelf.new) (F.fetch_count shelf.new)) result }
     ensures shows { OfToldFiles (F.told shelf.old) (F.faults shelf.old) (F.faults shelf.new)
-        (λ files. ReadsSession files (inputs_of names.now) table session.now
+        (λ files. ReadsSession files (inputs_of names.now) input session.now
         → ShowsWork (check_of names.now report.now) result files) }
 {
     let fetched = shelf.fetch(alloc, report, MOST_REPORT_BYTES)?;
-    answers_in(alloc, table, session, fetched)
+    answers_in(alloc, input, session, fetched)
 }

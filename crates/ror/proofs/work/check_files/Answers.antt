@@ -8,30 +8,30 @@ use Rattle.ror.proofs.FileSteps.{stop_in_check}
 use Rattle.ror.proofs.Fetches.{stopped_first, stopped_second, ended_third}
 use Rattle.ror.proofs.work.check_files.Goals as goal
 
-pub returns-in_err-table : goal.returns-in_err-table
-returns-in_err-table g c =
+pub returns-in_err-input : goal.returns-in_err-input
+returns-in_err-input g c =
     let names = check_of c.args.names.now c.args.report.now in
     let p = err_from_is_err_and c.from_residual.result c.from_residual.ensures.1 in
-    let first = c.in_err-table.ensures.fetch in
+    let first = c.in_err-input.ensures.fetch in
     rw (p.1, p.2) (record {
-      work = stopped_first (Check names) _ _ _ (ShowsWork names) first (λ files is stayed. stop_in_check files names _ (c.in_err-table.ensures.shows files is stayed));
+      work = stopped_first (Check names) _ _ _ (ShowsWork names) first (λ files is stayed. stop_in_check files names _ (c.in_err-input.ensures.shows files is stayed));
     })
 
 pub returns-in_err-session : goal.returns-in_err-session
 returns-in_err-session g c =
     let names = check_of c.args.names.now c.args.report.now in
     let p = err_from_is_err_and c.from_residual-in_err-session.result c.from_residual-in_err-session.ensures.1 in
-    let first = c.in_ok-table.ensures.fetch in
+    let first = c.in_ok-input.ensures.fetch in
     let second = c.in_err-session.ensures.fetch in
     rw (p.1, p.2) (record {
       work = stopped_second (Check names) _ _ _ _ _ (ShowsWork names) first second (λ files is stayed.
-          stop_in_check files names _ (c.in_err-session.ensures.shows _ files (first.told_stays ∙ is) (DidNotRise-second _ _ _ first.never_falls second.never_falls stayed) (c.in_ok-table.ensures.shows files is (DidNotRise-first _ _ _ first.never_falls second.never_falls stayed))));
+          stop_in_check files names _ (c.in_err-session.ensures.shows _ files (first.told_stays ∙ is) (DidNotRise-second _ _ _ first.never_falls second.never_falls stayed) (c.in_ok-input.ensures.shows files is (DidNotRise-first _ _ _ first.never_falls second.never_falls stayed))));
     })
 
 pub returns : goal.returns
 returns g c =
     let names = check_of c.args.names.now c.args.report.now in
-    let first = c.in_ok-table.ensures.fetch in
+    let first = c.in_ok-input.ensures.fetch in
     let second = c.in_ok-session.ensures.fetch in
     let third = c.check_fetched.ensures.fetch in
     let up = first.never_falls in
@@ -39,7 +39,7 @@ returns g c =
     record {
       work = ended_third names _ _ _ _ _ _ _ first second third (λ files is stayed.
           let still = DidNotRise-first _ _ _ (omega (arith, up, more)) third.never_falls stayed in
-          let table = c.in_ok-table.ensures.shows files is (DidNotRise-first _ _ _ up more still) in
+          let table = c.in_ok-input.ensures.shows files is (DidNotRise-first _ _ _ up more still) in
           let told = first.told_stays ∙ is in
           c.check_fetched.ensures.shows files (second.told_stays ∙ told) (DidNotRise-second _ _ _ (omega (arith, up, more)) third.never_falls stayed) (c.in_ok-session.ensures.shows _ files told (DidNotRise-second _ _ _ up more still) table));
     }

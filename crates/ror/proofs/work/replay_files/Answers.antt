@@ -8,13 +8,13 @@ use Rattle.ror.proofs.FileSteps.{stop_in_replay}
 use Rattle.ror.proofs.Fetches.{stopped_first, stopped_second, replayed, nothing_written, writes_shown, writes_of_files}
 use Rattle.ror.proofs.work.replay_files.Goals as goal
 
-pub returns-in_err-table : goal.returns-in_err-table
-returns-in_err-table g c =
+pub returns-in_err-input : goal.returns-in_err-input
+returns-in_err-input g c =
     let names = inputs_of c.args.names.now in
     let p = err_from_is_err_and c.from_residual.result c.from_residual.ensures.1 in
-    let first = c.in_err-table.ensures.fetch in
+    let first = c.in_err-input.ensures.fetch in
     rw (p.1, p.2) (record {
-      work = stopped_first (Replay names) _ _ _ (ShowsReplay names) first (λ files is stayed. stop_in_replay files names _ (c.in_err-table.ensures.shows files is stayed));
+      work = stopped_first (Replay names) _ _ _ (ShowsReplay names) first (λ files is stayed. stop_in_replay files names _ (c.in_err-input.ensures.shows files is stayed));
       written = nothing_written _ _ _ names _ _ _ _ _ _ first;
     })
 
@@ -22,25 +22,25 @@ pub returns-in_err-session : goal.returns-in_err-session
 returns-in_err-session g c =
     let names = inputs_of c.args.names.now in
     let p = err_from_is_err_and c.from_residual-in_err-session.result c.from_residual-in_err-session.ensures.1 in
-    let first = c.in_ok-table.ensures.fetch in
+    let first = c.in_ok-input.ensures.fetch in
     let second = c.in_err-session.ensures.fetch in
     rw (p.1, p.2) (record {
       work = stopped_second (Replay names) _ _ _ _ _ (ShowsReplay names) first second (λ files is stayed.
-          stop_in_replay files names _ (c.in_err-session.ensures.shows _ files (first.told_stays ∙ is) (DidNotRise-second _ _ _ first.never_falls second.never_falls stayed) (c.in_ok-table.ensures.shows files is (DidNotRise-first _ _ _ first.never_falls second.never_falls stayed))));
+          stop_in_replay files names _ (c.in_err-session.ensures.shows _ files (first.told_stays ∙ is) (DidNotRise-second _ _ _ first.never_falls second.never_falls stayed) (c.in_ok-input.ensures.shows files is (DidNotRise-first _ _ _ first.never_falls second.never_falls stayed))));
       written = nothing_written _ _ _ names _ _ _ _ _ _ second;
     })
 
 pub returns : goal.returns
 returns g c =
     let names = inputs_of c.args.names.now in
-    let first = c.in_ok-table.ensures.fetch in
+    let first = c.in_ok-input.ensures.fetch in
     let second = c.in_ok-session.ensures.fetch in
-    let t = c.in_ok-table.table in
+    let i = c.in_ok-input.input in
     let s = c.in_ok-session.session in
-    let read : AreOfFiles (g.F.Shelf.told c.args.shelf.now) (g.F.Shelf.faults c.args.shelf.now) (g.F.Shelf.faults c.fetch_session.new.shelf) names t s = λ files is stayed.
-    let table = c.in_ok-table.ensures.shows files is (DidNotRise-first _ _ _ first.never_falls second.never_falls stayed) in
+    let read : AreOfFiles (g.F.Shelf.told c.args.shelf.now) (g.F.Shelf.faults c.args.shelf.now) (g.F.Shelf.faults c.fetch_session.new.shelf) names i s = λ files is stayed.
+    let table = c.in_ok-input.ensures.shows files is (DidNotRise-first _ _ _ first.never_falls second.never_falls stayed) in
     c.in_ok-session.ensures.shows _ files (first.told_stays ∙ is) (DidNotRise-second _ _ _ first.never_falls second.never_falls stayed) table in
     record {
-      work = replayed names _ _ _ _ _ t s _ _ _ first second c.write_report.ensures (λ files is stayed. writes_shown t s _ _ names files _ c.write_report.ensures (read files is stayed));
-      written = writes_of_files t s _ _ _ _ _ names _ read c.write_report.ensures;
+      work = replayed names _ _ _ _ _ i s _ _ _ first second c.write_report.ensures (λ files is stayed. writes_shown i s _ _ names files _ c.write_report.ensures (read files is stayed));
+      written = writes_of_files i s _ _ _ _ _ names _ read c.write_report.ensures;
     }
