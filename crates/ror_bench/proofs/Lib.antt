@@ -15,3 +15,5 @@ pub mod RepairLemmas
 pub mod ApartLemmas
 pub mod AgreeLemmas
 pub mod UniqueLemmas
+pub mod GeneratedSession
+pub mod GeneratedTable

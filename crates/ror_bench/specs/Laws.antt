@@ -1,8 +1,14 @@
 -- Laws of blocks and reports: what is proved is true.
-use Rattle.std.specs.Prelude.{◌≡◌, ℕ, ◌≤◌, List, length}
+use Rattle.std.specs.Prelude.{◌≡◌, ℕ, ◌≤◌, List, length, ℤ, ◌<ℤ◌, ◌≤ℤ◌, Ok}
+use Rattle.std.specs.List.{AllByRecursion}
+use Rattle.ror_statement.specs.declared.statement.Statement.{Statement}
+use Rattle.ror_statement.specs.declared.statement.Statement.TheVariants.{Prefer, AtLeast}
 use Rattle.ror_table.specs.Table.{DecisionTable, IsTable}
 use Rattle.ror_value.specs.Over.{IsLawfulIn}
 use Rattle.ror_session.specs.declared.session.Line.{Line}
+use Rattle.ror_session.specs.declared.session.Command.{Command}
+use Rattle.ror_session.specs.declared.session.Command.TheVariants.{State}
+use Rattle.ror_session.specs.Sound.{IsSound}
 use Rattle.ror_report.specs.declared.block.Block.{Block}
 use Rattle.ror_history.specs.History.{Revisions, statements_of}
 use Rattle.ror_bench.specs.Bench.{Workbench, IsLawfulBench}
@@ -11,6 +17,9 @@ use Rattle.ror_bench.specs.declared.report.Accepted.{Accepted}
 use Rattle.ror_bench.specs.declared.report.Rejection.{Rejection}
 use Rattle.ror_bench.specs.declared.names.TheConstants.{MOST_RELATED}
 use Rattle.ror_bench.specs.declared.report.TheConstants.{MOST_REPORT_BYTES}
+use Rattle.ror_bench.specs.declared.generated.Generated.{Generated}
+use Rattle.ror_bench.specs.Generated.{generated, generated_table, hidden_value}
+use Rattle.ror_bench.specs.Names.{statement_of}
 use Rattle.ror_bench.specs.Blocks.{IsProvedBlock, IsTrueBlock}
 use Rattle.ror_bench.specs.Reports.{IsProvedReport, IsRejectedFor, AreTrueBlocks}
 
@@ -55,3 +64,32 @@ OneRejection = (bench : Workbench) (lines : List Line) (bytes : List ℕ) (first
 -- what the limits are: of how many alternatives all pairs are asked of, and how long a report is
 abbrev pub LimitsAre : Type 0
 LimitsAre = (MOST_RELATED ≡ 100) × (MOST_REPORT_BYTES ≡ 268435456)
+
+-- ---- the generated input
+
+-- whatever number generates it: the table is one, what comes with it may stand at a desk, and the session is as one that is read
+pub record IsLawfulInput (g : Generated) : Type 0 where
+  pub table : IsTable g.input.table
+  pub opening : IsLawfulIn g.input.table g.input.opening
+  pub session : IsSound g.session
+
+abbrev pub GeneratedIsLawful : Type 0
+GeneratedIsLawful = (number : ℕ) → IsLawfulInput (generated number)
+
+-- values of alternatives meet a statement that one is worth more than another, or at least as much
+abbrev pub IsMetBy : (ℕ → ℤ) → Statement → Type 0
+IsMetBy value (Prefer a b) = value b <ℤ value a
+IsMetBy value (AtLeast a b) = value b ≤ℤ value a
+IsMetBy value _ = ⊥
+
+-- what a command states names alternatives of the table, and the values meet it
+abbrev pub IsMet : DecisionTable → (ℕ → ℤ) → Command → Type 0
+IsMet t value (State named) =
+    (s : Statement) × (statement_of t named ≡ Ok s) × IsMetBy value s
+IsMet t value _ = Unit {0}
+
+-- the hidden value meets whatever the session states
+abbrev pub HiddenValueMeets : Type 0
+HiddenValueMeets = (number : ℕ)
+    → AllByRecursion (λ line. IsMet (generated_table number) (hidden_value (generated_table number)) line.command)
+    (generated number).session.lines

@@ -3,6 +3,7 @@ pub mod Bench
 pub mod Blocks
 pub mod Desks
 pub mod Faults
+pub mod Generated
 pub mod Laws
 pub mod Lines
 pub mod Names

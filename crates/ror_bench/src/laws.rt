@@ -1,6 +1,6 @@
 //! Each function here states one law, for all benches, lines, blocks and reports, and does nothing.
 
-ghost use Rattle.ror_bench.specs.Laws.{ProvedBlocksAreTrue, ProvedReportsAreTrue, RejectedIsNotProved, ReplayedIsProved, OneCount, OneRejection, LimitsAre};
+ghost use Rattle.ror_bench.specs.Laws.{ProvedBlocksAreTrue, ProvedReportsAreTrue, RejectedIsNotProved, ReplayedIsProved, OneCount, OneRejection, LimitsAre, GeneratedIsLawful, HiddenValueMeets};
 ghost use Rattle.ror_bench.specs.Desks.{DesksStandApart, ProvedDeskByDesk, GivenDeskByDesk, DesksAgree, NarrowConcludes, NarrowRepairs};
 
 /// The answers of a proved block are true of all value functions that are compatible with what stands at its desk, and what its
@@ -50,4 +50,14 @@ pub fn one_rejection()
 /// All pairs are asked of at most 100 alternatives, and a report has at most 268,435,456 bytes.
 pub fn limits()
     ensures { LimitsAre }
+{}
+
+/// What a number generates is a table, with no statements that come with it, and a session as one that is read.
+pub fn generated_is_lawful()
+    ensures { GeneratedIsLawful }
+{}
+
+/// The hidden value by which a generated session compares alternatives meets all that it states.
+pub fn hidden_value_meets()
+    ensures { HiddenValueMeets }
 {}

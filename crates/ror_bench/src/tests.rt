@@ -4,13 +4,14 @@ ghost use Rattle.std.specs.Prelude.{◌≡◌, ◌<◌, [], length, replicate, I
 ghost use Rattle.ror_session.specs.Sound.{IsSound};
 
 use crate::{
-    Accepted, Bench, MOST_REPORT_BYTES, Passed, Reason, ReportError, check_report, statement_of,
+    Accepted, Bench, MOST_REPORT_BYTES, Passed, Reason, ReportError, check_report, generate_input,
+    statement_of,
 };
 use ror_pivot::Bits;
 use ror_report::{Block, Body, LineFault};
-use ror_session::{Command, Line, Session, read_session};
+use ror_session::{Asked, Command, Line, Session, read_session};
 use ror_statement::Statement;
-use ror_table::read_plain;
+use ror_table::{Direction, Table, read_plain};
 use ror_text::Items;
 use ror_value::Input;
 use std::alloc::Global;
@@ -170,5 +171,58 @@ fn names_are_those_of_the_table(rt: HostRuntime) -> Result<(), Fail> {
             ]
             .as_slice()
     );
+    Ok(())
+}
+
+const SEVEN: &[u8] =
+    b"prefer x18 x02\nprefer x23 x09\nprefer x01 x17\nprefer x08 x23\nprefer x03 x18\nprefer x06 x24\nprefer x21 x11\nprefer x13 x06\nprefer x12 x24\nprefer x14 x13\nprefer x15 x03\nprefer x10 x12\nask consistent\nask relation\nundo\nundo\nundo\nask relation\n";
+
+/// Whether two lines have one number and say the same of the table's alternatives.
+fn is_same_line(table: &Table, one: &Line, other: &Line) -> bool {
+    let same = match (&one.command, &other.command) {
+        (Command::State(first), Command::State(second)) => {
+            statement_of(table, first) == statement_of(table, second)
+        }
+        (Command::Ask(Asked::Consistent), Command::Ask(Asked::Consistent)) => true,
+        (Command::Ask(Asked::Relation), Command::Ask(Asked::Relation)) => true,
+        (Command::Undo, Command::Undo) => true,
+        _ => false,
+    };
+    same && one.number == other.number && one.desk == other.desk
+}
+
+// The seeds after 7 are 1,282,168,116 and 642,666,333. Divided by 65,536 they are 19,564 and 9,806, which draw 64 and 6.
+#[test]
+fn seven_generates_its_table_and_session(rt: HostRuntime) -> Result<(), Fail> {
+    let generated = generate_input(rt.alloc(), 7)?;
+    let table = &generated.input.table;
+    let last = table.find_alternative("x24").ok_or("there is x24")?;
+    assert_eq!(rt; last, 23);
+    for (k, performance) in [164, 6, 68, 74].into_iter().enumerate() {
+        if table.alternatives() > 0 && k < table.criteria() {
+            assert_eq!(rt; table.performance(0, k), performance);
+        }
+    }
+    for (name, k) in [("k1", 0), ("k2", 1), ("k3", 2), ("k4", 3)] {
+        assert_eq!(rt; table.find_criterion(name), Some(k));
+        if k < table.criteria() {
+            assert_eq!(rt; table.direction(k) == Direction::Max, k == 0 || k == 2);
+        }
+    }
+    assert!(rt; generated.input.opening.is_empty());
+    assert_eq!(rt; generated.session.desks.len(), 1);
+    let expected = read_session(rt.alloc(), SEVEN)
+        .ok()
+        .ok_or("the text is a session")?;
+    assert_eq!(rt; generated.session.lines.len(), 18);
+    for (one, other) in generated
+        .session
+        .lines
+        .as_slice()
+        .iter()
+        .zip(expected.lines.as_slice())
+    {
+        assert!(rt; is_same_line(table, one, other));
+    }
     Ok(())
 }
