@@ -2,7 +2,7 @@
 use Rattle.std.proofs.Common.{◌≡◌, ◌≢◌, ℕ, eqb, ◌<◌, ◌≤◌, ◌∙◌, ◌⊎◌, List, Option, Some, None, Result, Ok, Err, IfErr, IsErr, refl, sym, subst, inl, inr, arith}
 use Rattle.std.specs.Prelude.{◌==◌, if◌then◌else◌}
 use Rattle.std.proofs.lemmas.Bool.{cases_Bool, eqb-true, eqb-false, cond-true, cond-false}
-use Rattle.ror_io.specs.Files.{Files, Lacks}
+use Rattle.ror_io.specs.Files.{Files}
 use Rattle.ror_io.specs.Counts.{Rose}
 use Rattle.ror_bench.specs.declared.report.Accepted.{Accepted}
 use Rattle.ror.specs.declared.status.Status.{Status}
@@ -13,7 +13,7 @@ use Rattle.ror.specs.Words.{CheckNames, Task, Check, task_of}
 use Rattle.ror.specs.States.{ShelfState, SinkState}
 use Rattle.ror.specs.Stops.{status_at, ShowsCheckStop, OfToldFiles, ShowsWork, Concludes, IsPure, MayStop, WorksAfter, IsWorkOn}
 use Rattle.ror.specs.Statuses.{status_of}
-use Rattle.ror.specs.Work.{inputs_in, LacksOne}
+use Rattle.ror.specs.Work.{LacksOne, LacksTableOf}
 use Rattle.ror.specs.Running.{ShowsChecked, ShowsStatus, ShowsFiles, DecidesStatus, CountsAnswers, WritesLine, Writes, HidesNoMemory, files_named, EndsAfter, IsRun}
 use Rattle.ror.proofs.Deciding.{Decides-from_Shows}
 
@@ -182,8 +182,8 @@ concluded_run words names before now old new outcome status is work ends =
       lacking = λ lacks. done_ok _ _ _ _ outcome status ends (work.lacking (let same : lacks.0 ≡ Check names = let p = lacks.1 in cc in subst (λ (x : Task). LacksOne before.told x) same lacks.2));
       no_table = λ lacks.
           let same : lacks.0 ≡ Check names = let p = lacks.1 in cc in
-          let at_once = work.no_table (subst (λ (x : Task). Lacks before.told (inputs_in x).table) same lacks.2) in
-          (stop_read _ _ _ _ outcome status ends at_once.0, at_once.1);
+          let at_once = work.no_table (subst (LacksTableOf before.told) same lacks.2) in
+          inl (stop_read _ _ _ _ outcome status ends at_once.0, at_once.1);
       pure = hides _ _ _ _ outcome status ends work.pure;
       rejects = λ rejected. (names, is);
       shows = shows;

@@ -20,9 +20,9 @@ use Rattle.ror_bench.specs.declared.report.Reason.TheVariants.{TooLong}
 use Rattle.ror_session.specs.declared.session.Line.{Line}
 use Rattle.ror.specs.declared.status.Status.{Status}
 use Rattle.ror.specs.declared.status.Status.TheVariants as statuses
-use Rattle.ror.specs.Words.{InputNames, CheckNames, Task, Replay, Check}
+use Rattle.ror.specs.Words.{InputNames, CheckNames, Task, Replay, Check, Generate}
 use Rattle.ror.specs.Work.{bench_for, ReadsTable, RefusesTable, ReadsSession, RefusesSession, ProvesReport, ProvesAll, ProvesTheRest, IsNotProved, IsLongReport, IsRejectionOf, too_long, at_fault, RejectsReport, MissesInput, no_table, no_session, Misses, no_input, no_report, ReadsInputs}
-use Rattle.ror.specs.Running.{IsDone, ShowsChecked, ShowsReplayed, ShowsStatus, DecidesInputs, DecidesCheck, DecidesReplay, Decides}
+use Rattle.ror.specs.Running.{IsDone, ShowsChecked, ShowsReplayed, ShowsStatus, DecidesInputs, DecidesCheck, DecidesReplay, EndsGenerated, Decides}
 
 -- one input is read, or none
 one_input : (files : Files) (names : InputNames) (i j : Input) → ReadsTable files names i → ReadsTable files names j → i ≡ j
@@ -295,7 +295,21 @@ decides_replayed files names statuses.ReadFault shows other =
 decides_replayed files names statuses.WriteFault shows other = replay_done files names statuses.WriteFault shows (inr refl)
 decides_replayed files names statuses.Memory shows other = absurd (other refl)
 
+-- ---- a summary
+
+decides_generated : (status : Status) → EndsGenerated status → status ≢ statuses.Memory → IsDone status ⊎ (status ≡ statuses.WriteFault)
+decides_generated statuses.Done ends other = inl (inl refl)
+decides_generated statuses.DoneWide ends other = inl (inr refl)
+decides_generated statuses.Usage ends other = absurd ends
+decides_generated (statuses.BadTable fault) ends other = absurd ends
+decides_generated (statuses.BadSession fault) ends other = absurd ends
+decides_generated (statuses.Rejected rejection) ends other = absurd ends
+decides_generated statuses.ReadFault ends other = absurd ends
+decides_generated statuses.WriteFault ends other = inr refl
+decides_generated statuses.Memory ends other = absurd (other refl)
+
 -- where a status other than want of memory shows what the files are like, they decide it
 pub Decides-from_Shows : (files : Files) (task : Task) (status : Status) → ShowsStatus files task status → status ≢ statuses.Memory → Decides files task status
-Decides-from_Shows files (Replay names) status shows other = decides_replayed files names status shows other
+Decides-from_Shows files (Replay names bits) status shows other = decides_replayed files names status shows other
 Decides-from_Shows files (Check names) status shows other = decides_checked files names status shows other
+Decides-from_Shows files (Generate number) status shows other = decides_generated status shows other

@@ -9,8 +9,9 @@ use Rattle.ror_bench.specs.declared.report.Accepted.{Accepted}
 use Rattle.ror.specs.declared.work.Stop.{Stop}
 use Rattle.ror.specs.declared.work.Stop.TheVariants as stops
 use Rattle.ror.specs.States.{ShelfState, SinkState}
-use Rattle.ror.specs.Words.{InputNames, CheckNames, Task, Replay, Check}
-use Rattle.ror.specs.Work.{ReadsSession, file_count, inputs_in, LacksInput, LacksOne}
+use Rattle.ror_pivot.specs.declared.note.Bits.{Bits}
+use Rattle.ror.specs.Words.{InputNames, CheckNames, Task, Replay, Check, Generate}
+use Rattle.ror.specs.Work.{ReadsSession, file_count, LacksInput, LacksOne, LacksTableOf}
 use Rattle.ror.specs.Stops.{StopsAfter, WorksAfter, IsFetchOf, IsWorkOn, IsPure, MayStop, OfToldFiles, ShowsWork}
 use Rattle.ror.specs.Replaying.{WritesReport, AreOfFiles, WritesOfFiles, ShowsReplay}
 
@@ -24,63 +25,79 @@ never_rose name place a b x fetch =
 lacks_not : {A : Type 0} (name : List ℕ) (place : ℕ) (a b : ShelfState) (x : A) → IsFetchOf name place a b (Ok x) → Lacks a.told name → ⊥
 lacks_not name place a b x fetch lacks = let e = fetch.missing lacks in cc
 
--- what a task lacks where it lacks a table or a session
-lacks_input : (told : Option Files) (task : Task) → LacksInput told (inputs_in task) → LacksOne told task
-lacks_input told (Replay names) lacks = lacks
-lacks_input told (Check names) lacks = inl lacks
+-- the task has a table and a session, with these names
+abbrev pub IsOver : Task → InputNames → Type 0
+IsOver (Replay inputs bits) names = inputs ≡ names
+IsOver (Check checked) names = checked.inputs ≡ names
+IsOver (Generate number) names = ⊥
 
-two_files : (task : Task) → 2 ≤ file_count task
-two_files (Replay names) = omega arith
-two_files (Check names) = omega arith
+-- what a task lacks where it lacks a table or a session
+lacks_input : (told : Option Files) (task : Task) (names : InputNames) → IsOver task names → LacksInput told names → LacksOne told task
+lacks_input told (Replay inputs bits) names over lacks = subst (LacksInput told) (sym over) lacks
+lacks_input told (Check checked) names over lacks = inl (subst (LacksInput told) (sym over) lacks)
+lacks_input told (Generate number) names over lacks = absurd over
+
+lacks_table : (told : Option Files) (task : Task) (names : InputNames) → IsOver task names → LacksTableOf told task → Lacks told names.table
+lacks_table told (Replay inputs bits) names over lacks = subst (λ (n : InputNames). Lacks told n.table) over lacks
+lacks_table told (Check checked) names over lacks = subst (λ (n : InputNames). Lacks told n.table) over lacks
+lacks_table told (Generate number) names over lacks = absurd over
+
+two_files : (task : Task) (names : InputNames) → IsOver task names → 2 ≤ file_count task
+two_files (Replay inputs bits) names over = omega arith
+two_files (Check checked) names over = omega arith
+two_files (Generate number) names over = absurd over
 
 -- a stop at the table or the session is one of either task
 early_stop : (task : Task) (e : Stop) (n : ℕ) → n < 3 → StopsAfter e n → (e ≡ stops.WriteFault → ⊥) → MayStop task e
-early_stop (Replay names) (stops.BadTable fault) n few after never = tt
+early_stop (Replay names bits) (stops.BadTable fault) n few after never = tt
 early_stop (Check names) (stops.BadTable fault) n few after never = tt
-early_stop (Replay names) (stops.BadSession fault) n few after never = tt
+early_stop (Generate number) (stops.BadTable fault) n few after never = tt
+early_stop (Replay names bits) (stops.BadSession fault) n few after never = tt
 early_stop (Check names) (stops.BadSession fault) n few after never = tt
+early_stop (Generate number) (stops.BadSession fault) n few after never = tt
 early_stop task (stops.Rejected rejection) n few after never = absurd (omega (arith, few, after))
-early_stop (Replay names) stops.ReadFault n few after never = tt
+early_stop (Replay names bits) stops.ReadFault n few after never = tt
 early_stop (Check names) stops.ReadFault n few after never = tt
+early_stop (Generate number) stops.ReadFault n few after never = tt
 early_stop task stops.WriteFault n few after never = absurd (never refl)
-early_stop (Replay names) stops.Memory n few after never = tt
+early_stop (Replay names bits) stops.Memory n few after never = tt
 early_stop (Check names) stops.Memory n few after never = tt
+early_stop (Generate number) stops.Memory n few after never = tt
 
 -- the work stops at the table
-pub stopped_first : {A C : Type 0} (task : Task) (a b : ShelfState) (e : Stop) (Shows : Result C Stop → Files → Type 0) → IsFetchOf {A = A} (inputs_in task).table 1 a b (Err e) → OfToldFiles a.told a.faults b.faults (Shows (Err e)) → IsWorkOn task a b Shows (Err e)
-stopped_first {A} {C} task a b e Shows first shows =
+pub stopped_first : {A C : Type 0} (task : Task) (names : InputNames) (a b : ShelfState) (e : Stop) (Shows : Result C Stop → Files → Type 0) → IsOver task names → IsFetchOf {A = A} names.table 1 a b (Err e) → OfToldFiles a.told a.faults b.faults (Shows (Err e)) → IsWorkOn task a b Shows (Err e)
+stopped_first {A} {C} task names a b e Shows over first shows =
     record {
       never_falls = first.never_falls;
       told_stays = first.told_stays;
-      counted = (1, (let few = two_files task in omega (arith, few), first.stop), first.counted);
+      counted = (1, (let few = two_files task names over in omega (arith, few), first.stop), first.counted);
       read_fault = λ is. elim (first.read_fault (let p = is in cc)) [
         | inl rose ↦ inl rose
-        | inr lacks ↦ inr (lacks_input a.told task (inl lacks))
+        | inr lacks ↦ inr (lacks_input a.told task names over (inl lacks))
       ];
       rose = λ rose. let p = first.rose rose in cc;
       lacking = λ lacks. refl;
-      no_table = λ lacks. (let p = first.missing lacks in cc, first.counted);
+      no_table = λ lacks. (let p = first.missing (lacks_table a.told task names over lacks) in cc, first.counted);
       pure = first.pure;
       may_stop = early_stop task e 1 (omega arith) first.stop (λ is. first.no_write (let p = is in cc));
       shows = shows;
     }
 
 -- the table was read, and the work stops at the session
-pub stopped_second : {A B C : Type 0} (task : Task) (a b d : ShelfState) (x : A) (e : Stop) (Shows : Result C Stop → Files → Type 0) → IsFetchOf (inputs_in task).table 1 a b (Ok x) → IsFetchOf {A = B} (inputs_in task).session 2 b d (Err e) → OfToldFiles a.told a.faults d.faults (Shows (Err e)) → IsWorkOn task a d Shows (Err e)
-stopped_second {A} {B} {C} task a b d x e Shows first second shows =
-    let names = inputs_in task in
+pub stopped_second : {A B C : Type 0} (task : Task) (names : InputNames) (a b d : ShelfState) (x : A) (e : Stop) (Shows : Result C Stop → Files → Type 0) → IsOver task names → IsFetchOf names.table 1 a b (Ok x) → IsFetchOf {A = B} names.session 2 b d (Err e) → OfToldFiles a.told a.faults d.faults (Shows (Err e)) → IsWorkOn task a d Shows (Err e)
+stopped_second {A} {B} {C} task names a b d x e Shows over first second shows =
     let same = never_rose names.table 1 a b x first in
     record {
       never_falls = let up = second.never_falls in omega (arith, same, up);
       told_stays = second.told_stays ∙ first.told_stays;
-      counted = (2, (two_files task, second.stop), second.counted ∙ ap next_count first.counted);
+      counted = (2, (two_files task names over, second.stop), second.counted ∙ ap next_count first.counted);
       read_fault = λ is. elim (second.read_fault (let p = is in cc)) [
         | inl rose ↦ inl (then-Rose a.faults b.faults d.faults first.never_falls rose)
-        | inr lacks ↦ inr (lacks_input a.told task (inr (subst (λ (t : Option Files). Lacks t names.session) first.told_stays lacks)))
+        | inr lacks ↦ inr (lacks_input a.told task names over (inr (subst (λ (t : Option Files). Lacks t names.session) first.told_stays lacks)))
       ];
       rose = λ rose. let p = second.rose (omega (arith, same, rose)) in cc;
       lacking = λ lacks. refl;
-      no_table = λ lacks. absurd (lacks_not names.table 1 a b x first lacks);
+      no_table = λ lacks. absurd (lacks_not names.table 1 a b x first (lacks_table a.told task names over lacks));
       pure = second.pure;
       may_stop = early_stop task e 2 (omega arith) second.stop (λ is. second.no_write (let p = is in cc));
       shows = shows;
@@ -137,18 +154,18 @@ ended_third {A} {B} names a b d f x y r first second third shows =
 
 -- ---- a replay
 
-module _ (i : Input) (s : Session) (old new : SinkState) where
+module _ (most : ℕ) (i : Input) (s : Session) (old new : SinkState) where
   -- the writing of a report stops nowhere else
-  writes_after : (names : InputNames) (r : Result Bool Stop) → WritesReport i s old new r → WorksAfter (Replay names) r 2
-  writes_after names (Ok wide) writes = refl
-  writes_after names (Err (stops.BadTable fault)) writes = absurd writes
-  writes_after names (Err (stops.BadSession fault)) writes = absurd writes
-  writes_after names (Err (stops.Rejected rejection)) writes = absurd writes
-  writes_after names (Err stops.ReadFault) writes = absurd writes
-  writes_after names (Err stops.WriteFault) writes = (omega arith, refl)
-  writes_after names (Err stops.Memory) writes = (omega arith, tt)
+  writes_after : (names : InputNames) (bits : Bits) (r : Result Bool Stop) → WritesReport most i s old new r → WorksAfter (Replay names bits) r 2
+  writes_after names bits (Ok wide) writes = refl
+  writes_after names bits (Err (stops.BadTable fault)) writes = absurd writes
+  writes_after names bits (Err (stops.BadSession fault)) writes = absurd writes
+  writes_after names bits (Err (stops.Rejected rejection)) writes = absurd writes
+  writes_after names bits (Err stops.ReadFault) writes = absurd writes
+  writes_after names bits (Err stops.WriteFault) writes = (omega arith, refl)
+  writes_after names bits (Err stops.Memory) writes = (omega arith, tt)
 
-  writes_purely : (r : Result Bool Stop) → WritesReport i s old new r → IfErr r IsPure
+  writes_purely : (r : Result Bool Stop) → WritesReport most i s old new r → IfErr r IsPure
   writes_purely (Ok wide) writes = tt
   writes_purely (Err (stops.BadTable fault)) writes = absurd writes
   writes_purely (Err (stops.BadSession fault)) writes = absurd writes
@@ -157,19 +174,19 @@ module _ (i : Input) (s : Session) (old new : SinkState) where
   writes_purely (Err stops.WriteFault) writes = tt
   writes_purely (Err stops.Memory) writes = tt
 
-  writes_may_stop : (names : InputNames) (r : Result Bool Stop) → WritesReport i s old new r → IfErr r (MayStop (Replay names))
-  writes_may_stop names (Ok wide) writes = tt
-  writes_may_stop names (Err (stops.BadTable fault)) writes = tt
-  writes_may_stop names (Err (stops.BadSession fault)) writes = tt
-  writes_may_stop names (Err (stops.Rejected rejection)) writes = absurd writes
-  writes_may_stop names (Err stops.ReadFault) writes = tt
-  writes_may_stop names (Err stops.WriteFault) writes = tt
-  writes_may_stop names (Err stops.Memory) writes = tt
+  writes_may_stop : (names : InputNames) (bits : Bits) (r : Result Bool Stop) → WritesReport most i s old new r → IfErr r (MayStop (Replay names bits))
+  writes_may_stop names bits (Ok wide) writes = tt
+  writes_may_stop names bits (Err (stops.BadTable fault)) writes = tt
+  writes_may_stop names bits (Err (stops.BadSession fault)) writes = tt
+  writes_may_stop names bits (Err (stops.Rejected rejection)) writes = absurd writes
+  writes_may_stop names bits (Err stops.ReadFault) writes = tt
+  writes_may_stop names bits (Err stops.WriteFault) writes = tt
+  writes_may_stop names bits (Err stops.Memory) writes = tt
 
-  writes_unread : (r : Result Bool Stop) → WritesReport i s old new r → r ≡ Err stops.ReadFault → ⊥
-  writes_unread r writes is = subst (WritesReport i s old new) is writes
+  writes_unread : (r : Result Bool Stop) → WritesReport most i s old new r → r ≡ Err stops.ReadFault → ⊥
+  writes_unread r writes is = subst (WritesReport most i s old new) is writes
 
-  pub writes_shown : (names : InputNames) (files : Files) (r : Result Bool Stop) → WritesReport i s old new r → ReadsSession files names i s → ShowsReplay names r files
+  pub writes_shown : (names : InputNames) (files : Files) (r : Result Bool Stop) → WritesReport most i s old new r → ReadsSession files names i s → ShowsReplay names r files
   writes_shown names files (Ok wide) writes read = record { input = i; session = s; read = read }
   writes_shown names files (Err (stops.BadTable fault)) writes read = absurd writes
   writes_shown names files (Err (stops.BadSession fault)) writes read = absurd writes
@@ -178,7 +195,7 @@ module _ (i : Input) (s : Session) (old new : SinkState) where
   writes_shown names files (Err stops.WriteFault) writes read = record { input = i; session = s; read = read }
   writes_shown names files (Err stops.Memory) writes read = tt
 
-  pub writes_of_files : (told : Option Files) (before now : ℕ) (names : InputNames) (r : Result Bool Stop) → AreOfFiles told before now names i s → WritesReport i s old new r → WritesOfFiles told before now names old new r
+  pub writes_of_files : (told : Option Files) (before now : ℕ) (names : InputNames) (r : Result Bool Stop) → AreOfFiles told before now names i s → WritesReport most i s old new r → WritesOfFiles most told before now names old new r
   writes_of_files told before now names (Ok wide) of writes = (i, s, of, writes)
   writes_of_files told before now names (Err (stops.BadTable fault)) of writes = absurd writes
   writes_of_files told before now names (Err (stops.BadSession fault)) of writes = absurd writes
@@ -188,28 +205,28 @@ module _ (i : Input) (s : Session) (old new : SinkState) where
   writes_of_files told before now names (Err stops.Memory) of writes = inr (i, s, of, writes)
 
 -- table and session were read, and the report was written
-pub replayed : {A B : Type 0} (names : InputNames) (a b d : ShelfState) (x : A) (y : B) (i : Input) (s : Session) (old new : SinkState) (r : Result Bool Stop) → IsFetchOf names.table 1 a b (Ok x) → IsFetchOf names.session 2 b d (Ok y) → WritesReport i s old new r → OfToldFiles a.told a.faults d.faults (ShowsReplay names r) → IsWorkOn (Replay names) a d (ShowsReplay names) r
-replayed {A} {B} names a b d x y i s old new r first second writes shows =
+pub replayed : {A B : Type 0} (most : ℕ) (names : InputNames) (bits : Bits) (a b d : ShelfState) (x : A) (y : B) (i : Input) (s : Session) (old new : SinkState) (r : Result Bool Stop) → IsFetchOf names.table 1 a b (Ok x) → IsFetchOf names.session 2 b d (Ok y) → WritesReport most i s old new r → OfToldFiles a.told a.faults d.faults (ShowsReplay names r) → IsWorkOn (Replay names bits) a d (ShowsReplay names) r
+replayed {A} {B} most names bits a b d x y i s old new r first second writes shows =
     let same = never_rose names.table 1 a b x first in
     let again = never_rose names.session 2 b d y second in
     record {
       never_falls = omega (arith, same, again);
       told_stays = second.told_stays ∙ first.told_stays;
-      counted = (2, writes_after i s old new names r writes, second.counted ∙ ap next_count first.counted);
-      read_fault = λ is. absurd (writes_unread i s old new r writes is);
+      counted = (2, writes_after most i s old new names bits r writes, second.counted ∙ ap next_count first.counted);
+      read_fault = λ is. absurd (writes_unread most i s old new r writes is);
       rose = λ rose. absurd (omega (arith, same, again, rose));
       lacking = λ lacks. absurd (both_there names a b d x y first second lacks);
       no_table = λ lacks. absurd (lacks_not names.table 1 a b x first lacks);
-      pure = writes_purely i s old new r writes;
-      may_stop = writes_may_stop i s old new names r writes;
+      pure = writes_purely most i s old new r writes;
+      may_stop = writes_may_stop most i s old new names bits r writes;
       shows = shows;
     }
 
 -- where a replay stops at a fetch, nothing was written
-pub nothing_written : {A : Type 0} (told : Option Files) (before now : ℕ) (names : InputNames) (out : SinkState) (name : List ℕ) (place : ℕ) (a b : ShelfState) (e : Stop) → IsFetchOf {A = A} name place a b (Err e) → WritesOfFiles told before now names out out (Err e)
-nothing_written {A} told before now names out name place a b (stops.BadTable fault) fetch = refl
-nothing_written {A} told before now names out name place a b (stops.BadSession fault) fetch = refl
-nothing_written {A} told before now names out name place a b (stops.Rejected rejection) fetch = refl
-nothing_written {A} told before now names out name place a b stops.ReadFault fetch = refl
-nothing_written {A} told before now names out name place a b stops.WriteFault fetch = absurd (fetch.no_write refl)
-nothing_written {A} told before now names out name place a b stops.Memory fetch = inl refl
+pub nothing_written : {A : Type 0} (most : ℕ) (told : Option Files) (before now : ℕ) (names : InputNames) (out : SinkState) (name : List ℕ) (place : ℕ) (a b : ShelfState) (e : Stop) → IsFetchOf {A = A} name place a b (Err e) → WritesOfFiles most told before now names out out (Err e)
+nothing_written {A} most told before now names out name place a b (stops.BadTable fault) fetch = refl
+nothing_written {A} most told before now names out name place a b (stops.BadSession fault) fetch = refl
+nothing_written {A} most told before now names out name place a b (stops.Rejected rejection) fetch = refl
+nothing_written {A} most told before now names out name place a b stops.ReadFault fetch = refl
+nothing_written {A} most told before now names out name place a b stops.WriteFault fetch = absurd (fetch.no_write refl)
+nothing_written {A} most told before now names out name place a b stops.Memory fetch = inl refl

@@ -6,3 +6,9 @@ pub mod Deciding
 pub mod Conclusions
 pub mod Replayed
 pub mod Making
+pub mod Giving
+pub mod Table
+pub mod Reading
+pub mod Generated
+pub mod Counting
+pub mod Summaries

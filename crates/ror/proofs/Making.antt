@@ -37,7 +37,7 @@ use Rattle.ror.specs.declared.work.Stop.{Stop}
 use Rattle.ror.specs.declared.work.Stop.TheVariants as stops
 use Rattle.ror.specs.States.{SinkState}
 use Rattle.ror.specs.Work.{bench_for}
-use Rattle.ror.specs.Replaying.{most, is_wide_body, has_wide, AreFirstBlocks, IsBeginningOf, WritesReport, MakesBlocks}
+use Rattle.ror.specs.Replaying.{is_wide_body, has_wide, AreFirstBlocks, IsBeginningOf, WritesReport, MakesBlocks}
 
 -- ---- whether anything is too wide
 
@@ -76,19 +76,19 @@ wide_blocks (b ∷ bs) =
 -- ---- the blocks that are written
 
 -- the blocks of these lines are made and written, and this is whether an answer of them is too wide
-pub record AreWritten (start : Workbench) (lines : List Line) (bench : Workbench) (old new : SinkState) (wide : Bool) : Type 0 where
+pub record AreWritten (most : ℕ) (start : Workbench) (lines : List Line) (bench : Workbench) (old new : SinkState) (wide : Bool) : Type 0 where
   pub blocks : List Block
   pub made : IsMade most start lines bench blocks
   pub wide_is : wide ≡ list_any has_wide blocks
   pub faults : new.faults ≡ old.faults
   pub grew : Grew old.written new.written (flat_map (block_text start.table) blocks)
 
-pub none_written : (start : Workbench) (out : SinkState) → AreWritten start [] start out out false
-none_written start out = record { blocks = []; made = made_nothing most start; wide_is = refl; faults = refl; grew = Grew-none out.written }
+pub none_written : (most : ℕ) (start : Workbench) (out : SinkState) → AreWritten most start [] start out out false
+none_written most start out = record { blocks = []; made = made_nothing most start; wide_is = refl; faults = refl; grew = Grew-none out.written }
 
 -- one block more
-pub one_written : (start : Workbench) (lines : List Line) (bench moved : Workbench) (old between new : SinkState) (wide : Bool) (line : Line) (block : Block) → AreWritten start lines bench old between wide → line.desk < length start.state → IsBlockOf (given_at most) bench.table (revisions_at bench line.desk) line block → IsPrintableBlock bench.table block → moved ≡ with_block bench line block → new.faults ≡ between.faults → Grew between.written new.written (block_text bench.table block) → AreWritten start (lines ++ line ∷ []) moved old new (wide || has_wide block)
-one_written start lines bench moved old between new wide line block were within is text moves faults grew =
+pub one_written : (most : ℕ) (start : Workbench) (lines : List Line) (bench moved : Workbench) (old between new : SinkState) (wide : Bool) (line : Line) (block : Block) → AreWritten most start lines bench old between wide → line.desk < length start.state → IsBlockOf (given_at most) bench.table (revisions_at bench line.desk) line block → IsPrintableBlock bench.table block → moved ≡ with_block bench line block → new.faults ≡ between.faults → Grew between.written new.written (block_text bench.table block) → AreWritten most start (lines ++ line ∷ []) moved old new (wide || has_wide block)
+one_written most start lines bench moved old between new wide line block were within is text moves faults grew =
     let same : block_text bench.table block ≡ block_text start.table block = ap (λ (t : DecisionTable). block_text t block) were.made.after.table in
     record {
       blocks = were.blocks ++ block ∷ [];
@@ -103,8 +103,8 @@ one_written start lines bench moved old between new wide line block were within 
     or_false false = refl
 
 -- one block more was made, and only a front of it written
-pub block_cut : (start : Workbench) (lines : List Line) (i : ℕ) (bench moved : Workbench) (old between new : SinkState) (wide : Bool) (line : Line) (block : Block) → i < length lines → line ≡ get_or lines i line → AreWritten start (take i lines) bench old between wide → line.desk < length start.state → IsBlockOf (given_at most) bench.table (revisions_at bench line.desk) line block → IsPrintableBlock bench.table block → moved ≡ with_block bench line block → between.faults ≤ new.faults → Rose between.faults new.faults → GrewShort between.written new.written (block_text bench.table block) → MakesBlocks start lines old new (Err stops.WriteFault)
-block_cut start lines i bench moved old between new wide line block within item were named is text moves up rose short =
+pub block_cut : (most : ℕ) (start : Workbench) (lines : List Line) (i : ℕ) (bench moved : Workbench) (old between new : SinkState) (wide : Bool) (line : Line) (block : Block) → i < length lines → line ≡ get_or lines i line → AreWritten most start (take i lines) bench old between wide → line.desk < length start.state → IsBlockOf (given_at most) bench.table (revisions_at bench line.desk) line block → IsPrintableBlock bench.table block → moved ≡ with_block bench line block → between.faults ≤ new.faults → Rose between.faults new.faults → GrewShort between.written new.written (block_text bench.table block) → MakesBlocks most start lines old new (Err stops.WriteFault)
+block_cut most start lines i bench moved old between new wide line block within item were named is text moves up rose short =
     let same : block_text bench.table block ≡ block_text start.table block = ap (λ (t : DecisionTable). block_text t block) were.made.after.table in
     let blocks = were.blocks ++ block ∷ [] in
     let made = made_more most start (take i lines) bench moved line were.blocks block were.made named is text moves in
@@ -124,8 +124,8 @@ block_cut start lines i bench moved old between new wide line block within item 
     )
 
 -- the first lines' blocks, where more lines are left
-pub first_blocks : (start : Workbench) (lines : List Line) (n : ℕ) (bench : Workbench) (old new : SinkState) (wide : Bool) (were : AreWritten start (take n lines) bench old new wide) → AreFirstBlocks start lines (flat_map (block_text start.table) were.blocks)
-first_blocks start lines n bench old new wide were =
+pub first_blocks : (most : ℕ) (start : Workbench) (lines : List Line) (n : ℕ) (bench : Workbench) (old new : SinkState) (wide : Bool) (were : AreWritten most start (take n lines) bench old new wide) → AreFirstBlocks most start lines (flat_map (block_text start.table) were.blocks)
+first_blocks most start lines n bench old new wide were =
     record { taken = take n lines; left = drop n lines; blocks = were.blocks; split = sym (take-append-drop n lines); made = were.made.blocks_are; text_is = refl }
 
 -- ---- the report of a session
@@ -154,23 +154,23 @@ numbers_left i (suc n) lines lawful few =
     let statements = lawful.few in
     (omega (arith, next, statements, few), numbers_left i n lines lawful few)
 
-module _ (i : Input) (s : Session) where
-  begins : (text : List ℕ) → AreFirstBlocks (bench_for i s) s.lines text → IsBeginningOf i s (header_text ++ text)
+module _ (most : ℕ) (i : Input) (s : Session) where
+  begins : (text : List ℕ) → AreFirstBlocks most (bench_for i s) s.lines text → IsBeginningOf most i s (header_text ++ text)
   begins text first = some_lines first.taken first.left first.blocks first.split first.made (ap (λ (l : List ℕ). header_text ++ l) first.text_is)
 
-  no_blocks : AreFirstBlocks (bench_for i s) s.lines []
+  no_blocks : AreFirstBlocks most (bench_for i s) s.lines []
   no_blocks = record { taken = []; left = s.lines; blocks = []; split = refl; made = record { printable = tt; given = tt }; text_is = refl }
 
   -- memory ran out before anything was written
-  pub unwritten : (out : SinkState) → WritesReport i s out out (Err stops.Memory)
+  pub unwritten : (out : SinkState) → WritesReport most i s out out (Err stops.Memory)
   unwritten out = (refl, header_text ++ [], 0, begins [] no_blocks, Grew-none out.written)
 
   -- the header was not written
-  pub header_cut : (old new : SinkState) → old.faults ≤ new.faults → Rose old.faults new.faults → GrewShort old.written new.written header_text → WritesReport i s old new (Err stops.WriteFault)
+  pub header_cut : (old new : SinkState) → old.faults ≤ new.faults → Rose old.faults new.faults → GrewShort old.written new.written header_text → WritesReport most i s old new (Err stops.WriteFault)
   header_cut old new up rose short = (up, rose, header_text ++ [], begins [] no_blocks, GrewShort-more old.written new.written header_text [] short)
 
   -- after the header the blocks were written, or were not
-  pub blocks_cut : (old between new : SinkState) (stop : Stop) → between.faults ≡ old.faults → Grew old.written between.written header_text → MakesBlocks (bench_for i s) s.lines between new (Err stop) → WritesReport i s old new (Err stop)
+  pub blocks_cut : (old between new : SinkState) (stop : Stop) → between.faults ≡ old.faults → Grew old.written between.written header_text → MakesBlocks most (bench_for i s) s.lines between new (Err stop) → WritesReport most i s old new (Err stop)
   blocks_cut old between new (stops.BadTable fault) same header makes = absurd makes
   blocks_cut old between new (stops.BadSession fault) same header makes = absurd makes
   blocks_cut old between new (stops.Rejected rejection) same header makes = absurd makes
@@ -182,7 +182,7 @@ module _ (i : Input) (s : Session) where
       (makes.0 ∙ same, text, length text, begins makes.1 makes.2, subst (Grew old.written new.written) (sym (take_all (length text) text (omega arith))) (Grew-append old.written between.written new.written header_text makes.1 header makes.3))
 
   -- the blocks of all lines
-  all_blocks : (blocks : List Block) → AreBlocksAt most (bench_for i s) s.lines blocks → AreFirstBlocks (bench_for i s) s.lines (flat_map (block_text i.table) blocks)
+  all_blocks : (blocks : List Block) → AreBlocksAt most (bench_for i s) s.lines blocks → AreFirstBlocks most (bench_for i s) s.lines (flat_map (block_text i.table) blocks)
   all_blocks blocks made = record { taken = s.lines; left = []; blocks = blocks; split = sym (append-nil s.lines); made = made; text_is = refl }
 
   whole : (blocks : List Block) → AreBlocksAt most (bench_for i s) s.lines blocks → IsReplayedReport most (bench_for i s) s.lines (header_text ++ (flat_map (block_text i.table) blocks ++ end_text (length s.lines))) (accepted_of blocks)
@@ -191,14 +191,14 @@ module _ (i : Input) (s : Session) where
       record { blocks = blocks; made = made; text = ap (λ n. header_text ++ (flat_map (block_text i.table) blocks ++ end_text n)) count; counted = refl }
 
   -- the end was not made
-  pub end_unmade : (old between new : SinkState) (wide : Bool) → between.faults ≡ old.faults → Grew old.written between.written header_text → MakesBlocks (bench_for i s) s.lines between new (Ok wide) → WritesReport i s old new (Err stops.Memory)
+  pub end_unmade : (old between new : SinkState) (wide : Bool) → between.faults ≡ old.faults → Grew old.written between.written header_text → MakesBlocks most (bench_for i s) s.lines between new (Ok wide) → WritesReport most i s old new (Err stops.Memory)
   end_unmade old between new wide same header makes =
       let blocks = makes.1 in
       let text = header_text ++ flat_map (block_text i.table) blocks in
       (makes.0 ∙ same, text, length text, begins (flat_map (block_text i.table) blocks) (all_blocks blocks makes.2), subst (Grew old.written new.written) (sym (take_all (length text) text (omega arith))) (Grew-append old.written between.written new.written header_text (flat_map (block_text i.table) blocks) header makes.4))
 
   -- it was not written
-  pub end_cut : (old between after new : SinkState) (wide : Bool) → between.faults ≡ old.faults → Grew old.written between.written header_text → MakesBlocks (bench_for i s) s.lines between after (Ok wide) → after.faults ≤ new.faults → Rose after.faults new.faults → GrewShort after.written new.written (end_text (length s.lines)) → WritesReport i s old new (Err stops.WriteFault)
+  pub end_cut : (old between after new : SinkState) (wide : Bool) → between.faults ≡ old.faults → Grew old.written between.written header_text → MakesBlocks most (bench_for i s) s.lines between after (Ok wide) → after.faults ≤ new.faults → Rose after.faults new.faults → GrewShort after.written new.written (end_text (length s.lines)) → WritesReport most i s old new (Err stops.WriteFault)
   end_cut old between after new wide same header makes up rose short =
       let blocks = makes.1 in
       let whole_text = flat_map (block_text i.table) blocks ++ end_text (length s.lines) in (
@@ -210,7 +210,7 @@ module _ (i : Input) (s : Session) where
       )
 
   -- all was written
-  pub report_whole : (old between after new : SinkState) (wide : Bool) → IsLawfulBench (bench_for i s) → between.faults ≡ old.faults → Grew old.written between.written header_text → MakesBlocks (bench_for i s) s.lines between after (Ok wide) → new.faults ≡ after.faults → Grew after.written new.written (end_text (length s.lines)) → WritesReport i s old new (Ok wide)
+  pub report_whole : (old between after new : SinkState) (wide : Bool) → IsLawfulBench (bench_for i s) → between.faults ≡ old.faults → Grew old.written between.written header_text → MakesBlocks most (bench_for i s) s.lines between after (Ok wide) → new.faults ≡ after.faults → Grew after.written new.written (end_text (length s.lines)) → WritesReport most i s old new (Ok wide)
   report_whole old between after new wide lawful same header makes kept ended =
       let blocks = makes.1 in
       let whole_text = flat_map (block_text i.table) blocks ++ end_text (length s.lines) in

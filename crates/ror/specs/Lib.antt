@@ -1,9 +1,12 @@
 pub mod Words
+pub mod WordTable
 pub mod Named
+pub mod Commands
 pub mod States
 pub mod Printing
 pub mod Statuses
 pub mod Work
 pub mod Stops
 pub mod Replaying
+pub mod Generating
 pub mod Running

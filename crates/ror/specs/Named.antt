@@ -1,13 +1,13 @@
 -- What a command names, as values.
-use Rattle.std.specs.Prelude.{◌≡◌, ℕ, ◌==◌, Bool, true, false, List, [], ◌∷◌, length, Option, Some, None, map, codes, if◌then◌else◌}
-use Rattle.std.specs.Option.{option_and_then}
-use Rattle.std.specs.Str.{bytes_eq}
-use Rattle.std.specs.String.{string_bytes}
+use Rattle.std.specs.Prelude.{◌≡◌, ◌<◌, ◌^◌, IsSome, ℕ, true, false, List, ◌++◌, Option, Some, None, map, codes, if◌then◌else◌}
+use Rattle.std.specs.Option.{option_and_then, option_map_or}
 use Rattle.ror.specs.declared.words.Task as words
 use Rattle.ror.specs.declared.words.Task.TheVariants as tasks
 use Rattle.ror.specs.declared.words.FileNames.{FileNames}
-use Rattle.ror.specs.declared.words.Words.{Words}
-use Rattle.ror.specs.Words.{InputNames, CheckNames, Task, Replay, Check, Given, with_best_first, given_in}
+use Rattle.ror.specs.declared.words.CommandWord.{CommandWord}
+use Rattle.ror.specs.declared.words.CommandWord.TheVariants as commands
+use Rattle.ror.specs.declared.words.Arguments as fields
+use Rattle.ror.specs.Words.{InputNames, CheckNames, Task, Replay, Check, Generate, Given, given_in, task_by, task_of}
 
 -- the names themselves
 abbrev pub inputs_of : FileNames → InputNames
@@ -21,31 +21,53 @@ abbrev pub check_of : FileNames → List ℕ → CheckNames
 check_of names report = record { inputs = inputs_of names; report = report }
 
 abbrev pub task_with : words.Task → Task
-task_with (tasks.Replay names) = Replay (inputs_of names)
+task_with (tasks.Replay names bits) = Replay (inputs_of names) bits
 task_with (tasks.Check names report) = Check (check_of names report.now)
+task_with (tasks.Generate number) = Generate number
 
--- with `--best-first`, where it stood before
-abbrev pub after_option : Bool → Option Given → Option Given
-after_option false given = given
-after_option true given = option_and_then with_best_first given
+-- the word that names a command
+abbrev pub command_text : CommandWord → List ℕ
+command_text commands.Replay = codes "replay"
+command_text commands.Check = codes "check"
+command_text commands.Generate = codes "generate"
 
--- what the words that are left give, with what stood before them
-abbrev pub given_left : Words → Option Given
-given_left words =
-    after_option words.best_first
-    (if words.ended then Some (record { names = map string_bytes words.left.now; best_first = false })
-    else given_in (map string_bytes words.left.now))
+-- what arguments give
+abbrev pub given_with : fields.Arguments → Given
+given_with o = record { names = map (λ name. name.now) o.names.items; bits = o.bits; best_first = o.best_first }
 
--- whether `--best-first` is given, if no name is
-abbrev pub without_names : Given → Option Bool
-without_names given = if length given.names == 0 then Some given.best_first else None
+-- the command takes these options, and these names
+abbrev pub Suit : CommandWord → Given → Type 0
+Suit command given = IsSome (task_by (command_text command) given)
 
-abbrev pub begins_with : List ℕ → List (List ℕ) → Bool
-begins_with first [] = false
-begins_with first (word ∷ words) = bytes_eq word first
+-- a number to generate from has at most 9 digits
+abbrev pub HasShortNumber : words.Task → Type 0
+HasShortNumber (tasks.Generate number) = number < 10 ^ 9
+HasShortNumber _ = Unit {0}
 
--- what is left begins with no option that may stand there: not with `--`, and with `--best-first` only where it stood before
-pub record IsBeforeName (words : Words) : Type 0 where
-  pub not_ended : words.ended ≡ false → begins_with (codes "--") (map string_bytes words.left.now) ≡ false
-  pub repeated : words.ended ≡ false → words.best_first ≡ false
-      → begins_with (codes "--best-first") (map string_bytes words.left.now) ≡ false
+-- ---- before further words
+
+-- what the words so far and those after them give together
+abbrev pub joined : Given → Given → Option Given
+joined before after =
+    if (if before.best_first then after.best_first else false) then None
+    else option_map_or (λ bits. option_map_or (λ _. None) after.bits (Some (record {
+      names = before.names ++ after.names;
+      bits = Some bits;
+      best_first = if before.best_first then true else after.best_first;
+    }))) before.bits (Some (record {
+      names = before.names ++ after.names;
+      bits = after.bits;
+      best_first = if before.best_first then true else after.best_first;
+    }))
+
+abbrev pub given_after : Given → List (List ℕ) → Option Given
+given_after before words = option_and_then (joined before) (given_in false words)
+
+-- with any command
+abbrev pub IsNoTask : Option Given → Type 0
+IsNoTask given = (command : List ℕ) → option_and_then (task_by command) given ≡ None
+
+-- the words are in the table, with this command and what is given after it
+abbrev pub IsAsked : List (List ℕ) → CommandWord → Given → Type 0
+IsAsked words command given = (task_of words ≡ task_by (command_text command) given)
+    × Suit command given

@@ -12,8 +12,6 @@ use Rattle.ror_report.specs.declared.block.Block.{Block}
 use Rattle.ror_report.specs.declared.block.Body.{Body}
 use Rattle.ror_report.specs.declared.block.Body.TheVariants.{RepairWide}
 use Rattle.ror_report.specs.Text.{answers_of, block_text}
-use Rattle.ror_pivot.specs.Answers.{most_of}
-use Rattle.ror_pivot.specs.declared.note.Bits.TheVariants.{B127}
 use Rattle.ror_bench.specs.declared.report.Accepted.{Accepted}
 use Rattle.ror_bench.specs.Bench.{Workbench}
 use Rattle.ror_bench.specs.Replays.{AreBlocksAt, IsReplayedReport, IsBegunReport}
@@ -25,34 +23,30 @@ use Rattle.ror.specs.Words.{InputNames}
 use Rattle.ror.specs.Work.{bench_for, ReadsSession, ReadsInputs}
 use Rattle.ror.specs.Stops.{ShowsStop}
 
--- no number of a certificate passes this, and each that is called too wide does
-abbrev pub most : ℕ
-most = most_of B127
-
--- The text is the report of the session: a block for each line, in order, with answers and repairs that may be given at 127
--- bits. Each that isn't too wide has a proof: an answer is true of all compatible value functions, and a repair drops what the
--- repair over these drops.
-pub record IsReportOf (i : Input) (s : Session) (text : List ℕ)
+-- The text is the report of the session: a block for each line, in order, with answers and repairs that may be given where no
+-- number passes most: no number of a certificate does, and each that is called too wide is one that does. Each that isn't too
+-- wide has a proof: an answer is true of all compatible value functions, and a repair drops what the repair over these drops.
+pub record IsReportOf (most : ℕ) (i : Input) (s : Session) (text : List ℕ)
     (accepted : Accepted) : Type 0 where
   pub given : IsReplayedReport most (bench_for i s) s.lines text accepted
   pub checked : IsAcceptedReport (bench_for i s) s.lines text accepted
 
 -- the text is how such a report begins
-abbrev pub IsBeginningOf : Input → Session → List ℕ → Type 0
-IsBeginningOf i s text = IsBegunReport most (bench_for i s) s.lines text
+abbrev pub IsBeginningOf : ℕ → Input → Session → List ℕ → Type 0
+IsBeginningOf most i s text = IsBegunReport most (bench_for i s) s.lines text
 
 -- What was written where the report of a session was due: the whole of it, and whether anything is too wide; a proper front of
 -- its beginning where a write failed; or some front where memory ran out.
-abbrev pub WritesReport : Input → Session → SinkState → SinkState → Result Bool Stop → Type 0
-WritesReport i s old new (Ok wide) = (new.faults ≡ old.faults) × (text : List ℕ)
-    × (accepted : Accepted) × IsReportOf i s text accepted × (wide ≡ nat_lt 0 accepted.wide)
+abbrev pub WritesReport : ℕ → Input → Session → SinkState → SinkState → Result Bool Stop → Type 0
+WritesReport most i s old new (Ok wide) = (new.faults ≡ old.faults) × (text : List ℕ)
+    × (accepted : Accepted) × IsReportOf most i s text accepted × (wide ≡ nat_lt 0 accepted.wide)
     × Grew old.written new.written text
-WritesReport i s old new (Err stops.WriteFault) = (old.faults ≤ new.faults)
-    × Rose old.faults new.faults × (text : List ℕ) × IsBeginningOf i s text
+WritesReport most i s old new (Err stops.WriteFault) = (old.faults ≤ new.faults)
+    × Rose old.faults new.faults × (text : List ℕ) × IsBeginningOf most i s text
     × GrewShort old.written new.written text
-WritesReport i s old new (Err stops.Memory) = (new.faults ≡ old.faults) × (text : List ℕ) × (n : ℕ)
-    × IsBeginningOf i s text × Grew old.written new.written (take n text)
-WritesReport i s old new (Err stop) = ⊥
+WritesReport most i s old new (Err stops.Memory) = (new.faults ≡ old.faults) × (text : List ℕ) × (n : ℕ)
+    × IsBeginningOf most i s text × Grew old.written new.written (take n text)
+WritesReport most i s old new (Err stop) = ⊥
 
 -- ---- the blocks of lines, one after another
 
@@ -65,7 +59,7 @@ abbrev pub has_wide : Block → Bool
 has_wide block = is_wide_body block.body
 
 -- the text is that of the blocks of the first lines
-pub record AreFirstBlocks (bench : Workbench) (lines : List Line) (text : List ℕ) : Type 0 where
+pub record AreFirstBlocks (most : ℕ) (bench : Workbench) (lines : List Line) (text : List ℕ) : Type 0 where
   pub taken : List Line
   pub left : List Line
   pub blocks : List Block
@@ -75,16 +69,16 @@ pub record AreFirstBlocks (bench : Workbench) (lines : List Line) (text : List �
 
 -- what was written of the blocks of lines: all of them, and whether anything is too wide; a proper front of some where a write
 -- failed; or the first ones where memory ran out
-abbrev pub MakesBlocks : Workbench → List Line → SinkState → SinkState → Result Bool Stop → Type 0
-MakesBlocks bench lines old new (Ok wide) = (new.faults ≡ old.faults) × (blocks : List Block)
+abbrev pub MakesBlocks : ℕ → Workbench → List Line → SinkState → SinkState → Result Bool Stop → Type 0
+MakesBlocks most bench lines old new (Ok wide) = (new.faults ≡ old.faults) × (blocks : List Block)
     × AreBlocksAt most bench lines blocks × (wide ≡ nat_lt 0 (accepted_of blocks).wide)
     × Grew old.written new.written (flat_map (block_text bench.table) blocks)
-MakesBlocks bench lines old new (Err stops.WriteFault) = (old.faults ≤ new.faults)
-    × Rose old.faults new.faults × (text : List ℕ) × AreFirstBlocks bench lines text
+MakesBlocks most bench lines old new (Err stops.WriteFault) = (old.faults ≤ new.faults)
+    × Rose old.faults new.faults × (text : List ℕ) × AreFirstBlocks most bench lines text
     × GrewShort old.written new.written text
-MakesBlocks bench lines old new (Err stops.Memory) = (new.faults ≡ old.faults)
-    × (text : List ℕ) × AreFirstBlocks bench lines text × Grew old.written new.written text
-MakesBlocks bench lines old new (Err stop) = ⊥
+MakesBlocks most bench lines old new (Err stops.Memory) = (new.faults ≡ old.faults)
+    × (text : List ℕ) × AreFirstBlocks most bench lines text × Grew old.written new.written text
+MakesBlocks most bench lines old new (Err stop) = ⊥
 
 -- ---- by the files
 
@@ -94,17 +88,17 @@ AreOfFiles told before now names i s =
     (files : Files) → told ≡ Some files → DidNotRise before now → ReadsSession files names i s
 
 -- what a replay has written: nothing where its files were not read
-abbrev pub WritesOfFiles : Option Files → ℕ → ℕ → InputNames → SinkState → SinkState
+abbrev pub WritesOfFiles : ℕ → Option Files → ℕ → ℕ → InputNames → SinkState → SinkState
     → Result Bool Stop → Type 0
-WritesOfFiles told before now names old new (Ok wide) = (i : Input) × (s : Session)
-    × AreOfFiles told before now names i s × WritesReport i s old new (Ok wide)
-WritesOfFiles told before now names old new (Err stops.WriteFault) = (i : Input)
+WritesOfFiles most told before now names old new (Ok wide) = (i : Input) × (s : Session)
+    × AreOfFiles told before now names i s × WritesReport most i s old new (Ok wide)
+WritesOfFiles most told before now names old new (Err stops.WriteFault) = (i : Input)
     × (s : Session) × AreOfFiles told before now names i s
-    × WritesReport i s old new (Err stops.WriteFault)
-WritesOfFiles told before now names old new (Err stops.Memory) = (new ≡ old)
+    × WritesReport most i s old new (Err stops.WriteFault)
+WritesOfFiles most told before now names old new (Err stops.Memory) = (new ≡ old)
     ⊎ ((i : Input) × (s : Session) × AreOfFiles told before now names i s
-    × WritesReport i s old new (Err stops.Memory))
-WritesOfFiles told before now names old new (Err stop) = new ≡ old
+    × WritesReport most i s old new (Err stops.Memory))
+WritesOfFiles most told before now names old new (Err stop) = new ≡ old
 
 -- what the files are like where a replay is done or stops
 abbrev pub ShowsReplay : InputNames → Result Bool Stop → Files → Type 0

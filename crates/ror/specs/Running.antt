@@ -1,6 +1,6 @@
 -- When each status comes, and what a run writes.
-use Rattle.std.specs.Prelude.{◌≡◌, ◌≢◌, ℕ, ◌<◌, ◌≤◌, ◌⊎◌, ◌↔◌, List, take, Option, Some, None}
-use Rattle.ror_io.specs.Files.{Files, Lacks}
+use Rattle.std.specs.Prelude.{◌≡◌, ◌≢◌, ℕ, ◌<◌, ◌≤◌, ◌⊎◌, ◌↔◌, Bool, true, false, List, take, Option, Some, None}
+use Rattle.ror_io.specs.Files.{Files}
 use Rattle.ror_io.specs.Counts.{Rose, DidNotRise, next_count, count_after}
 use Rattle.ror_io.specs.Writing.{Grew, GrewShort}
 use Rattle.ror.specs.declared.status.Status.{Status}
@@ -15,9 +15,11 @@ use Rattle.ror_bench.specs.declared.report.Rejection.{Rejection}
 use Rattle.ror_bench.specs.declared.report.Reason.TheVariants.{TooLong}
 use Rattle.ror_bench.specs.Reports.{IsFreeOfMemory}
 use Rattle.ror.specs.States.{ShelfState, SinkState}
-use Rattle.ror.specs.Words.{InputNames, CheckNames, Task, Replay, Check, task_of}
+use Rattle.ror.specs.Words.{InputNames, CheckNames, Task, Replay, Check, Generate, task_of}
 use Rattle.ror.specs.Statuses.{status_text, accepted_text}
-use Rattle.ror.specs.Work.{RefusesTable, RefusesSession, ProvesReport, ProvesAll, ProvesTheRest, RejectsReport, RefutesReport, IsNotProved, IsLongReport, AnswersTrue, MissesInput, Misses, ReadsInputs, file_count, inputs_in, LacksOne}
+use Rattle.ror.specs.Work.{RefusesTable, RefusesSession, ProvesReport, ProvesAll, ProvesTheRest, RejectsReport, RefutesReport, IsNotProved, IsLongReport, AnswersTrue, MissesInput, Misses, ReadsInputs, file_count, LacksOne, LacksTableOf}
+use Rattle.ror_pivot.specs.Answers.{most_of}
+use Rattle.ror.specs.Generating.{IsSummaryOf}
 use Rattle.ror.specs.Replaying.{IsReportOf, IsBeginningOf, AreOfFiles}
 
 -- a told map lacks a file that the words name; lacks the table
@@ -25,7 +27,7 @@ abbrev pub LacksNamed : Option Files → List (List ℕ) → Type 0
 LacksNamed told words = (task : Task) × (task_of words ≡ Some task) × LacksOne told task
 
 abbrev pub LacksTable : Option Files → List (List ℕ) → Type 0
-LacksTable told words = (task : Task) × (task_of words ≡ Some task) × Lacks told (inputs_in task).table
+LacksTable told words = (task : Task) × (task_of words ≡ Some task) × LacksTableOf told task
 
 -- the work was done to the last line
 abbrev pub IsDone : Status → Type 0
@@ -85,9 +87,18 @@ ShowsReplayed files names statuses.ReadFault = MissesInput files names
 ShowsReplayed files names statuses.WriteFault = ReadsInputs files names
 ShowsReplayed files names statuses.Memory = Unit {0}
 
+-- no file bears on the summary of a number: it is written, or a write failed, or memory ran out
+abbrev pub EndsGenerated : Status → Type 0
+EndsGenerated statuses.Done = Unit {0}
+EndsGenerated statuses.DoneWide = Unit {0}
+EndsGenerated statuses.WriteFault = Unit {0}
+EndsGenerated statuses.Memory = Unit {0}
+EndsGenerated _ = ⊥
+
 abbrev pub ShowsStatus : Files → Task → Status → Type 0
-ShowsStatus files (Replay names) status = ShowsReplayed files names status
+ShowsStatus files (Replay names bits) status = ShowsReplayed files names status
 ShowsStatus files (Check names) status = ShowsChecked files names status
+ShowsStatus files (Generate number) status = EndsGenerated status
 
 -- ---- which status such files lead to
 
@@ -119,8 +130,9 @@ pub record DecidesReplay (files : Files) (names : InputNames) (status : Status) 
   pub done : ReadsInputs files names → IsDone status ⊎ (status ≡ statuses.WriteFault)
 
 abbrev pub Decides : Files → Task → Status → Type 0
-Decides files (Replay names) status = DecidesReplay files names status
+Decides files (Replay names bits) status = DecidesReplay files names status
 Decides files (Check names) status = DecidesCheck files names status
+Decides files (Generate number) status = IsDone status ⊎ (status ≡ statuses.WriteFault)
 
 -- a shelf that tells its files, and whose count did not rise, is of files that the status shows
 abbrev pub ShowsFiles : Option Files → ℕ → ℕ → List (List ℕ) → Status → Type 0
@@ -155,31 +167,45 @@ WritesLine told before now names old new statuses.WriteFault = (accepted : Accep
     × CountsAnswers told before now names accepted × GrewShort old new (accepted_text accepted)
 WritesLine told before now names old new _ = new ≡ old
 
--- By a replay, where it is told: the report of the session, in which something is too wide or nothing is, a proper front of
--- its beginning where a write failed, some front where memory ran out, and nothing under every other status.
-abbrev pub WritesBlocks : Option Files → ℕ → ℕ → InputNames → Option (List ℕ) → Option (List ℕ)
+-- By a replay, where it is told: the report of the session at the width, in which something is too wide or nothing is, a proper
+-- front of its beginning where a write failed, some front where memory ran out, and nothing under every other status.
+abbrev pub WritesBlocks : ℕ → Option Files → ℕ → ℕ → InputNames → Option (List ℕ) → Option (List ℕ)
     → Status → Type 0
-WritesBlocks told before now names old new statuses.Done = (i : Input) × (s : Session)
+WritesBlocks most told before now names old new statuses.Done = (i : Input) × (s : Session)
     × AreOfFiles told before now names i s × (text : List ℕ) × (accepted : Accepted)
-    × IsReportOf i s text accepted × (accepted.wide ≡ 0) × Grew old new text
-WritesBlocks told before now names old new statuses.DoneWide = (i : Input) × (s : Session)
+    × IsReportOf most i s text accepted × (accepted.wide ≡ 0) × Grew old new text
+WritesBlocks most told before now names old new statuses.DoneWide = (i : Input) × (s : Session)
     × AreOfFiles told before now names i s × (text : List ℕ) × (accepted : Accepted)
-    × IsReportOf i s text accepted × (0 < accepted.wide) × Grew old new text
-WritesBlocks told before now names old new statuses.WriteFault = (i : Input)
+    × IsReportOf most i s text accepted × (0 < accepted.wide) × Grew old new text
+WritesBlocks most told before now names old new statuses.WriteFault = (i : Input)
     × (s : Session) × AreOfFiles told before now names i s × (text : List ℕ)
-    × IsBeginningOf i s text × GrewShort old new text
-WritesBlocks told before now names old new statuses.Memory = (new ≡ old)
+    × IsBeginningOf most i s text × GrewShort old new text
+WritesBlocks most told before now names old new statuses.Memory = (new ≡ old)
     ⊎ ((i : Input) × (s : Session) × AreOfFiles told before now names i s
-    × (text : List ℕ) × (n : ℕ) × IsBeginningOf i s text × Grew old new (take n text))
-WritesBlocks told before now names old new _ = new ≡ old
+    × (text : List ℕ) × (n : ℕ) × IsBeginningOf most i s text × Grew old new (take n text))
+WritesBlocks most told before now names old new _ = new ≡ old
+
+-- Where a summary is due, where it is told: that of the number, in which something is too wide or nothing is, a proper front of
+-- it where a write failed, and nothing where memory ran out.
+abbrev pub WritesLines : ℕ → Option (List ℕ) → Option (List ℕ) → Status → Type 0
+WritesLines number old new statuses.Done =
+    (text : List ℕ) × IsSummaryOf number text false × Grew old new text
+WritesLines number old new statuses.DoneWide =
+    (text : List ℕ) × IsSummaryOf number text true × Grew old new text
+WritesLines number old new statuses.WriteFault =
+    (text : List ℕ) × (wide : Bool) × IsSummaryOf number text wide × GrewShort old new text
+WritesLines number old new statuses.Memory = new ≡ old
+WritesLines number old new _ = ⊥
 
 -- by what the words ask for
 abbrev pub Writes : Option Files → ℕ → ℕ → Option Task → Option (List ℕ) → Option (List ℕ) → Status
     → Type 0
-Writes told before now (Some (Replay names)) old new status =
-    WritesBlocks told before now names old new status
+Writes told before now (Some (Replay names bits)) old new status =
+    WritesBlocks (most_of bits) told before now names old new status
 Writes told before now (Some (Check names)) old new status =
     WritesLine told before now names old new status
+Writes told before now (Some (Generate number)) old new status =
+    WritesLines number old new status
 Writes told before now None old new status = new ≡ old
 
 -- What is written on standard error, where it is told: the text of the status, or a proper beginning of it where its
@@ -205,12 +231,13 @@ pub record IsRun (words : List (List ℕ)) (before now : ShelfState) (old new : 
   pub told_stays : now.told ≡ before.told
   pub fetched : (n : ℕ) × EndsAfter (files_named (task_of words)) status n
       × (now.fetches ≡ count_after n before.fetches)
-  -- Whatever the counts are: the work is not done without one of the files, and ends at once without the table. Want of
-  -- memory is a status of its own, and no other one holds it.
+  -- Whatever the counts are: the work is not done without one of the files, and ends at once without the table, where memory
+  -- did not run out before. Want of memory is a status of its own, and no other one holds it.
   pub lacking : LacksNamed before.told words
       → (status ≢ statuses.Done) × (status ≢ statuses.DoneWide)
   pub no_table : LacksTable before.told words
-      → (status ≡ statuses.ReadFault) × (now.fetches ≡ next_count before.fetches)
+      → ((status ≡ statuses.ReadFault) × (now.fetches ≡ next_count before.fetches))
+      ⊎ ((status ≡ statuses.Memory) × (now.fetches ≡ before.fetches))
   pub pure : HidesNoMemory status
   -- only a check rejects
   pub rejects : IsRejected status → (names : CheckNames) × (task_of words ≡ Some (Check names))

@@ -128,11 +128,11 @@ abbrev pub rejection_line : Rejection → List ℕ
 rejection_line r =
     codes "rejected: block " ++ decimal r.block ++ codes " " ++ reason_text r.reason ++ codes "\n"
 
--- the commands, each with the options that it takes in the end
+-- the commands, each with its options
 abbrev pub usage_text : List ℕ
 usage_text =
     codes "usage: ror replay TABLE SESSION [--bits 15|31|63|127] [--best-first]"
-    ++ codes " | ror check TABLE SESSION REPORT [--best-first]\n"
+    ++ codes " | ror check TABLE SESSION REPORT [--best-first]" ++ codes " | ror generate NUMBER\n"
 
 -- the line of a status; nothing where the work was done
 unfoldable pub status_text : Status → List ℕ

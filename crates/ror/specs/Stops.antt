@@ -1,6 +1,6 @@
 -- Where the work on the files stops, and what the files are like there.
 use Rattle.ror_bench.specs.declared.report.TheConstants.{MOST_REPORT_BYTES}
-use Rattle.std.specs.Prelude.{◌≡◌, ◌≢◌, ℕ, ◌<◌, ◌≤◌, ◌⊎◌, List, length, Option, Some, Result, Ok, Err, IfErr, IsErr, IsErrOf}
+use Rattle.std.specs.Prelude.{◌≡◌, ◌≢◌, ℕ, ◌<◌, ◌≤◌, ◌⊎◌, Bool, true, false, List, length, Option, Some, Result, Ok, Err, IfErr, IsErr, IsErrOf}
 use Rattle.ror_io.specs.Files.{Files, Lacks}
 use Rattle.ror_io.specs.Counts.{Rose, DidNotRise, next_count, count_after}
 use Rattle.ror_io.specs.Writing.{Grew, GrewShort}
@@ -24,7 +24,7 @@ use Rattle.ror.specs.declared.work.Stop.TheVariants as stops
 use Rattle.ror.specs.States.{ShelfState}
 use Rattle.ror.specs.Words.{InputNames, CheckNames, Task, Replay, Check}
 use Rattle.ror.specs.Statuses.{accepted_text, status_of}
-use Rattle.ror.specs.Work.{bench_for, ReadsTable, ReadsSession, RefusesTable, RefusesSession, ProvesReport, IsRejectionOf, RefutesReport, AnswersTrue, MissesInput, Misses, file_count, inputs_in, LacksOne}
+use Rattle.ror.specs.Work.{bench_for, ReadsTable, ReadsSession, RefusesTable, RefusesSession, ProvesReport, IsRejectionOf, RefutesReport, AnswersTrue, MissesInput, Misses, file_count, LacksOne, LacksTableOf}
 
 -- the stop that a fault of the shelf leads to, and those of the readers
 abbrev pub stop_at_shelf : ShelfFault → Stop
@@ -55,6 +55,12 @@ status_at (stops.Rejected rejection) = statuses.Rejected rejection
 status_at stops.ReadFault = statuses.ReadFault
 status_at stops.WriteFault = statuses.WriteFault
 status_at stops.Memory = statuses.Memory
+
+-- the status after a report or a summary was due, by whether anything in it is too wide
+abbrev pub status_after : Result Bool Stop → Status
+status_after (Ok true) = statuses.DoneWide
+status_after (Ok false) = statuses.Done
+status_after (Err stop) = status_at stop
 
 -- what the files are like where the work stops at the table or the session
 abbrev pub ShowsStop : Files → InputNames → Stop → Type 0
@@ -171,7 +177,7 @@ pub record IsFetchOf {A : Type 0} (name : List ℕ) (place : ℕ) (before now : 
 
 -- a replay rejects nothing, and a check writes nothing before it is done
 abbrev pub MayStop : Task → Stop → Type 0
-MayStop (Replay names) (stops.Rejected rejection) = ⊥
+MayStop (Replay names bits) (stops.Rejected rejection) = ⊥
 MayStop (Check names) stops.WriteFault = ⊥
 MayStop task stop = Unit {0}
 
@@ -186,7 +192,7 @@ pub record IsWorkOn {A : Type 0} (task : Task) (before now : ShelfState)
       ⊎ LacksOne before.told task
   pub rose : before.faults < now.faults → IsErrOf result stops.ReadFault
   pub lacking : LacksOne before.told task → IsErr result
-  pub no_table : Lacks before.told (inputs_in task).table
+  pub no_table : LacksTableOf before.told task
       → IsErrOf result stops.ReadFault × (now.fetches ≡ next_count before.fetches)
   pub pure : IfErr result IsPure
   pub may_stop : IfErr result (MayStop task)

@@ -14,7 +14,7 @@ use Rattle.ror_bench.specs.declared.report.Rejection.{Rejection}
 use Rattle.ror_bench.specs.declared.report.Reason.TheVariants.{TooLong}
 use Rattle.ror_bench.specs.Bench.{Workbench, bench_of}
 use Rattle.ror_bench.specs.Reports.{IsProvedReport, IsAcceptedReport, IsRejectedFor}
-use Rattle.ror.specs.Words.{InputNames, CheckNames, Task, Replay, Check}
+use Rattle.ror.specs.Words.{InputNames, CheckNames, Task, Replay, Check, Generate}
 
 -- ---- table and session
 
@@ -138,18 +138,21 @@ pub record ReadsInputs (files : Files) (names : InputNames) : Type 0 where
 
 -- how many there are
 abbrev pub file_count : Task → ℕ
-file_count (Replay names) = 2
+file_count (Replay names bits) = 2
 file_count (Check names) = 3
-
--- those that a session is read from
-abbrev pub inputs_in : Task → InputNames
-inputs_in (Replay names) = names
-inputs_in (Check names) = names.inputs
+file_count (Generate number) = 0
 
 -- a told map lacks one of them
 abbrev pub LacksInput : Option Files → InputNames → Type 0
 LacksInput told names = Lacks told names.table ⊎ Lacks told names.session
 
 abbrev pub LacksOne : Option Files → Task → Type 0
-LacksOne told (Replay names) = LacksInput told names
+LacksOne told (Replay names bits) = LacksInput told names
 LacksOne told (Check names) = LacksInput told names.inputs ⊎ Lacks told names.report
+LacksOne told (Generate number) = ⊥
+
+-- lacks the table among them
+abbrev pub LacksTableOf : Option Files → Task → Type 0
+LacksTableOf told (Replay names bits) = Lacks told names.table
+LacksTableOf told (Check names) = Lacks told names.inputs.table
+LacksTableOf told (Generate number) = ⊥

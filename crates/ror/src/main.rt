@@ -1,6 +1,8 @@
 //! The program: writes the report of a session over a table, and checks one.
 #![tactic(auto)]
 
+mod commands;
+mod generate;
 mod host;
 mod replay;
 mod running;

@@ -8,6 +8,7 @@ ghost use Rattle.ror_value.specs.Over.{IsLawfulIn};
 ghost use Rattle.ror_bench.specs.Bench.{LeavesNumbers};
 ghost use Rattle.ror_bench.specs.Reports.{NamesADesk};
 ghost use Rattle.ror.specs.States.{sink_state};
+ghost use Rattle.ror_pivot.specs.Answers.{most_of};
 ghost use Rattle.ror.specs.Replaying.{WritesReport, MakesBlocks, has_wide};
 
 use crate::work::Stop;
@@ -30,24 +31,25 @@ impl From<SinkFault> for Stop {
     }
 }
 
-/// Writes the report of a session over an input, and says whether anything is too wide. Each block is written before the
+/// Writes the report of a session over an input at a width, and says whether anything is too wide. Each block is written before the
 /// next line is taken, and after a write that failed nothing more is.
 pub fn write_report<O: Sink>(
     alloc: Global,
     input: Input,
     session: &Session,
+    bits: Bits,
     out: &mut O,
 ) -> Result<bool, Stop>
     requires lawful { IsLawfulIn input.table input.opening }
     requires sound { IsSound session.now }
-    ensures { WritesReport input session.now (sink_state (O.written out.old) (O.faults out.old))
+    ensures { WritesReport (most_of bits) input session.now (sink_state (O.written out.old) (O.faults out.old))
         (sink_state (O.written out.new) (O.faults out.new)) result }
 {
     let desks = session.desks.len() as u32;
     let mut bench = Bench::new(alloc, input, desks)?;
     write_all(out, header())?;
     let lines = session.lines.as_slice();
-    let wide = write_blocks(alloc, &mut bench, lines, out)?;
+    let wide = write_blocks(alloc, &mut bench, lines, bits, out)?;
     let end = print_end(alloc, lines.len() as u32)?;
     write_all(out, end.as_slice())?;
     Ok(wide)
@@ -58,16 +60,17 @@ fn write_blocks<O: Sink>(
     alloc: Global,
     bench: &mut Bench,
     lines: &[Line],
+    bits: Bits,
     out: &mut O,
 ) -> Result<bool, Stop>
     requires desks { AllByRecursion (NamesADesk (length bench.old.state)) lines.now }
     requires numbers { AllByRecursion (LeavesNumbers (length lines.now)) bench.old.state }
-    ensures { MakesBlocks bench.old lines.now (sink_state (O.written out.old) (O.faults out.old))
+    ensures { MakesBlocks (most_of bits) bench.old lines.now (sink_state (O.written out.old) (O.faults out.old))
         (sink_state (O.written out.new) (O.faults out.new)) result }
 {
     let mut wide = false;
     for line in lines {
-        let block = bench.step(line, Bits::B127)?;
+        let block = bench.step(line, bits)?;
         let text = print_block(alloc, bench.table(), &block)?;
         write_all(out, text.as_slice())?;
         wide = wide || has_wide(&block);

@@ -1,14 +1,19 @@
 //! A run, from its words to its status.
 
-ghost use Rattle.std.specs.Prelude.{◌≤◌, map};
+ghost use Rattle.std.specs.Prelude.{◌≡◌, ◌≤◌, ℕ, List, Some, map};
 ghost use Rattle.std.specs.String.{string_bytes};
 ghost use Rattle.ror.specs.States.{shelf_state, sink_state};
-ghost use Rattle.ror.specs.Stops.{Concludes};
+ghost use Rattle.ror.specs.Words.{task_of};
+ghost use Rattle.ror.specs.WordTable.{IsByTable};
+ghost use Rattle.ror.specs.Named.{given_with, task_with, IsAsked, Suit, HasShortNumber};
+ghost use Rattle.ror.specs.Stops.{Concludes, status_after};
 ghost use Rattle.ror.specs.Running.{IsRun, Says};
 
+use crate::commands::read_task;
+use crate::generate::generate;
 use crate::status::Status;
 use crate::texts::{write_accepted, write_status};
-use crate::words::{Task, task_in};
+use crate::words::{Arguments, CommandWord, Task, words_in_table};
 use crate::work::{Stop, check_files, replay_files};
 use ror_bench::Accepted;
 use ror_io::{Shelf, Sink};
@@ -27,6 +32,7 @@ pub fn run<F: Shelf, O: Sink, E: Sink>(
         (shelf_state (F.told shelf.new) (F.faults shelf.new) (F.fetch_count shelf.new))
         (sink_state (O.written out.old) (O.faults out.old))
         (sink_state (O.written out.new) (O.faults out.new)) result }
+    ensures table { IsByTable (map string_bytes words.now) }
     ensures err_never_falls { E.faults err.old ≤ E.faults err.new }
     ensures errors { Says (E.faults err.old) (E.faults err.new)
         (E.written err.old) (E.written err.new) result }
@@ -50,17 +56,63 @@ fn status_of<F: Shelf, O: Sink>(
         (sink_state (O.written out.old) (O.faults out.old))
         (sink_state (O.written out.new) (O.faults out.new)) result }
 {
-    match task_in(words) {
-        Some(Task::Replay(names)) => match replay_files(alloc, &names, shelf, out) {
-            Ok(false) => Status::Done,
-            Ok(true) => Status::DoneWide,
-            Err(stop) => Status::from(stop),
-        },
-        Some(Task::Check(names, report)) => {
+    match words_in_table(words) {
+        Some((command, arguments)) => status_with(alloc, command, &arguments, shelf, out),
+        None => Status::Usage,
+    }
+}
+
+/// The status of a command with these arguments.
+fn status_with<F: Shelf, O: Sink>(
+    alloc: Global,
+    command: CommandWord,
+    arguments: &Arguments<'_>,
+    shelf: &mut F,
+    out: &mut O,
+) -> Status
+    requires { Suit command (given_with arguments.now) }
+    ensures run { (words : List (List ℕ)) → IsAsked words command (given_with arguments.now) → IsRun words
+        (shelf_state (F.told shelf.old) (F.faults shelf.old) (F.fetch_count shelf.old))
+        (shelf_state (F.told shelf.new) (F.faults shelf.new) (F.fetch_count shelf.new))
+        (sink_state (O.written out.old) (O.faults out.old))
+        (sink_state (O.written out.new) (O.faults out.new)) result }
+{
+    let Ok(form) = arguments.normal_form(alloc) else {
+        return Status::Memory;
+    };
+    match read_task(alloc, command, form.as_slice()) {
+        Ok(task) => status_by(alloc, task, shelf, out),
+        Err(_) => Status::Memory,
+    }
+}
+
+/// The status of a task, after the work on it.
+fn status_by<F: Shelf, O: Sink>(alloc: Global, task: Task<'_>, shelf: &mut F, out: &mut O) -> Status
+    requires { HasShortNumber task }
+    ensures run { (words : List (List ℕ)) → task_of words ≡ Some (task_with task.entry) → IsRun words
+        (shelf_state (F.told shelf.old) (F.faults shelf.old) (F.fetch_count shelf.old))
+        (shelf_state (F.told shelf.new) (F.faults shelf.new) (F.fetch_count shelf.new))
+        (sink_state (O.written out.old) (O.faults out.old))
+        (sink_state (O.written out.new) (O.faults out.new)) result }
+{
+    match task {
+        Task::Replay(names, bits) => ended(replay_files(alloc, &names, bits, shelf, out)),
+        Task::Check(names, report) => {
             let outcome = check_files(alloc, &names, report, shelf);
             conclude(outcome, out)
         }
-        None => Status::Usage,
+        Task::Generate(number) => ended(generate(alloc, number, out)),
+    }
+}
+
+/// The status after a report or a summary was due, by whether anything in it is too wide.
+fn ended(outcome: Result<bool, Stop>) -> Status
+    ensures { result ≡ status_after outcome }
+{
+    match outcome {
+        Ok(false) => Status::Done,
+        Ok(true) => Status::DoneWide,
+        Err(stop) => Status::from(stop),
     }
 }
 

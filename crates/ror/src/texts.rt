@@ -52,7 +52,7 @@ pub fn write_accepted<S: Sink>(sink: &mut S, accepted: Accepted) -> Result<(), S
     )
 }
 
-/// The commands, each with the options that it takes in the end.
+/// The commands, each with its options.
 fn write_usage<S: Sink>(sink: &mut S) -> Result<(), SinkFault>
     ensures { Prints (S.faults sink.old) (S.faults sink.new)
         (S.written sink.old) (S.written sink.new) usage_text result }
@@ -61,7 +61,8 @@ fn write_usage<S: Sink>(sink: &mut S) -> Result<(), SinkFault>
         sink,
         &[
             b"usage: ror replay TABLE SESSION [--bits 15|31|63|127] [--best-first]",
-            b" | ror check TABLE SESSION REPORT [--best-first]\n",
+            b" | ror check TABLE SESSION REPORT [--best-first]",
+            b" | ror generate NUMBER\n",
         ],
     )
 }

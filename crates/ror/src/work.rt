@@ -12,6 +12,7 @@ ghost use Rattle.ror.specs.Named.{inputs_of, check_of};
 ghost use Rattle.ror.specs.States.{shelf_state, sink_state};
 ghost use Rattle.ror.specs.Work.{ReadsTable, ReadsSession};
 ghost use Rattle.ror.specs.Stops.{IsOfBytes, IsFetchOf, IsWorkOn, ReadsTableAs, ReadsSessionAs, Judges, OfToldFiles, ShowsTable, ShowsSession, ShowsWork};
+ghost use Rattle.ror_pivot.specs.Answers.{most_of};
 ghost use Rattle.ror.specs.Replaying.{WritesOfFiles, ShowsReplay};
 
 use crate::replay::write_report;
@@ -19,6 +20,7 @@ use crate::status::Status;
 use crate::words::FileNames;
 use ror_bench::{Accepted, Bench, MOST_REPORT_BYTES, Reason, Rejection, ReportError, check_report};
 use ror_io::{Fetched, Shelf, ShelfFault, Sink};
+use ror_pivot::Bits;
 use ror_session::{Session, SessionFault, read_session};
 use ror_table::{TableError, TableFault, TableKind};
 use ror_text::lines::MOST_TEXT_BYTES;
@@ -121,25 +123,26 @@ impl From<Stop> for Status {
     }
 }
 
-/// Fetches table and session, each once those before it were read, and writes the report of the session: whether anything
-/// is too wide.
+/// Fetches table and session, each once those before it were read, and writes the report of the session at a width: whether
+/// anything is too wide.
 pub fn replay_files<F: Shelf, O: Sink>(
     alloc: Global,
     names: &FileNames<'_>,
+    bits: Bits,
     shelf: &mut F,
     out: &mut O,
 ) -> Result<bool, Stop>
-    ensures work { IsWorkOn (Replay (inputs_of names.now))
+    ensures work { IsWorkOn (Replay (inputs_of names.now) bits)
         (shelf_state (F.told shelf.old) (F.faults shelf.old) (F.fetch_count shelf.old))
         (shelf_state (F.told shelf.new) (F.faults shelf.new) (F.fetch_count shelf.new))
         (ShowsReplay (inputs_of names.now)) result }
-    ensures written { WritesOfFiles (F.told shelf.old) (F.faults shelf.old) (F.faults shelf.new)
+    ensures written { WritesOfFiles (most_of bits) (F.told shelf.old) (F.faults shelf.old) (F.faults shelf.new)
         (inputs_of names.now) (sink_state (O.written out.old) (O.faults out.old))
         (sink_state (O.written out.new) (O.faults out.new)) result }
 {
     let input = fetch_table(alloc, names, shelf)?;
     let session = fetch_session(alloc, names, shelf)?;
-    write_report(alloc, input, &session, out)
+    write_report(alloc, input, &session, bits, out)
 }
 
 /// Fetches the three files in order, each once those before it were read, and gives how many answers of the report were

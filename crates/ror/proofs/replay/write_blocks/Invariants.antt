@@ -1,5 +1,6 @@
 use Rattle.std.proofs.Common.{length, take, drop}
 use Rattle.std.specs.List.{AllByRecursion}
+use Rattle.ror_pivot.specs.Answers.{most_of}
 use Rattle.ror_bench.specs.Bench.{LeavesNumbers}
 use Rattle.ror.specs.States.{sink_state}
 use Rattle.ror.proofs.Making.{AreWritten}
@@ -8,5 +9,5 @@ use Rattle.ror.proofs.replay.write_blocks.Given as goal
 abbrev pub invariant-loop-line : goal.invariant-loop-line
 invariant-loop-line g l = record {
   numbers : AllByRecursion (LeavesNumbers (length (drop l.line-index l.lines))) l.bench.state;
-  were : AreWritten l.fn.bench (take l.line-index l.lines) l.bench (sink_state (g.O.Sink.written l.fn.out) (g.O.Sink.faults l.fn.out)) (sink_state (g.O.Sink.written l.out) (g.O.Sink.faults l.out)) l.wide;
+  were : AreWritten (most_of l.fn.bits) l.fn.bench (take l.line-index l.lines) l.bench (sink_state (g.O.Sink.written l.fn.out) (g.O.Sink.faults l.fn.out)) (sink_state (g.O.Sink.written l.out) (g.O.Sink.faults l.out)) l.wide;
 }

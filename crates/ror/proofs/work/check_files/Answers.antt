@@ -1,4 +1,4 @@
-use Rattle.std.proofs.Common.{◌∙◌, arith}
+use Rattle.std.proofs.Common.{◌∙◌, arith, refl}
 use Rattle.std.proofs.lemmas.Result.{err_from_is_err_and}
 use Rattle.ror_io.proofs.CountLemmas.{DidNotRise-first, DidNotRise-second}
 use Rattle.ror.specs.Named.{check_of}
@@ -14,7 +14,7 @@ returns-in_err-input g c =
     let p = err_from_is_err_and c.from_residual.result c.from_residual.ensures.1 in
     let first = c.in_err-input.ensures.fetch in
     rw (p.1, p.2) (record {
-      work = stopped_first (Check names) _ _ _ (ShowsWork names) first (λ files is stayed. stop_in_check files names _ (c.in_err-input.ensures.shows files is stayed));
+      work = stopped_first (Check names) names.inputs _ _ _ (ShowsWork names) refl first (λ files is stayed. stop_in_check files names _ (c.in_err-input.ensures.shows files is stayed));
     })
 
 pub returns-in_err-session : goal.returns-in_err-session
@@ -24,7 +24,7 @@ returns-in_err-session g c =
     let first = c.in_ok-input.ensures.fetch in
     let second = c.in_err-session.ensures.fetch in
     rw (p.1, p.2) (record {
-      work = stopped_second (Check names) _ _ _ _ _ (ShowsWork names) first second (λ files is stayed.
+      work = stopped_second (Check names) names.inputs _ _ _ _ _ (ShowsWork names) refl first second (λ files is stayed.
           stop_in_check files names _ (c.in_err-session.ensures.shows _ files (first.told_stays ∙ is) (DidNotRise-second _ _ _ first.never_falls second.never_falls stayed) (c.in_ok-input.ensures.shows files is (DidNotRise-first _ _ _ first.never_falls second.never_falls stayed))));
     })
 
