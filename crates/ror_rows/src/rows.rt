@@ -222,18 +222,7 @@ fn push_copies(rows: &mut Vec<Row>, alloc: Global, more: &[Row]) -> Result<(), A
     ensures { OnOk result (rows.new.items ≡ rows.old.items ++ more.now) }
 {
     for row in more {
-        rows.push(copied(alloc, row)?)?;
+        rows.push(row.copied(alloc)?)?;
     }
     Ok(())
-}
-
-/// The same row again.
-fn copied(alloc: Global, row: &Row) -> Result<Row, AllocError>
-    ensures { IfOk result (λ copy. copy ≡ row.now) }
-{
-    let mut entries = Vec::with_capacity(alloc, row.len())?;
-    for j in 0..row.len() {
-        entries.push(row.entry(j))?;
-    }
-    Ok(Row::from_vec(entries))
 }

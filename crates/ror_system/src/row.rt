@@ -48,6 +48,25 @@ impl Row {
         Row { entries }
     }
 
+    /// The same row again.
+    ///
+    /// # Errors
+    ///
+    /// Only want of memory.
+    pub fn copied(&self, alloc: Global) -> Result<Row, AllocError>
+        ensures { IfOk result (λ row. row ≡ self.now) }
+    {
+        Row::from_slice(alloc, self.as_slice())
+    }
+
+    /// The entries as a slice.
+    pub fn as_slice(&self) -> &[i128]
+        ensures value { result.now ≡ self.now }
+        ensures narrow { AllByRecursion IsNarrow self.now }
+    {
+        self.entries.as_slice()
+    }
+
     /// How many entries there are.
     pub fn len(&self) -> usize
         ensures { result ≡ length self.now }
