@@ -24,6 +24,7 @@ pub mod SolutionWords
 pub mod CommonDenominators
 pub mod RowSums
 pub mod FeasibleReading
+pub mod CountLemmas
 pub mod LoopLemmas
 pub mod Uniqueness
 pub mod NeverStops

@@ -5,5 +5,6 @@ pub mod Ends
 pub mod Paths
 pub mod Notes
 pub mod Answers
+pub mod Counts
 pub mod Calls
 pub mod Laws

@@ -4,11 +4,12 @@
 //!
 //! [`solve`] raises the margin of the strict rows along a path of pivots, each entering column and
 //! leaving row by the lexicographic simplex rule, with numbers of one width; [`solve_bits`] takes
-//! the width as [`Bits`]. Every path ends, and what is read at its end is an [`Outcome`] that the
-//! acceptance of `ror_system` takes. Where a number of the path passes the width, the [`WideNote`]
-//! names the first that does, by the pivots before it and its [`Place`]. At a width each system has
-//! exactly one answer (`laws::one_answer`), and a solution or multipliers without a bound on the
-//! width (`laws::motzkin_transposition`).
+//! the width as [`Bits`], and [`solve_counted`] counts the pivots besides, adding to a count that
+//! it is given. Every path ends, and what is read at its end is an [`Outcome`] that the acceptance
+//! of `ror_system` takes. Where a number of the path passes the width, the [`WideNote`] names the
+//! first that does, by the pivots before it and its [`Place`]. At a width each system has exactly
+//! one answer (`laws::one_answer`), and a solution or multipliers without a bound on the width
+//! (`laws::motzkin_transposition`).
 //!
 //! Over two columns let the strict rows be (1, 1) and (200, -199), and over one (1) and (-1):
 //!
@@ -33,7 +34,7 @@ mod start;
 mod sums;
 
 pub use note::{Bits, Outcome, Place, SolveFault, WideNote};
-pub use path::{solve, solve_bits};
+pub use path::{solve, solve_bits, solve_counted};
 
 #[cfg(test)]
 mod tests;

@@ -124,6 +124,24 @@ fn finds_the_solution_in_more_bits(rt: HostRuntime) -> Result<(), Fail> {
     }
 }
 
+#[test]
+fn counts_the_pivots(rt: HostRuntime) -> Result<(), Fail> {
+    let s = system(rt.alloc(), 2, &[], RATIO).ok_or(Unmade)?;
+    let mut pivots = 0;
+    match solve_counted(rt.alloc(), &s, Bits::B31, &mut pivots) {
+        Ok(Outcome::Feasible(_)) => assert_eq!(rt; pivots, 3),
+        _ => Err(Unmade)?,
+    }
+    match solve_counted(rt.alloc(), &s, Bits::B15, &mut pivots) {
+        Err(SolveFault::Wide(note)) => {
+            assert_eq!(rt; note.path.as_slice(), [(2, 1), (0, 0)].as_slice());
+            assert_eq!(rt; pivots, 5);
+            Ok(())
+        }
+        _ => Err(Unmade)?,
+    }
+}
+
 /// Columns, weak rows, strict rows after the row of ones, what 15 bits give and what 31 bits give.
 const CASES: [(usize, Rows, Rows, Seen, Seen); 12] = [
     // one row against its negative
