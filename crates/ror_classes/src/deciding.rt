@@ -1,6 +1,6 @@
 //! The calls that decide questions on classes.
 
-ghost use Rattle.std.specs.Prelude.{◌<◌, length, IfOk};
+ghost use Rattle.std.specs.Prelude.{◌<◌, ◌≤◌, length, IfOk};
 ghost use Rattle.std.specs.List.{AllZip};
 ghost use Rattle.ror_pivot.specs.Answers.{most_of};
 ghost use Rattle.ror_value.specs.Over.{IsLawfulIn, IsAskedIn};
@@ -11,9 +11,10 @@ ghost use Rattle.ror_classes.specs.Classes as spec;
 use crate::questions::class_questions;
 use ror_pivot::Bits;
 use ror_proof::Answer;
-use ror_relation::{decide, decide_each};
+use ror_relation::{decide_each_warm, decide_warm};
 use ror_statement::{Question, Statement};
 use ror_table::Table;
+use ror_warm::Engine;
 use std::alloc::{AllocError, Global};
 
 /// Answers whether an alternative may belong to a class by some value function that is compatible with the statements, or by
@@ -33,7 +34,25 @@ pub fn decide_class(
     requires on_class { IsClassQuestion q.now }
     ensures { IfOk result (IsGiven (most_of bits) table.now list.now q.now) }
 {
-    decide(alloc, table, list, q, bits)
+    decide_class_warm(alloc, &mut Engine::new(alloc), table, list, q, bits)
+}
+
+/// Answers a question on a class as `decide_class` does, by an engine that may have decided others before.
+pub fn decide_class_warm(
+    alloc: Global,
+    engine: &mut Engine,
+    table: &Table,
+    list: &[Statement],
+    q: &Question,
+    bits: Bits,
+) -> Result<Answer, AllocError>
+    requires lawful { IsLawfulIn table.now list.now }
+    requires asked { IsAskedIn table.now q.now }
+    requires on_class { IsClassQuestion q.now }
+    ensures given { IfOk result (IsGiven (most_of bits) table.now list.now q.now) }
+    ensures counted { engine.old.pivots ≤ engine.new.pivots }
+{
+    decide_warm(alloc, engine, table, list, q, bits)
 }
 
 /// Answers both questions on each class of the table for one alternative, in the order of `class_questions`. The system of
@@ -53,6 +72,32 @@ pub fn decide_classes(
     ensures { IfOk result (λ answers. AllZip (IsGiven (most_of bits) table.now list.now)
         (spec.class_questions alternative table.now.classes) answers.items) }
 {
+    decide_classes_warm(
+        alloc,
+        &mut Engine::new(alloc),
+        table,
+        list,
+        alternative,
+        bits,
+    )
+}
+
+/// Answers the questions on the classes of an alternative as `decide_classes` does, by an engine that may have decided others
+/// before.
+pub fn decide_classes_warm(
+    alloc: Global,
+    engine: &mut Engine,
+    table: &Table,
+    list: &[Statement],
+    alternative: usize,
+    bits: Bits,
+) -> Result<Vec<Answer>, AllocError>
+    requires lawful { IsLawfulIn table.now list.now }
+    requires alternative { alternative < length table.now.alternatives }
+    ensures given { IfOk result (λ answers. AllZip (IsGiven (most_of bits) table.now list.now)
+        (spec.class_questions alternative table.now.classes) answers.items) }
+    ensures counted { engine.old.pivots ≤ engine.new.pivots }
+{
     let questions = class_questions(alloc, alternative, table.classes())?;
-    decide_each(alloc, table, list, questions.as_slice(), bits)
+    decide_each_warm(alloc, engine, table, list, questions.as_slice(), bits)
 }

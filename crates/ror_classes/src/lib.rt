@@ -17,7 +17,7 @@
 mod deciding;
 mod questions;
 
-pub use deciding::{decide_class, decide_classes};
+pub use deciding::{decide_class, decide_class_warm, decide_classes, decide_classes_warm};
 pub use questions::class_questions;
 
 #[cfg(test)]

@@ -4,13 +4,14 @@ ghost use Rattle.std.specs.Prelude.{IsTrue};
 ghost use Rattle.std.specs.List.{AllByRecursion};
 ghost use Rattle.ror_value.specs.Over.{IsValidIn, IsLawfulIn, IsAskedIn};
 
-use crate::{class_questions, decide_class, decide_classes};
+use crate::{class_questions, decide_class, decide_class_warm, decide_classes};
 use ror_pivot::Bits;
 use ror_proof::Verdict;
 use ror_statement::{
     MOST_ROWS, MOST_STATEMENTS, Question, Statement, row_count, valid, valid_question,
 };
 use ror_table::{Table, read_plain};
+use ror_warm::Engine;
 use std::test::Fail;
 
 const TABLE: &[u8] = b"ror-table 1
@@ -88,6 +89,18 @@ fn an_alternative_may_belong_to_the_classes_that_others_leave_it(
     assert!(rt; is_asked(&table, &necessary));
     let answer = decide_class(rt.alloc(), &table, &list, &necessary, Bits::B127)?;
     assert!(rt; is_yes(&answer.verdict) == Some(false));
+    let mut engine = Engine::new(rt.alloc());
+    for _ in 0..2 {
+        let answer = decide_class_warm(
+            rt.alloc(),
+            &mut engine,
+            &table,
+            &list,
+            &necessary,
+            Bits::B127,
+        )?;
+        assert!(rt; is_yes(&answer.verdict) == Some(false));
+    }
     Ok(())
 }
 

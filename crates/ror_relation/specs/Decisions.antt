@@ -1,5 +1,5 @@
 -- What is found of one system, and of the systems of a question.
-use Rattle.std.specs.Prelude.{◌≡◌, ℕ, ◌+◌, ◌<◌, ◌≤◌, List, [], ◌∷◌, length, map, slice_get, Some}
+use Rattle.std.specs.Prelude.{◌≡◌, ℕ, ◌+◌, ◌<◌, ◌≤◌, List, [], ◌∷◌, length, map, slice_get, Some, Result, Ok, Err}
 use Rattle.std.specs.List.{AllByRecursion, range_with_len}
 use Rattle.ror_statement.specs.declared.comparison.Comparison.{Comparison}
 use Rattle.ror_statement.specs.declared.statement.Statement.{Statement}
@@ -11,6 +11,10 @@ use Rattle.ror_statement.specs.declared.question.Conclusion.TheVariants as concl
 use Rattle.ror_table.specs.Table.{DecisionTable}
 use Rattle.ror_system.specs.System.{LinearSystem, IsSolvable}
 use Rattle.ror_value.specs.Over.{IsNamedIn}
+use Rattle.ror_pivot.specs.declared.note.Outcome.{Outcome}
+use Rattle.ror_pivot.specs.declared.note.Outcome.TheVariants.{Feasible, Infeasible}
+use Rattle.ror_pivot.specs.declared.note.SolveFault.{SolveFault}
+use Rattle.ror_pivot.specs.declared.note.SolveFault.TheVariants.{Wide, Memory}
 use Rattle.ror_proof.specs.declared.answer.Certificate.{Certificate}
 use Rattle.ror_proof.specs.declared.answer.Certificate.TheVariants as certificates
 use Rattle.ror_proof.specs.declared.answer.Part.{Part}
@@ -22,7 +26,7 @@ use Rattle.ror_relation.specs.declared.decision.Decision.{Decision}
 use Rattle.ror_relation.specs.declared.decision.Decision.TheVariants as decisions
 use Rattle.ror_relation.specs.declared.search.Search.{Search}
 use Rattle.ror_relation.specs.declared.search.Search.TheVariants as searches
-use Rattle.ror_relation.specs.Wide.{HasNoteAt}
+use Rattle.ror_relation.specs.Wide.{HasNoteAt, pivots_of, place_of}
 use Rattle.ror_relation.specs.Answers.{IsCertificateWithin, IsVerdictWithin}
 
 -- The certificate shows what the base shows where this is concluded, that the system is solvable or that it is not, and no
@@ -37,6 +41,14 @@ IsDecision most s (decisions.Solvable x) =
 IsDecision most s (decisions.NotSolvable m) =
     ShowsAsBase most conclusions.Contradiction s (certificates.Multipliers m)
 IsDecision most s (decisions.TooWide note) = HasNoteAt most s note
+
+-- the decision says what the outcome does; want of memory says nothing
+abbrev pub IsSaidOf : Result Outcome SolveFault → Decision → Type 0
+IsSaidOf (Ok (Feasible x)) d = d ≡ decisions.Solvable x
+IsSaidOf (Ok (Infeasible m)) d = d ≡ decisions.NotSolvable m
+IsSaidOf (Err (Wide note)) d = (text : WideText) × (d ≡ decisions.TooWide text)
+    × (pivots_of text.path ≡ note.path) × (place_of text.place ≡ note.place)
+IsSaidOf (Err Memory) d = ⊥
 
 -- no system before this place is solvable
 abbrev pub NoneSolvableBelow : List LinearSystem → ℕ → Type 0

@@ -1,6 +1,9 @@
 -- The notes of answers, as those of the systems' paths.
 use Rattle.std.specs.Prelude.{ℕ, ◌<◌, List, map}
+use Rattle.std.specs.List.{AllByRecursion}
 use Rattle.ror_system.specs.System.{LinearSystem}
+use Rattle.ror_pivot.specs.declared.note.SolveFault.{SolveFault}
+use Rattle.ror_pivot.specs.declared.note.SolveFault.TheVariants.{Wide, Memory}
 use Rattle.ror_pivot.specs.declared.note.Place.{Place}
 use Rattle.ror_pivot.specs.declared.note.Place.TheVariants as places
 use Rattle.ror_pivot.specs.Notes.{IsWideNote}
@@ -32,3 +35,9 @@ IsPlaceBelow limit (places.Step i j) = (i < limit) × (j < limit)
 IsPlaceBelow limit (places.Denominator i) = i < limit
 IsPlaceBelow limit (places.RowSum i) = i < limit
 IsPlaceBelow limit (places.ColumnSum j) = j < limit
+
+-- the numbers of a note are below the limit
+abbrev pub IsNoteBelow : ℕ → SolveFault → Type 0
+IsNoteBelow limit (Wide note) = AllByRecursion (λ p. (p.0 < limit) × (p.1 < limit)) note.path
+    × IsPlaceBelow limit note.place
+IsNoteBelow limit Memory = Unit {0}

@@ -1,6 +1,6 @@
 //! The calls that decide questions.
 
-ghost use Rattle.std.specs.Prelude.{◌≡◌, IfOk};
+ghost use Rattle.std.specs.Prelude.{◌≡◌, ◌≤◌, IfOk};
 ghost use Rattle.std.specs.List.{AllByRecursion, AllZip};
 ghost use Rattle.ror_pivot.specs.Answers.{most_of};
 ghost use Rattle.ror_value.specs.Over.{IsLawfulIn, IsAskedIn};
@@ -9,7 +9,7 @@ ghost use Rattle.ror_relation.specs.Wide.{HasNoteAt};
 ghost use Rattle.ror_relation.specs.Answers.{IsVerdictWithin, IsGiven};
 ghost use Rattle.ror_relation.specs.Decisions.{IsDecision, IsGivenVerdict, verdict_of};
 
-use crate::decision::{Decision, decide_system};
+use crate::decision::{Decision, decide_system_warm};
 use crate::search::{Search, first_solvable};
 use crate::wide::copied_note;
 use ror_pivot::Bits;
@@ -19,6 +19,7 @@ use ror_statement::{Question, QuestionKind, Statement, kind_of};
 use ror_system::{Multipliers, Solution, System};
 use ror_table::Table;
 use ror_text::Items;
+use ror_warm::Engine;
 use std::alloc::{AllocError, Global};
 
 /// Answers a question over all value functions that are compatible with the statements. Systems are decided at this width:
@@ -41,9 +42,29 @@ pub fn decide(
     ensures narrow { IfOk result (λ x. IsVerdictWithin (most_of bits) x.verdict) }
     ensures true_answer { IfOk result (λ x. IsWideOrTrue table.now list.now q.now x.verdict) }
 {
+    decide_warm(alloc, &mut Engine::new(alloc), table, list, q, bits)
+}
+
+/// Answers a question as `decide` does, by an engine that may have decided others before.
+pub fn decide_warm(
+    alloc: Global,
+    engine: &mut Engine,
+    table: &Table,
+    list: &[Statement],
+    q: &Question,
+    bits: Bits,
+) -> Result<Answer, AllocError>
+    requires lawful { IsLawfulIn table.now list.now }
+    requires asked { IsAskedIn table.now q.now }
+    ensures allowed { IfOk result
+        (IsAllowedAnswer (HasNoteAt (most_of bits)) table.now list.now q.now) }
+    ensures narrow { IfOk result (λ x. IsVerdictWithin (most_of bits) x.verdict) }
+    ensures true_answer { IfOk result (λ x. IsWideOrTrue table.now list.now q.now x.verdict) }
+    ensures counted { engine.old.pivots ≤ engine.new.pivots }
+{
     let system = system_of(alloc, table, list)?;
-    let base = decide_system(alloc, &system, bits)?;
-    answer_over(alloc, table, list, &system, &base, q, bits)
+    let base = decide_system_warm(alloc, engine, &system, bits)?;
+    answer_over(alloc, engine, table, list, &system, &base, q, bits)
 }
 
 /// Answers each of these questions as `decide` does, in order. The base is made and decided once.
@@ -59,11 +80,30 @@ pub fn decide_each(
     ensures { IfOk result (λ answers.
         AllZip (IsGiven (most_of bits) table.now list.now) questions.now answers.items) }
 {
+    decide_each_warm(alloc, &mut Engine::new(alloc), table, list, questions, bits)
+}
+
+/// Answers each of these questions as `decide_each` does, by an engine that may have decided others before.
+pub fn decide_each_warm(
+    alloc: Global,
+    engine: &mut Engine,
+    table: &Table,
+    list: &[Statement],
+    questions: &[Question],
+    bits: Bits,
+) -> Result<Vec<Answer>, AllocError>
+    requires lawful { IsLawfulIn table.now list.now }
+    requires asked { AllByRecursion (IsAskedIn table.now) questions.now }
+    ensures given { IfOk result (λ answers.
+        AllZip (IsGiven (most_of bits) table.now list.now) questions.now answers.items) }
+    ensures counted { engine.old.pivots ≤ engine.new.pivots }
+{
     let system = system_of(alloc, table, list)?;
-    let base = decide_system(alloc, &system, bits)?;
+    let base = decide_system_warm(alloc, engine, &system, bits)?;
     let mut answers = Vec::with_capacity(alloc, questions.len())?;
     for question in questions {
-        answers.push(answer_over(alloc, table, list, &system, &base, question, bits)?)?;
+        let answer = answer_over(alloc, engine, table, list, &system, &base, question, bits)?;
+        answers.push(answer)?;
     }
     Ok(answers)
 }
@@ -71,6 +111,7 @@ pub fn decide_each(
 /// Answers the question, where the system of the statements, the base, comes to this.
 fn answer_over(
     alloc: Global,
+    engine: &mut Engine,
     table: &Table,
     list: &[Statement],
     system: &System,
@@ -82,11 +123,12 @@ fn answer_over(
     requires asked { IsAskedIn table.now question.now }
     requires system { system.now ≡ base_system table.now list.now }
     requires base { IsDecision (most_of bits) system.now base.now }
-    ensures { IfOk result (IsGiven (most_of bits) table.now list.now question.now) }
+    ensures given { IfOk result (IsGiven (most_of bits) table.now list.now question.now) }
+    ensures counted { engine.old.pivots ≤ engine.new.pivots }
 {
     let verdict = match base {
         Decision::Solvable(solution) => {
-            verdict_over(alloc, table, list, system, solution, question, bits)?
+            verdict_over(alloc, engine, table, list, system, solution, question, bits)?
         }
         Decision::NotSolvable(multipliers) => Verdict::Contradiction(Proof {
             base: Certificate::Multipliers(copied_multipliers(alloc, multipliers)?),
@@ -106,6 +148,7 @@ fn answer_over(
 /// The verdict on the question, where the system of the statements, the base, has this solution.
 fn verdict_over(
     alloc: Global,
+    engine: &mut Engine,
     table: &Table,
     list: &[Statement],
     system: &System,
@@ -117,10 +160,11 @@ fn verdict_over(
     requires asked { IsAskedIn table.now question.now }
     requires system { system.now ≡ base_system table.now list.now }
     requires base { IsDecision (most_of bits) system.now (Decision.Solvable base.now) }
-    ensures { IfOk result (IsGivenVerdict (most_of bits) table.now list.now question.now) }
+    ensures given { IfOk result (IsGivenVerdict (most_of bits) table.now list.now question.now) }
+    ensures counted { engine.old.pivots ≤ engine.new.pivots }
 {
     let systems = question_systems(alloc, table, list, question)?;
-    let search = first_solvable(alloc, table, system, systems.as_slice(), bits)?;
+    let search = first_solvable(alloc, engine, table, system, systems.as_slice(), bits)?;
     let base = Certificate::Solution(copied_solution(alloc, base)?);
     concluded(alloc, kind_of(question), base, search)
 }

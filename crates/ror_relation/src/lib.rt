@@ -1,6 +1,7 @@
 //! Deciding questions over all value functions that are compatible with statements, each with its proof.
 //!
-//! `decide` answers one question, `decide_each` many over one list. The base, the system of the statements alone, is
+//! `decide` answers one question, `decide_each` many over one list; `decide_warm` and `decide_each_warm` do so by an engine
+//! that the caller keeps from question to question. The base, the system of the statements alone, is
 //! decided first, then the question's systems in order, up to the first that is solvable. The certificates that are found
 //! prove the verdict (`ror_check`), and it is true. A number past the width ends the search: the answer then names the
 //! system and the note of its path, and concludes nothing. `decide_system` decides one system by itself, for questions and for
@@ -24,7 +25,7 @@ mod pairs;
 mod search;
 mod wide;
 
-pub use deciding::{decide, decide_each};
+pub use deciding::{decide, decide_each, decide_each_warm, decide_warm};
 pub use decision::{Decision, decide_system};
 pub use pairs::relation_questions;
 

@@ -7,12 +7,13 @@ ghost use Rattle.ror_table.specs.Table.{columns};
 ghost use Rattle.ror_rows.specs.Rows.{extended_by, extras_of};
 ghost use Rattle.ror_relation.specs.Decisions.{AreUsable, IsSearch};
 
-use crate::decision::{Decision, decide_system};
+use crate::decision::{Decision, decide_system_warm};
 use ror_pivot::Bits;
 use ror_proof::{Certificate, Part, WideText};
 use ror_rows::{Extras, with_extras};
 use ror_system::System;
 use ror_table::Table;
+use ror_warm::Engine;
 use std::alloc::{AllocError, Global};
 
 /// What a search for a solvable system comes to. Systems are numbered from 1.
@@ -27,9 +28,10 @@ pub(crate) enum Search {
 }
 
 /// Decides the systems that the base makes with each of these extra rows, in order, up to the first that is solvable or too
-/// wide.
+/// wide, by the engine.
 pub(crate) fn first_solvable(
     alloc: Global,
+    engine: &mut Engine,
     table: &Table,
     base: &System,
     systems: &[Extras],
@@ -39,14 +41,15 @@ pub(crate) fn first_solvable(
     requires rows { length base.now.weak + length base.now.strict ≤ 2000 }
     requires few { length systems.now ≤ 200 }
     requires usable { AllByRecursion (AreUsable table.now) (map extras_of systems.now) }
-    ensures { IfOk result (IsSearch (most_of bits)
+    ensures found { IfOk result (IsSearch (most_of bits)
         (map (extended_by table.now base.now) (map extras_of systems.now))) }
+    ensures counted { engine.old.pivots ≤ engine.new.pivots }
 {
     let mut parts = Vec::new(alloc);
     for (place, extra) in systems.iter().enumerate() {
         let at = place as u32 + 1;
         let system = with_extras(alloc, table, base, extra.as_slice())?;
-        match decide_system(alloc, &system, bits)? {
+        match decide_system_warm(alloc, engine, &system, bits)? {
             Decision::Solvable(solution) => {
                 let body = Certificate::Solution(solution);
                 return Ok(Search::Solvable(Part { at, body }));

@@ -4,13 +4,14 @@ ghost use Rattle.std.specs.Prelude.{IsTrue};
 ghost use Rattle.std.specs.List.{AllByRecursion};
 ghost use Rattle.ror_value.specs.Over.{IsValidIn, IsLawfulIn, IsAskedIn};
 
-use crate::{decide, decide_each, relation_questions};
+use crate::{decide, decide_each, decide_warm, relation_questions};
 use ror_pivot::Bits;
 use ror_proof::Verdict;
 use ror_statement::{
     MOST_ROWS, MOST_STATEMENTS, Pair, Question, Scope, Statement, row_count, valid, valid_question,
 };
 use ror_table::{Table, read_plain};
+use ror_warm::Engine;
 use std::alloc::{AllocError, Global};
 use std::process::Abort;
 use std::test::Fail;
@@ -28,15 +29,23 @@ alternative x6 6
 alternative x7 7
 alternative x8 8
 alternative x9 9
+alternative x10 10
+alternative x11 11
+alternative x12 12
+alternative x13 13
+alternative x14 14
+alternative x15 15
+alternative x16 16
+alternative x17 17
 ";
 
 const LAST_STEP: Pair = Pair {
-    first: 9,
-    second: 8,
+    first: 17,
+    second: 16,
 };
 
 const BEFORE_LAST: Pair = Pair {
-    first: 8,
+    first: 16,
     second: 0,
 };
 
@@ -138,10 +147,10 @@ fn expect<R: Abort + AllocGlobal>(
     Ok(())
 }
 
-/// That each step but the first and the last is worth more than all before it together.
+/// That each step but the first is worth more than all before it together.
 fn doubling_steps(alloc: Global) -> Result<Vec<Statement>, AllocError> {
     let mut list = Vec::new(alloc);
-    for level in 1..8usize {
+    for level in 1..17usize {
         let step = Pair {
             first: level + 1,
             second: level,
@@ -155,26 +164,37 @@ fn doubling_steps(alloc: Global) -> Result<Vec<Statement>, AllocError> {
     Ok(list)
 }
 
+// In whole numbers the second step is worth at least 1 and the last one 2 to the 15th. No multipliers refute the statements.
 #[test]
 fn what_does_not_fit_is_too_wide(rt: HostRuntime) -> Result<(), Fail> {
     let table = read_plain(rt.alloc(), LEVELS)?;
-    let mut list = doubling_steps(rt.alloc())?;
-    // A no has a function by which the last step, too, is worth more than all before it.
+    let list = doubling_steps(rt.alloc())?;
+    let list = list.as_slice();
     let doubled_less = Question::NecessaryStrength(BEFORE_LAST, LAST_STEP, Scope::Whole);
-    let wide = [
-        (Question::Consistent, Said::Yes),
-        (doubled_less, Said::Wide(1)),
-    ];
-    let solved = [(Question::Consistent, Said::Yes), (doubled_less, Said::No)];
-    expect(&rt, &table, list.as_slice(), Bits::B15, &wide)?;
-    expect(&rt, &table, list.as_slice(), Bits::B127, &solved)?;
-    list.push(Statement::Stronger(LAST_STEP, BEFORE_LAST, Scope::Whole))?;
     let wide = [
         (Question::Consistent, Said::Wide(0)),
         (doubled_less, Said::Wide(0)),
     ];
-    expect(&rt, &table, list.as_slice(), Bits::B15, &wide)?;
-    expect(&rt, &table, list.as_slice(), Bits::B127, &solved)
+    let solved = [(Question::Consistent, Said::Yes), (doubled_less, Said::No)];
+    expect(&rt, &table, list, Bits::B15, &wide)?;
+    expect(&rt, &table, list, Bits::B127, &solved)
+}
+
+// Over no statements some function makes x0, the worst, worth as much as x1, and none makes it worth more.
+#[test]
+fn an_engine_answers_one_question_after_another(rt: HostRuntime) -> Result<(), Fail> {
+    let table = read_plain(rt.alloc(), LEVELS)?;
+    let mut engine = Engine::new(rt.alloc());
+    for (question, said) in [
+        (Question::Possible(0, 1), Said::Yes),
+        (Question::Necessary(0, 1), Said::No),
+    ] {
+        assert!(rt; is_lawful(&table, &[]));
+        assert!(rt; is_asked(&table, &question));
+        let answer = decide_warm(rt.alloc(), &mut engine, &table, &[], &question, Bits::B15)?;
+        assert_eq!(rt; outcome(&answer.verdict), said);
+    }
+    Ok(())
 }
 
 #[test]

@@ -1,7 +1,8 @@
 //! Repairing statements that no value function is compatible with.
 //!
 //! A repair goes through the numbered statements in order, keeps each that is consistent with those kept before it, and drops
-//! the others. `repair` decides so for each statement the system of those kept before it and itself. What it gives is proved:
+//! the others. `repair` decides so for each statement the system of those kept before it and itself; `repair_counted` counts the
+//! pivots besides. What it gives is proved:
 //! multipliers show of each dropped statement that no function is compatible with it and those kept before it, and a base
 //! shows that some function is compatible with all that is kept. `ror_check::check_repair` accepts these.
 //!
@@ -19,7 +20,7 @@ mod fault;
 mod repairing;
 
 pub use fault::RepairFault;
-pub use repairing::repair;
+pub use repairing::{repair, repair_counted};
 
 #[cfg(test)]
 mod tests;

@@ -1,6 +1,6 @@
 //! The call that repairs.
 
-ghost use Rattle.std.specs.Prelude.{◌≡◌, [], IsTrue, IfOk, IfErr};
+ghost use Rattle.std.specs.Prelude.{◌≡◌, ◌≤◌, [], IsTrue, IfOk, IfErr};
 ghost use Rattle.std.specs.List.Sorted.{IsStrictlyIncreasing};
 ghost use Rattle.ror_integers.specs.Vectors.{ones};
 ghost use Rattle.ror_statement.specs.declared.question.Conclusion.TheVariants.{Yes};
@@ -44,6 +44,30 @@ pub fn repair(
     ensures true_repair { IfOk result (λ x. IsRepair table.now standing.now (numbers_of x.dropped)) }
     ensures fault { IfErr result (IsFaultOf (most_of bits) table.now standing.now) }
 {
+    let mut pivots = 0;
+    repair_counted(alloc, table, standing, bits, &mut pivots)
+}
+
+/// Repairs the standing statements as `repair` does, and adds the pivots that it takes to a count.
+///
+/// # Errors
+///
+/// Those of `repair`.
+pub fn repair_counted(
+    alloc: Global,
+    table: &Table,
+    standing: &[Numbered],
+    bits: Bits,
+    pivots: &mut u64,
+) -> Result<Kept, RepairFault>
+    requires lawful { IsLawfulIn table.now (statements_in standing.now) }
+    requires rising { IsStrictlyIncreasing (numbers_in standing.now) }
+    ensures proved { IfOk result (IsProvedRepair table.now standing.now) }
+    ensures narrow { IfOk result (IsKeptWithin (most_of bits)) }
+    ensures true_repair { IfOk result (λ x. IsRepair table.now standing.now (numbers_of x.dropped)) }
+    ensures fault { IfErr result (IsFaultOf (most_of bits) table.now standing.now) }
+    ensures counted { pivots.old ≤ pivots.new }
+{
     let mut kept = Vec::new(alloc);
     let mut dropped = Vec::new(alloc);
     let mut base = base_of_nothing(alloc, table)?;
@@ -53,7 +77,7 @@ pub fn repair(
         if holds_at(&system, &base) {
             continue;
         }
-        match decide_system(alloc, &system, bits)? {
+        match decide_system(alloc, &system, bits, pivots)? {
             Decision::Solvable(solution) => base = Certificate::Solution(solution),
             Decision::NotSolvable(proof) => {
                 let number = numbered.number;

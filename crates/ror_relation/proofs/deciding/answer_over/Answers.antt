@@ -6,8 +6,8 @@ use Rattle.ror_relation.proofs.Concluding.{given, contradicted, base_too_wide}
 use Rattle.ror_relation.proofs.deciding.answer_over.Goals as goal
 use Rattle.ror_relation.proofs.deciding.answer_over.Goals.{in-Solvable+in_ok-verdict-in-Solvable, in-NotSolvable+in_ok-copied_multipliers-in-NotSolvable, in-TooWide+in_ok-copied_note-in-TooWide}
 
-pub returns : goal.returns
-returns c =
+pub returns-clause-given : goal.returns-clause-given
+returns-clause-given c =
     let t = c.args.table.now in
     let list = c.args.list.now in
     let q = c.args.question.now in
@@ -15,7 +15,7 @@ returns c =
     let most = most_of c.args.bits in
     let decided = subst (λ (s : LinearSystem). IsDecision most s base) c.requires.system c.requires.base in
     elim c.match-base.branch [
-      | in-Solvable+in_ok-verdict-in-Solvable w ↦ given most t list q c.match-base.verdict _ w.verdict-is w.in_ok-verdict-in-Solvable.ensures
+      | in-Solvable+in_ok-verdict-in-Solvable w ↦ given most t list q c.match-base.verdict _ w.verdict-is w.in_ok-verdict-in-Solvable.ensures.given
       | in-NotSolvable+in_ok-copied_multipliers-in-NotSolvable w ↦
           let copy = w.in_ok-copied_multipliers-in-NotSolvable in
           given most t list q c.match-base.verdict _ w.verdict-is (contradicted most t list q base w.in-NotSolvable.multipliers copy.field-0 w.from.result c.requires.lawful c.requires.asked decided w.in-NotSolvable.is copy.ensures (w.from.ensures ∙ w.new.ensures.items))

@@ -1,10 +1,13 @@
-use Rattle.std.proofs.Common.{refl}
 use Rattle.ror_pivot.specs.Answers.{most_of}
-use Rattle.ror_relation.proofs.Notes.{noted}
+use Rattle.ror_relation.proofs.Notes.{decided_by, below, fault_alone}
 use Rattle.ror_relation.proofs.decision.decide_system.Goals as goal
 
-pub returns-in_ok-wide_text-in-Err-Wide : goal.returns-in_ok-wide_text-in-Err-Wide
-returns-in_ok-wide_text-in-Err-Wide c =
-    let e = c.in-Err-Wide in
-    let text = c.in_ok-wide_text-in-Err-Wide in
-    noted (most_of c.args.bits) c.args.system.now c.args.system.now e.field-0 e.note text.field-0 refl e.ensures.answer e.field-0-is text.ensures.pivots text.ensures.place
+pub decision_of-requires : goal.decision_of-requires
+decision_of-requires c = below c.args.system.now c.solve_counted.result c.requires c.solve_counted.ensures.note
+
+pub returns-clause-decided : goal.returns-clause-decided
+returns-clause-decided c =
+    let most = most_of c.args.bits in
+    let s = c.args.system.now in
+    let solved = c.solve_counted in
+    decided_by most s solved.result c.decision_of.result solved.ensures.accepted solved.ensures.narrow (fault_alone most s solved.result solved.ensures.answer) c.decision_of.ensures
