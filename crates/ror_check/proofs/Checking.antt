@@ -1,10 +1,10 @@
 -- What the accepted certificates of an answer prove, and that a refused answer is not proved.
-use Rattle.std.proofs.Common.{◌≡◌, ℕ, zero, suc, ◌+◌, ◌<◌, ◌≤◌, Bool, true, false, ◌&&◌, List, [], ◌∷◌, length, map, get_or, Some, refl, sym, ap, ap₂, subst, ◌∙◌, arith, inl, inr}
+use Rattle.std.proofs.Common.{◌≡◌, ℕ, zero, suc, ◌+◌, ◌-◌, ◌<◌, ◌≤◌, Bool, true, false, ◌&&◌, List, [], ◌∷◌, length, map, get_or, Some, refl, sym, ap, ap₂, subst, ◌∙◌, arith, inl, inr}
 use Rattle.std.proofs.lemmas.Bool.{cases_lt}
 use Rattle.std.specs.Prelude.{slice_get, ◌↔◌}
 use Rattle.std.specs.List.{AllByRecursion, list_all, range_with_len}
 use Rattle.smallvec.specs.SmallVec.{SmallVec}
-use Rattle.ror_text.proofs.Everywhere.{all-map}
+use Rattle.ror_text.proofs.Everywhere.{all-map, all_at}
 use Rattle.ror_statement.specs.declared.comparison.Comparison.{Comparison}
 use Rattle.ror_statement.specs.declared.statement.Statement.{Statement}
 use Rattle.ror_statement.specs.declared.question.QuestionKind.{QuestionKind}
@@ -37,7 +37,8 @@ use Rattle.ror_check.specs.declared.side.Side.{Side}
 use Rattle.ror_check.specs.declared.side.Side.TheVariants.{Solvable, NotSolvable}
 use Rattle.ror_check.specs.Proof.{OfProof, Shows, ShowsOfItsSystem, Proves, IsProvedAnswer, IsTrueVerdict, AreNumbersFor, may_conclude, base_side, part_side, base_system, question_systems_of}
 use Rattle.ror_check.specs.Faults.{is_side, have_kind, has_kinds, IsRejectedFor}
-use Rattle.ror_check.specs.Steps.{IsAcceptedFor, AreUsable, systems_with, AreShownBefore, NameSystems}
+use Rattle.ror_check.specs.declared.fault.CheckFault.TheVariants as faults
+use Rattle.ror_check.specs.Steps.{IsAcceptedFor, AreUsable, systems_with, AreShownBefore, NameSystems, RefusesParts}
 
 -- ---- the systems
 
@@ -144,6 +145,45 @@ shown_more systems parts i k p s before within p-is counted there shown j p' sid
           let p-same : p ≡ p' = some_same (sym part_here ∙ part) in
           subst (λ (z : Part). is_side side z.body ≡ true → ShowsOfItsSystem side systems z) p-same (λ own. record { system = s; before = k; counted = counted; there = there; shown = shown side own }) kind
     ]
+
+-- so it is where the part is accepted for the system that it names
+pub shown_here : (t : DecisionTable) (base : LinearSystem) (vs : List (SmallVec Extra)) (parts : List Part) (i : ℕ) (p : Part) (v : SmallVec Extra) (s : LinearSystem) → AreShownBefore (systems_with t base vs) parts i → i < length parts → p ≡ get_or parts i p → NameSystems (length vs) parts → v ≡ get_or vs (p.at - 1) v → s ≡ extended_by t base (extras_of v)
+    → IsAcceptedFor s p.body → AreShownBefore (systems_with t base vs) parts (i + 1)
+shown_here t base vs parts i p v s before within p-is names v-is s-is accepted =
+    let named = all_at (λ (p : Part). (1 ≤ p.at) × (p.at ≤ length vs)) parts i p names (slice_get-at parts i p within p-is) in
+    let from = named.0 in
+    let to = named.1 in
+    shown_more (systems_with t base vs) parts i (p.at - 1) p s before within p-is (omega arith) (system_here t base vs (p.at - 1) v s (omega arith) v-is s-is) (accepted_shows s p.body accepted)
+
+-- and where it is not accepted the parts are refused by it
+pub refused_here : (t : DecisionTable) (base : LinearSystem) (vs : List (SmallVec Extra)) (parts : List Part) (i : ℕ) (p : Part) (v : SmallVec Extra) (s : LinearSystem) (r : Reject) → AreShownBefore (systems_with t base vs) parts i → i < length parts → p ≡ get_or parts i p → NameSystems (length vs) parts → v ≡ get_or vs (p.at - 1) v → s ≡ extended_by t base (extras_of v)
+    → IsRejectedFor s p.body r → RefusesParts (systems_with t base vs) parts (faults.Part (i + 1) r)
+refused_here t base vs parts i p v s r before within p-is names v-is s-is rejected =
+    let here = slice_get-at parts i p within p-is in
+    let named = all_at (λ (p : Part). (1 ≤ p.at) × (p.at ≤ length vs)) parts i p names here in
+    let from = named.0 in
+    let to = named.1 in (
+      record {
+        part = p;
+        before = i;
+        counted = refl;
+        part_there = here;
+        system = s;
+        systems_before = p.at - 1;
+        numbered = omega arith;
+        system_there = system_here t base vs (p.at - 1) v s (omega arith) v-is s-is;
+        rejected = rejected;
+      },
+      λ n counted. subst (AreShownBefore (systems_with t base vs) parts) (omega (arith, counted)) before,
+    )
+
+-- the extra rows of the system that a part names may be used
+pub usable_here : (t : DecisionTable) (vs : List (SmallVec Extra)) (parts : List Part) (i : ℕ) (p : Part) (v : SmallVec Extra) → AllByRecursion (AreUsable t) vs → i < length parts → p ≡ get_or parts i p → NameSystems (length vs) parts → v ≡ get_or vs (p.at - 1) v → AreUsable t v
+usable_here t vs parts i p v usable within p-is names v-is =
+    let named = all_at (λ (p : Part). (1 ≤ p.at) × (p.at ≤ length vs)) parts i p names (slice_get-at parts i p within p-is) in
+    let from = named.0 in
+    let to = named.1 in
+    all_at (AreUsable t) vs (p.at - 1) v usable (slice_get-at vs (p.at - 1) v (omega arith) v-is)
 
 pub both_true : (a b : Bool) → (a && b) ≡ true → (a ≡ true) × (b ≡ true)
 both_true true b e = (refl, e)

@@ -14,6 +14,7 @@ use Rattle.ror_statement.specs.declared.question.Conclusion.{Conclusion}
 use Rattle.ror_statement.specs.declared.question.Conclusion.TheVariants as conclusions
 use Rattle.ror_statement.specs.Questions.{kind_of}
 use Rattle.ror_table.specs.Table.{DecisionTable}
+use Rattle.ror_value.specs.Over.{IsLawfulIn, IsAskedIn}
 use Rattle.ror_system.specs.System.{LinearSystem}
 use Rattle.ror_system.specs.declared.reject.Reject.{Reject}
 use Rattle.smallvec.specs.SmallVec.{SmallVec}
@@ -27,10 +28,10 @@ use Rattle.ror_proof.specs.declared.answer.Answer.{Answer}
 use Rattle.ror_check.specs.declared.fault.CheckFault.{CheckFault}
 use Rattle.ror_check.specs.declared.fault.CheckFault.TheVariants as faults
 use Rattle.ror_check.specs.declared.side.Side.{Side}
-use Rattle.ror_check.specs.Proof.{OfProof, verdict_with, IsWide, Shows, ShowsOfItsSystem, Proves, IsProvedAnswer, AreNumbersFor, AreNumberedFor, may_conclude, base_side, part_side, base_system, question_systems_of}
+use Rattle.ror_check.specs.Proof.{OfProof, verdict_with, IsWide, IsTrueVerdict, Shows, ShowsOfItsSystem, Proves, IsProvedAnswer, AreNumbersFor, AreNumberedFor, may_conclude, base_side, part_side, base_system, question_systems_of}
 use Rattle.ror_check.specs.Faults.{is_side, have_kind, has_kinds, IsRejectedFor, FailsPart, FailsProof, FailsVerdict, FailsAnswer, fault_stage, fault_place, IsEarlierFault}
 use Rattle.ror_check.specs.Steps.{AreShownBefore, RefusesBase, RefusesParts, RefusesProof, systems_with}
-use Rattle.ror_check.proofs.Checking.{three_true, some_kind, some_same, shown_kind, rejected_not_shown, as_many, systems_with-are, proves}
+use Rattle.ror_check.proofs.Checking.{three_true, some_kind, some_same, shown_kind, rejected_not_shown, as_many, systems_with-are, proves, answer_is_true}
 
 -- a part that shows a side of the system that it names is refused for no reason
 shown_not_refused : (side : Side) (systems : List LinearSystem) (parts : List Part) (k : ℕ) (r : Reject) (f : FailsPart systems parts k r) → ShowsOfItsSystem side systems f.part → ⊥
@@ -220,6 +221,14 @@ answer_refused t list q x g asked h = λ ne.
       fails = answer_fails t list q x g (no_question t list q x.verdict g first.fails) first.fails;
       none_before = λ e earlier fails. first.none_before e earlier (verdict_fails t list q x e asked fails);
     }
+
+pub answer_refused_in : {A : Type 0} (t : DecisionTable) (list : List Statement) (q : Question) (x : Answer) (r : Result A CheckFault) → x.question ≡ q → IfErr r (IsRefusedBy (FailsVerdict t list q x.verdict) IsEarlierFault faults.Memory) → IfErr r (IsRefusedBy (FailsAnswer t list q x) IsEarlierFault faults.Memory)
+answer_refused_in t list q x (Ok u) asked h = tt
+answer_refused_in t list q x (Err g) asked h = answer_refused t list q x g asked h
+
+pub answer_true_in : {A : Type 0} (t : DecisionTable) (list : List Statement) (q : Question) (x : Answer) (r : Result A CheckFault) → IsLawfulIn t list → IsAskedIn t q → x.question ≡ q → OnOk r (OfProof (Proves t list q) x.verdict) → OnOk r (IsTrueVerdict t list q x.verdict)
+answer_true_in t list q x (Ok u) lawful asked same p = answer_is_true t list q x lawful asked (record { question = same; proof = p })
+answer_true_in t list q x (Err g) lawful asked same p = tt
 
 -- a verdict without a proof fails by that alone
 wide_fails : (t : DecisionTable) (list : List Statement) (q : Question) (v : Verdict) → IsWide v → FailsVerdict t list q v faults.WrongVerdict

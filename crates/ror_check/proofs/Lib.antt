@@ -1,8 +1,10 @@
 pub mod Checking
 pub mod Bases
+pub mod FewRows
 pub mod FirstFaults
 pub mod ManyAnswers
 pub mod Numbers
 pub mod Repairs
 pub mod RepairFirstFaults
 pub mod RepairWalk
+pub mod WeighedRows

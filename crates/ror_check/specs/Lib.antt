@@ -5,3 +5,4 @@ pub mod Repair
 pub mod RepairFaults
 pub mod RepairSteps
 pub mod Laws
+pub mod Weighed

@@ -1,5 +1,5 @@
 -- What each step of a check leaves to the next: the certificates that were accepted, and the one that was not.
-use Rattle.std.specs.Prelude.{IfSome, ◌≡◌, ℕ, ◌+◌, ◌<◌, ◌≤◌, true, false, List, length, map, slice_get, Some}
+use Rattle.std.specs.Prelude.{◌≡◌, ℕ, ◌+◌, ◌<◌, ◌≤◌, true, false, List, length, map, slice_get, Some}
 use Rattle.smallvec.specs.SmallVec.{SmallVec}
 use Rattle.std.specs.List.{AllByRecursion}
 use Rattle.ror_statement.specs.declared.statement.Statement.{Statement}
@@ -30,10 +30,10 @@ abbrev pub IsAcceptedFor : LinearSystem → Certificate → Type 0
 IsAcceptedFor s (certificates.Solution x) = IsAcceptedSolution s x.steps
 IsAcceptedFor s (certificates.Multipliers m) = AreAcceptedMultipliers s m.weak m.strict
 
--- the base is of this system, which accepts the certificate that is known
+-- the base is of this system, which accepts the certificates that are known
 pub record IsBaseOf (s : LinearSystem) (base : Base) : Type 0 where
   pub system : base.system.now ≡ s
-  pub known : IfSome base.known (λ c. IsAcceptedFor s c.now)
+  pub known : AllByRecursion (λ c. IsAcceptedFor s c.now) base.known.items
 
 -- at most 200 extra rows, each with names of the table
 abbrev pub AreUsable : DecisionTable → SmallVec Extra → Type 0

@@ -1,47 +1,82 @@
 //! The base of answers over the same statements.
 
-ghost use Rattle.std.specs.Prelude.{◌≡◌, ◌↔◌, IfOk, OnOk, IfErr, IsTrue};
+ghost use Rattle.std.specs.Prelude.{◌≡◌, ◌↔◌, OnOk, IfErr, IsTrue};
 ghost use Rattle.ror_check.specs.Faults.{IsRejectedFor};
 ghost use Rattle.ror_check.specs.Steps.{IsAcceptedFor, IsBaseOf};
 
 use ror_proof::Certificate;
 use ror_system::{Reject, System, accept_multipliers, accept_solution};
+use std::alloc::Global;
 
-/// The system of the statements, and a certificate that it accepts, where one is known.
-#[derive(Clone, Copy)]
+/// So many certificates are known at most.
+const MOST_KNOWN: usize = 100;
+
+/// The system of the statements, and certificates that it accepts, as far as they are known.
+#[derive(Drop)]
 pub(crate) struct Base<'a> {
     pub(crate) system: &'a System,
-    known: Option<&'a Certificate>,
+    known: Vec<&'a Certificate>,
+    /// Where the last one is, once there is no room.
+    next: usize,
 }
 
 impl<'a> Base<'a> {
     /// The base of which no certificate is known.
-    pub(crate) fn new(system: &'a System) -> Base<'a>
+    pub(crate) fn new(alloc: Global, system: &'a System) -> Base<'a>
         ensures { IsBaseOf system.now result }
     {
         Base {
             system,
-            known: None,
+            known: Vec::new(alloc),
+            next: 0,
         }
     }
 
-    /// The base with this certificate known, where the system accepts it. What is known already is not tested again.
-    pub(crate) fn accept(self, certificate: &'a Certificate) -> Result<Base<'a>, Reject>
-        requires { IsBaseOf self.system.now self }
-        ensures accepted { OnOk result (IsAcceptedFor self.entry.system.now certificate.now) }
-        ensures base { IfOk result (IsBaseOf self.entry.system.now) }
-        ensures rejected { IfErr result (IsRejectedFor self.entry.system.now certificate.now) }
+    /// Whether the system accepts the certificate, which is then known, where there is room for it. What is known is not tested
+    /// again.
+    ///
+    /// # Errors
+    ///
+    /// The first test that fails.
+    pub(crate) fn accept(&mut self, certificate: &'a Certificate) -> Result<(), Reject>
+        requires { IsBaseOf self.old.system.now self.old }
+        ensures base { IsBaseOf self.old.system.now self.new }
+        ensures accepted { OnOk result (IsAcceptedFor self.old.system.now certificate.now) }
+        ensures rejected { IfErr result (IsRejectedFor self.old.system.now certificate.now) }
     {
-        if let Some(known) = self.known {
-            if is_same(known, certificate) {
-                return Ok(self);
-            }
+        if self.knows(certificate) {
+            return Ok(());
         }
         accept(self.system, certificate)?;
-        Ok(Base {
-            system: self.system,
-            known: Some(certificate),
-        })
+        self.learn(certificate);
+        Ok(())
+    }
+
+    /// Whether the certificate is known.
+    fn knows(&self, certificate: &Certificate) -> bool
+        requires { IsBaseOf self.now.system.now self.now }
+        ensures { IsTrue result → IsAcceptedFor self.now.system.now certificate.now }
+    {
+        for known in self.known.iter() {
+            if is_same(known, certificate) {
+                return true;
+            }
+        }
+        false
+    }
+
+    /// Takes note of a certificate that the system accepts; where there is no room one that was known goes.
+    fn learn(&mut self, certificate: &'a Certificate)
+        requires base { IsBaseOf self.old.system.now self.old }
+        requires accepted { IsAcceptedFor self.old.system.now certificate.now }
+        ensures { IsBaseOf self.old.system.now self.new }
+    {
+        if self.known.len() < MOST_KNOWN {
+            let _pushed = self.known.push(certificate);
+            return;
+        }
+        self.next = self.next.wrapping_add(1) % MOST_KNOWN;
+        self.known[self.next] = certificate;
     }
 }
 

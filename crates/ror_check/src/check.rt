@@ -1,6 +1,6 @@
 //! The check of an answer, test by test.
 
-ghost use Rattle.std.specs.Prelude.{◌≡◌, ◌≢◌, ℕ, [], ◌∷◌, ◌≤◌, ◌<◌, ◌+◌, ◌-◌, ◌^◌, ◌↔◌, length, map, true, false, IsTrue, OnOk, OnErr, IfErr, IfOk, MatchOption};
+ghost use Rattle.std.specs.Prelude.{◌≡◌, ◌≢◌, ℕ, [], ◌∷◌, ◌≤◌, ◌<◌, ◌+◌, ◌-◌, ◌^◌, ◌↔◌, length, map, true, false, IsTrue, OnOk, OnErr, IfErr, MatchOption};
 ghost use Rattle.std.specs.List.{AllByRecursion, range_with_len};
 ghost use Rattle.ror_text.specs.FirstFault.{IsRefusedBy};
 ghost use Rattle.ror_table.specs.Table.{columns};
@@ -12,11 +12,11 @@ ghost use Rattle.ror_check.specs.Steps.{IsAcceptedFor, IsBaseOf, AreUsable, AreS
 
 use crate::base::{Base, accept};
 use crate::fault::{AnswersFault, CheckFault};
+use crate::few::is_shown_by_few;
 use crate::side::has_kinds;
 use ror_proof::{Answer, Certificate, Part, Proof, Verdict};
 use ror_rows::{Extras, question_systems, system_of, with_extras};
 use ror_statement::{Conclusion, Question, QuestionKind, Statement, kind_of};
-use ror_system::System;
 use ror_table::Table;
 use std::alloc::Global;
 
@@ -54,13 +54,19 @@ pub fn check_answer(
         return Err(CheckFault::WrongQuestion);
     }
     let base = system_of(alloc, table, list)?;
-    check_verdict(alloc, table, list, Base::new(&base), asked, &x.verdict)?;
-    Ok(())
+    check_verdict(
+        alloc,
+        table,
+        list,
+        &mut Base::new(alloc, &base),
+        asked,
+        &x.verdict,
+    )
 }
 
 /// Whether each answer's proof proves its verdict on the question that it names, over the same statements, as
 /// `check_answer` has it. An answer that is too wide concludes nothing, and is passed over. The system of the statements is
-/// made once, and a base that is the one before it again is not tested again.
+/// made once, and a solution of it that is known from an answer before is not tested again.
 ///
 /// The statements are lawful, the questions are valid for the table, and there are fewer than 2^32 - 1 answers.
 ///
@@ -88,37 +94,35 @@ pub fn check_answers(
         IsEarlierAnswersFault AnswersFault.Memory) }
 {
     let system = system_of(alloc, table, list)?;
-    let mut base = Base::new(&system);
+    let mut base = Base::new(alloc, &system);
     for (place, answer) in answers.iter().enumerate() {
-        match check_unless_wide(alloc, table, list, base, answer) {
-            Ok(accepted) => base = accepted,
-            Err(fault) => return Err(refused_at(place as u32 + 1, fault)),
+        if let Err(fault) = check_unless_wide(alloc, table, list, &mut base, answer) {
+            return Err(refused_at(place as u32 + 1, fault));
         }
     }
     Ok(())
 }
 
-/// Whether the answer is too wide or its proof proves its verdict, where the statements have this base; the base then
-/// knows the certificate of a proof.
+/// Whether the answer is too wide or its proof proves its verdict, where the statements have this base.
 fn check_unless_wide<'a>(
     alloc: Global,
     table: &Table,
     list: &[Statement],
-    base: Base<'a>,
+    base: &mut Base<'a>,
     x: &'a Answer,
-) -> Result<Base<'a>, CheckFault>
+) -> Result<(), CheckFault>
     requires lawful { IsLawfulIn table.now list.now }
     requires named { IsAskedIn table.now x.now.question }
-    requires base { IsBaseOf (base_system table.now list.now) base }
+    requires base { IsBaseOf (base_system table.now list.now) base.old }
     ensures ok { OnOk result (IsWideOrProved table.now list.now x.now.question x.now.verdict) }
-    ensures base { IfOk result (IsBaseOf (base_system table.now list.now)) }
+    ensures base { IsBaseOf (base_system table.now list.now) base.new }
     ensures concludes { OnErr result (is_wide x.now.verdict ≡ false) }
     ensures err { IfErr result (IsRefusedBy
         (FailsVerdict table.now list.now x.now.question x.now.verdict)
         IsEarlierFault CheckFault.Memory) }
 {
     match &x.verdict {
-        Verdict::Wide { .. } => Ok(base),
+        Verdict::Wide { .. } => Ok(()),
         verdict => check_verdict(alloc, table, list, base, &x.question, verdict),
     }
 }
@@ -133,21 +137,20 @@ fn refused_at(place: u32, fault: CheckFault) -> AnswersFault
     }
 }
 
-/// Whether the verdict has a proof that proves it, where the statements have this base; the base then knows the
-/// certificate of it.
+/// Whether the verdict has a proof that proves it, where the statements have this base.
 fn check_verdict<'a>(
     alloc: Global,
     table: &Table,
     list: &[Statement],
-    base: Base<'a>,
+    base: &mut Base<'a>,
     asked: &Question,
     verdict: &'a Verdict,
-) -> Result<Base<'a>, CheckFault>
+) -> Result<(), CheckFault>
     requires lawful { IsLawfulIn table.now list.now }
     requires named { IsAskedIn table.now asked.now }
-    requires base { IsBaseOf (base_system table.now list.now) base }
+    requires base { IsBaseOf (base_system table.now list.now) base.old }
     ensures ok { OnOk result (OfProof (Proves table.now list.now asked.now) verdict.now) }
-    ensures base { IfOk result (IsBaseOf (base_system table.now list.now)) }
+    ensures base { IsBaseOf (base_system table.now list.now) base.new }
     ensures err { IfErr result (IsRefusedBy
         (FailsVerdict table.now list.now asked.now verdict.now)
         IsEarlierFault CheckFault.Memory) }
@@ -178,16 +181,16 @@ fn check_proof<'a>(
     alloc: Global,
     table: &Table,
     list: &[Statement],
-    base: Base<'a>,
+    base: &mut Base<'a>,
     asked: &Question,
     conclusion: Conclusion,
     proof: &'a Proof,
-) -> Result<Base<'a>, CheckFault>
+) -> Result<(), CheckFault>
     requires lawful { IsLawfulIn table.now list.now }
     requires named { IsAskedIn table.now asked.now }
-    requires base { IsBaseOf (base_system table.now list.now) base }
+    requires base { IsBaseOf (base_system table.now list.now) base.old }
     ensures ok { OnOk result (Proves table.now list.now asked.now conclusion proof.now) }
-    ensures base { IfOk result (IsBaseOf (base_system table.now list.now)) }
+    ensures base { IsBaseOf (base_system table.now list.now) base.new }
     ensures err { IfErr result (IsRefusedBy
         (FailsProof table.now list.now asked.now conclusion proof.now)
         IsEarlierFault CheckFault.Memory) }
@@ -201,9 +204,8 @@ fn check_proof<'a>(
     if !are_numbered_for(kind_of(asked), conclusion, extras.len(), parts) {
         return Err(CheckFault::PartCount);
     }
-    let base = check_base(base, &proof.base)?;
-    check_parts(alloc, table, base.system, extras, parts)?;
-    Ok(base)
+    check_base(base, &proof.base)?;
+    check_parts(alloc, table, base, extras, parts)
 }
 
 /// Whether the parts have the numbers that the conclusion wants, where the question has so many systems.
@@ -257,39 +259,45 @@ fn are_numbered_from(first: u32, parts: &[Part]) -> bool
     }
 }
 
-fn check_base<'a>(base: Base<'a>, certificate: &'a Certificate) -> Result<Base<'a>, CheckFault>
-    requires { IsBaseOf base.system.now base }
-    ensures ok { OnOk result (IsAcceptedFor base.entry.system.now certificate.now) }
-    ensures base { IfOk result (IsBaseOf base.entry.system.now) }
-    ensures err { IfErr result (RefusesBase base.entry.system.now certificate.now) }
+fn check_base<'a>(base: &mut Base<'a>, certificate: &'a Certificate) -> Result<(), CheckFault>
+    requires { IsBaseOf base.old.system.now base.old }
+    ensures ok { OnOk result (IsAcceptedFor base.old.system.now certificate.now) }
+    ensures base { IsBaseOf base.old.system.now base.new }
+    ensures err { IfErr result (RefusesBase base.old.system.now certificate.now) }
 {
     match base.accept(certificate) {
-        Ok(base) => Ok(base),
+        Ok(()) => Ok(()),
         Err(reject) => Err(CheckFault::Base(reject)),
     }
 }
 
 /// Checks each part for the system that has its number, the base with its extra rows, from the first part on.
-fn check_parts(
+fn check_parts<'a>(
     alloc: Global,
     table: &Table,
-    base: &System,
+    base: &mut Base<'a>,
     systems: &[Extras],
-    parts: &[Part],
+    parts: &'a [Part],
 ) -> Result<(), CheckFault>
-    requires columns { base.now.columns ≡ columns table.now }
-    requires rows { length base.now.weak + length base.now.strict ≤ 2000 }
+    requires base { IsBaseOf base.old.system.now base.old }
+    requires columns { base.old.system.now.columns ≡ columns table.now }
+    requires rows { length base.old.system.now.weak + length base.old.system.now.strict ≤ 2000 }
     requires usable { AllByRecursion (AreUsable table.now) systems.now }
     requires numbers { NameSystems (length systems.now) parts.now }
     requires few { length parts.now < 2 ^ 32 - 1 }
-    ensures ok { OnOk result (AreShownBefore (systems_with table.now base.now systems.now) parts.now
+    ensures base { IsBaseOf base.old.system.now base.new }
+    ensures ok { OnOk result
+        (AreShownBefore (systems_with table.now base.old.system.now systems.now) parts.now
         (length parts.now)) }
     ensures err { IfErr result
-        (RefusesParts (systems_with table.now base.now systems.now) parts.now) }
+        (RefusesParts (systems_with table.now base.old.system.now systems.now) parts.now) }
 {
     for (i, part) in parts.iter().enumerate() {
-        let extras = &systems[part.at as usize - 1];
-        let system = with_extras(alloc, table, base, extras.as_slice())?;
+        let extras = systems[part.at as usize - 1].as_slice();
+        if is_shown_by_few(alloc, table, base, extras, &part.body)? {
+            continue;
+        }
+        let system = with_extras(alloc, table, base.system, extras)?;
         if let Err(reject) = accept(&system, &part.body) {
             return Err(CheckFault::Part(i as u32 + 1, reject));
         }

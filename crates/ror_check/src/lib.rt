@@ -32,9 +32,11 @@
 mod base;
 mod check;
 mod fault;
+mod few;
 pub mod laws;
 mod repair;
 mod side;
+mod weighed;
 
 pub use check::{check_answer, check_answers};
 pub use fault::{AnswersFault, CheckFault, RepairCheckFault};

@@ -53,7 +53,7 @@ const OTHER_PARTS: &str = "the parts are not those that the verdict wants";
 
 /// Lists, questions, answers, and what a check of each says. The row of a over b is (0, 1, 0, -1), that of a over c
 /// (1, 1, 1, 0).
-const CHECKED: [(&[Statement], Question, &[u8], &str); 26] = [
+const CHECKED: [(&[Statement], Question, &[u8], &str); 29] = [
     (
         NOTHING,
         Question::Necessary(0, 2),
@@ -216,6 +216,25 @@ const CHECKED: [(&[Statement], Question, &[u8], &str); 26] = [
         b"answer necessary a c yes\nbase solution 1 1 1 1\npart 1 multipliers 1 | 0 0\n",
         "part 1 is not accepted: NoStrict",
     ),
+    // multipliers that pass over a row, and two that do not refute
+    (
+        &[Statement::Prefer(0, 2), Statement::Prefer(0, 1)],
+        Question::Possible(1, 0),
+        b"answer possible b a no\nbase solution 0 1 0 0\npart 1 multipliers 1 | 0 0 1\n",
+        "",
+    ),
+    (
+        &[Statement::Prefer(0, 2), Statement::Prefer(0, 1)],
+        Question::Possible(1, 0),
+        b"answer possible b a no\nbase solution 0 1 0 0\npart 1 multipliers 1 | 0 1 0\n",
+        "part 1 is not accepted: Column(0)",
+    ),
+    (
+        &[Statement::Prefer(0, 2), Statement::Prefer(0, 1)],
+        Question::Possible(1, 0),
+        b"answer possible b a no\nbase solution 0 1 0 0\npart 1 multipliers 1 | 0 -1 1\n",
+        "part 1 is not accepted: Negative(2)",
+    ),
 ];
 
 /// Whether a desk may hold the list.
@@ -322,13 +341,31 @@ const BY_ANOTHER_BASE: &[u8] =
 const BY_A_WRONG_BASE: &[u8] =
     b"answer possible b a no\nbase solution 0 0 0 1\npart 1 multipliers 1 | 0 1\n";
 
+const BY_THE_BASE: &[u8] =
+    b"answer necessary c a no\nbase solution 0 1 0 0\npart 1 solution 0 1 0 0\n";
+
+const AGAINST_THE_BASE: &[u8] =
+    b"answer necessary a b no\nbase solution 0 1 0 0\npart 1 solution 0 1 0 0\n";
+
+const BY_NO_SOLUTION: &[u8] =
+    b"answer necessary c a no\nbase solution 0 1 0 0\npart 1 solution 1 0 0 0\n";
+
 const TOO_WIDE: &[u8] = b"answer necessary a c wide\nwide 1 step 1 0 path 2:1 0:0\n";
 
 #[test]
 fn each_answer_is_checked_over_one_base(rt: HostRuntime) -> Result<(), Fail> {
     let table = read_plain(rt.alloc(), TABLE)?;
-    let cases: [(&[&[u8]], &str); 4] = [
+    let cases: [(&[&[u8]], &str); 7] = [
         (&[], ""),
+        (&[SETTLED, BY_THE_BASE, BY_THE_BASE], ""),
+        (
+            &[SETTLED, AGAINST_THE_BASE],
+            "answer 2 is not accepted: part 1 is not accepted: Row(2)",
+        ),
+        (
+            &[BY_THE_BASE, BY_NO_SOLUTION],
+            "answer 2 is not accepted: part 1 is not accepted: Row(1)",
+        ),
         (&[SETTLED, AGAIN, BY_ANOTHER_BASE], ""),
         (
             &[SETTLED, TOO_WIDE, BY_A_WRONG_BASE],

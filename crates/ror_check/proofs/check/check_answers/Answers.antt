@@ -11,7 +11,7 @@ returns-in-Err-clause-not_proved c = none_proved {A = Unit {0}} c.args.table.now
 
 pub loop-place-preserved : goal.loop-place-preserved
 loop-place-preserved c =
-    (proved_more c.args.table.now c.args.list.now c.args.answers.now c.loop-place.place c.index-answers-place.result c.loop-place.invariant.0 c.loop-place-test.true c.index-answers-place.is c.in-Ok.ensures.ok, c.in-Ok.ensures.base)
+    (proved_more c.args.table.now c.args.list.now c.args.answers.now c.loop-place.place c.index-answers-place.result c.loop-place.invariant.0 c.loop-place-test.true c.index-answers-place.is c.in_default.ensures.ok, c.check_unless_wide.ensures.base)
 
 pub returns-clause-accepted : goal.returns-clause-accepted
 returns-clause-accepted c =

@@ -1,22 +1,33 @@
-use Rattle.std.proofs.Common.{rules, arith, ◌≤◌, ◌-◌, length}
-use Rattle.ror_proof.specs.declared.answer.Part.{Part}
-use Rattle.ror_check.specs.Steps.{systems_with}
-use Rattle.ror_text.proofs.Everywhere.{all_at}
-use Rattle.ror_check.proofs.Checking.{accepted_shows, shown_more, slice_get-at, system_here}
+use Rattle.std.proofs.Common.{◌∙◌, ap₂, map, List}
+use Rattle.ror_system.specs.System.{LinearSystem}
+use Rattle.ror_rows.specs.declared.extra.Extra.{Extra}
+use Rattle.ror_rows.specs.Rows.{extended_by, comparison_of_extra}
+use Rattle.ror_check.proofs.Checking.{shown_here, refused_here, usable_here}
 use Rattle.ror_check.proofs.check.check_parts.Goals as goal
+
+pub loop-i-preserved-then-branch : goal.loop-i-preserved-then-branch
+loop-i-preserved-then-branch c =
+    let t = c.args.table.now in
+    let is = ap₂ (λ (s : LinearSystem) (es : List Extra). extended_by t s (map comparison_of_extra es)) c.loop-i.invariant.1.system c.as_slice-extras.ensures in (
+      shown_here t c.args.base.now.system.now c.args.systems.now c.args.parts.now c.loop-i.i c.index-parts-i.result c.index-systems-part.result _ c.loop-i.invariant.0 c.loop-i-test.true c.index-parts-i.is c.requires.numbers c.index-systems-part.is is (c.in_ok-is_shown_by_few.ensures.shown c.if-branch.true),
+      record { system = c.in_ok-is_shown_by_few.ensures.base.system ∙ c.loop-i.invariant.1.system; known = rw c.loop-i.invariant.1.system at c.in_ok-is_shown_by_few.ensures.base.known },
+    )
+
+pub with_extras-requires-clause-named : goal.with_extras-requires-clause-named
+with_extras-requires-clause-named c =
+    let usable = usable_here c.args.table.now c.args.systems.now c.args.parts.now c.loop-i.i c.index-parts-i.result c.index-systems-part.result c.requires.usable c.loop-i-test.true c.index-parts-i.is c.requires.numbers c.index-systems-part.is in
+    rw c.as_slice-extras.ensures usable.1
+
+pub returns-in-Err-clause-err : goal.returns-in-Err-clause-err
+returns-in-Err-clause-err c =
+    let t = c.args.table.now in
+    let is = c.in_ok-system.ensures ∙ ap₂ (λ (s : LinearSystem) (es : List Extra). extended_by t s (map comparison_of_extra es)) (c.in_ok-is_shown_by_few.ensures.base.system ∙ c.loop-i.invariant.1.system) c.as_slice-extras.ensures in
+    refused_here t c.args.base.now.system.now c.args.systems.now c.args.parts.now c.loop-i.i c.index-parts-i.result c.index-systems-part.result c.in_ok-system.system c.in-Err.reject c.loop-i.invariant.0 c.loop-i-test.true c.index-parts-i.is c.requires.numbers c.index-systems-part.is is c.in-Err.ensures.rejected
 
 pub loop-i-preserved : goal.loop-i-preserved
 loop-i-preserved c =
-    let lt = c.loop-i-test.true in
     let t = c.args.table.now in
-    let base = c.args.base.now in
-    let vs = c.args.systems.now in
-    let parts = c.args.parts.now in
-    let i = c.loop-i.i in
-    let p = c.index-parts-i.result in
-    let here = slice_get-at parts i p lt c.index-parts-i.is in
-    let named = all_at (λ (p : Part). (1 ≤ p.at) × (p.at ≤ length vs)) parts i p c.requires.numbers here in
-    let from = named.0 in
-    let to = named.1 in
-    let there = system_here t base vs (p.at - 1) c.index-systems-part.result c.in_ok-system.system (omega arith) c.index-systems-part.is (search rules) in
-    shown_more (systems_with t base vs) parts i (p.at - 1) p c.in_ok-system.system c.loop-i.invariant lt c.index-parts-i.is (omega arith) there (accepted_shows c.in_ok-system.system p.body c.in_default.ensures.accepted)
+    let is = c.in_ok-system.ensures ∙ ap₂ (λ (s : LinearSystem) (es : List Extra). extended_by t s (map comparison_of_extra es)) (c.in_ok-is_shown_by_few.ensures.base.system ∙ c.loop-i.invariant.1.system) c.as_slice-extras.ensures in (
+      shown_here t c.args.base.now.system.now c.args.systems.now c.args.parts.now c.loop-i.i c.index-parts-i.result c.index-systems-part.result c.in_ok-system.system c.loop-i.invariant.0 c.loop-i-test.true c.index-parts-i.is c.requires.numbers c.index-systems-part.is is c.in_default.ensures.accepted,
+      record { system = c.in_ok-is_shown_by_few.ensures.base.system ∙ c.loop-i.invariant.1.system; known = rw c.loop-i.invariant.1.system at c.in_ok-is_shown_by_few.ensures.base.known },
+    )

@@ -1,14 +1,13 @@
-use Rattle.std.proofs.Common.{rules, arith, length, map, ◌≡◌, true, Ok, Err, refl, ap, subst, ◌∙◌}
-use Rattle.std.proofs.lemmas.Result.{err_from_is_err_and}
+use Rattle.std.proofs.Common.{rules, arith, length, map, ◌≡◌, true, subst, ◌∙◌}
 use Rattle.ror_statement.specs.Questions.{kind_of}
 use Rattle.ror_system.specs.System.{LinearSystem}
 use Rattle.ror_check.specs.Proof.{AreNumbersFor, base_system}
-use Rattle.ror_check.specs.Steps.{IsAcceptedFor, IsBaseOf, RefusesBase}
+use Rattle.ror_check.specs.Steps.{IsAcceptedFor}
 use Rattle.ror_check.specs.Faults.{has_kinds}
 use Rattle.ror_rows.specs.Rows.{extras_of, systems_of_question}
 use Rattle.ror_rows.proofs.Extending.{base_few}
 use Rattle.ror_check.proofs.Checking.{systems_usable, few_systems, numbers_name, parts_few, accepted_shows}
-use Rattle.ror_check.proofs.FirstFaults.{counted, base_refused, proof_accepted, proof_refused}
+use Rattle.ror_check.proofs.FirstFaults.{proof_accepted, proof_refused}
 use Rattle.ror_check.proofs.check.check_proof.Goals as goal
 
 pub are_numbered_for-requires : goal.are_numbered_for-requires
@@ -16,11 +15,8 @@ are_numbered_for-requires c =
     let few = few_systems c.args.table.now c.args.list.now c.in_ok-systems.systems.items c.args.asked.now c.in_ok-systems.ensures c.requires.lawful in
     rw c.as_slice-extras.ensures.value (omega (arith, few))
 
-pub check_parts-requires-clause-columns : goal.check_parts-requires-clause-columns
-check_parts-requires-clause-columns c = ap (λ (s : LinearSystem). s.columns) (c.in_ok-base.ensures.base.system ∙ c.requires.base.system)
-
 pub check_parts-requires-clause-rows : goal.check_parts-requires-clause-rows
-check_parts-requires-clause-rows c = base_few c.args.table.now c.args.list.now c.in_ok-base.base.system.now c.requires.lawful (c.in_ok-base.ensures.base.system ∙ c.requires.base.system)
+check_parts-requires-clause-rows c = base_few c.args.table.now c.args.list.now c.check_base.new.base.system.now c.requires.lawful (c.check_base.ensures.base.system ∙ c.requires.base.system)
 
 pub check_parts-requires-clause-usable : goal.check_parts-requires-clause-usable
 check_parts-requires-clause-usable c = rw c.as_slice-extras.ensures.value (systems_usable c.args.table.now c.args.list.now c.in_ok-systems.systems.items c.args.asked.now c.in_ok-systems.ensures c.requires.lawful c.requires.named)
@@ -38,31 +34,6 @@ check_parts-requires-clause-few c =
     let same = rw c.as_slice-extras.ensures.value at most in
     omega (arith, few, same)
 
-pub check_base-requires : goal.check_base-requires
-check_base-requires c = record { system = refl; known = rw c.requires.base.system c.requires.base.known }
-
-pub returns-in_err-base-clause-err : goal.returns-in_err-base-clause-err
-returns-in_err-base-clause-err c =
-    let t = c.args.table.now in
-    let list = c.args.list.now in
-    let e : map extras_of c.as_slice-extras.result.now ≡ systems_of_question list c.args.asked.now = rw c.as_slice-extras.ensures.value c.in_ok-systems.ensures in
-    let kinds : has_kinds c.args.asked.now c.args.conclusion c.args.proof.now ≡ true = search rules in
-    let numbered : AreNumbersFor (kind_of c.args.asked.now) c.args.conclusion (length c.as_slice-extras.result.now) (map (λ p. p.at) c.as_slice-parts.result.now) = search rules in
-    let exit = err_from_is_err_and c.from_residual-in_err-base.result c.from_residual-in_err-base.ensures.1 in
-    rw (exit.1, exit.2) (base_refused t list c.args.asked.now c.args.conclusion c.args.proof.now c.in_err-base.field-0.0 kinds (counted list c.args.asked.now c.args.conclusion c.args.proof.now c.as_slice-extras.result.now c.as_slice-parts.result.now e c.as_slice-parts.ensures numbered)
-    (subst (λ (s : LinearSystem). RefusesBase s c.args.proof.now.base c.in_err-base.field-0.0) c.requires.base.system c.in_err-base.ensures.err))
-
-pub returns-in_err-check_parts-clause-err : goal.returns-in_err-check_parts-clause-err
-returns-in_err-check_parts-clause-err c =
-    let t = c.args.table.now in
-    let list = c.args.list.now in
-    let e : map extras_of c.as_slice-extras.result.now ≡ systems_of_question list c.args.asked.now = rw c.as_slice-extras.ensures.value c.in_ok-systems.ensures in
-    let kinds : has_kinds c.args.asked.now c.args.conclusion c.args.proof.now ≡ true = search rules in
-    let numbered : AreNumbersFor (kind_of c.args.asked.now) c.args.conclusion (length c.as_slice-extras.result.now) (map (λ p. p.at) c.as_slice-parts.result.now) = search rules in
-    let accepted = subst (λ (s : LinearSystem). IsAcceptedFor s c.args.proof.now.base) c.requires.base.system c.in_ok-base.ensures.ok in
-    let exit = err_from_is_err_and c.from_residual-in_err-check_parts.result c.from_residual-in_err-check_parts.ensures.1 in
-    rw (exit.1, exit.2) (proof_refused {A = Unit {0}} t list c.args.asked.now c.args.conclusion c.args.proof.now c.in_ok-base.base.system.now c.as_slice-extras.result.now c.as_slice-parts.result.now (Err c.in_err-check_parts.field-0.0) (c.in_ok-base.ensures.base.system ∙ c.requires.base.system) e c.as_slice-parts.ensures kinds numbered (accepted_shows (base_system t list) c.args.proof.now.base accepted) c.in_err-check_parts.ensures.err)
-
 pub returns-clause-ok : goal.returns-clause-ok
 returns-clause-ok c =
     let t = c.args.table.now in
@@ -70,8 +41,15 @@ returns-clause-ok c =
     let e : map extras_of c.as_slice-extras.result.now ≡ systems_of_question list c.args.asked.now = rw c.as_slice-extras.ensures.value c.in_ok-systems.ensures in
     let kinds : has_kinds c.args.asked.now c.args.conclusion c.args.proof.now ≡ true = search rules in
     let numbered : AreNumbersFor (kind_of c.args.asked.now) c.args.conclusion (length c.as_slice-extras.result.now) (map (λ p. p.at) c.as_slice-parts.result.now) = search rules in
-    let accepted = subst (λ (s : LinearSystem). IsAcceptedFor s c.args.proof.now.base) c.requires.base.system c.in_ok-base.ensures.ok in
-    proof_accepted {A = Unit {0}} t list c.args.asked.now c.args.conclusion c.args.proof.now c.in_ok-base.base.system.now c.as_slice-extras.result.now c.as_slice-parts.result.now (Ok tt) (c.in_ok-base.ensures.base.system ∙ c.requires.base.system) e c.as_slice-parts.ensures kinds numbered (accepted_shows (base_system t list) c.args.proof.now.base accepted) c.in_ok-check_parts.ensures.ok
+    let accepted = subst (λ (s : LinearSystem). IsAcceptedFor s c.args.proof.now.base) c.requires.base.system c.in_ok-check_base.ensures.ok in
+    proof_accepted {A = Unit {0}} t list c.args.asked.now c.args.conclusion c.args.proof.now c.check_base.new.base.system.now c.as_slice-extras.result.now c.as_slice-parts.result.now c.check_parts.result (c.check_base.ensures.base.system ∙ c.requires.base.system) e c.as_slice-parts.ensures kinds numbered (accepted_shows (base_system t list) c.args.proof.now.base accepted) c.check_parts.ensures.ok
 
-pub returns-clause-base : goal.returns-clause-base
-returns-clause-base c = subst (λ (s : LinearSystem). IsBaseOf s c.in_ok-base.base) c.requires.base.system c.in_ok-base.ensures.base
+pub returns-clause-err : goal.returns-clause-err
+returns-clause-err c =
+    let t = c.args.table.now in
+    let list = c.args.list.now in
+    let e : map extras_of c.as_slice-extras.result.now ≡ systems_of_question list c.args.asked.now = rw c.as_slice-extras.ensures.value c.in_ok-systems.ensures in
+    let kinds : has_kinds c.args.asked.now c.args.conclusion c.args.proof.now ≡ true = search rules in
+    let numbered : AreNumbersFor (kind_of c.args.asked.now) c.args.conclusion (length c.as_slice-extras.result.now) (map (λ p. p.at) c.as_slice-parts.result.now) = search rules in
+    let accepted = subst (λ (s : LinearSystem). IsAcceptedFor s c.args.proof.now.base) c.requires.base.system c.in_ok-check_base.ensures.ok in
+    proof_refused {A = Unit {0}} t list c.args.asked.now c.args.conclusion c.args.proof.now c.check_base.new.base.system.now c.as_slice-extras.result.now c.as_slice-parts.result.now c.check_parts.result (c.check_base.ensures.base.system ∙ c.requires.base.system) e c.as_slice-parts.ensures kinds numbered (accepted_shows (base_system t list) c.args.proof.now.base accepted) c.check_parts.ensures.err
