@@ -1,6 +1,6 @@
 -- What is counted of a report block by block: its verdicts, and what the check of its blocks has counted.
 use Rattle.std.proofs.Common.{append-nil, ◌≡◌, ◌≢◌, ℕ, ◌+◌, ◌<◌, ◌≤◌, Bool, true, false, List, [], ◌∷◌, ◌++◌, length, get_or, take, refl, sym, ap, ◌∙◌, subst, arith}
-use Rattle.std.specs.Prelude.{cond, zero, suc}
+use Rattle.std.specs.Prelude.{cond, zero, suc, slice_set, slice_index_or}
 use Rattle.std.specs.Bool.{beq}
 use Rattle.std.specs.List.{AllByRecursion, flat_map, sum_by}
 use Rattle.std.proofs.lemmas.List.{take_more}
@@ -19,15 +19,15 @@ use Rattle.ror_report.specs.declared.block.Body.TheVariants as bodies
 use Rattle.ror_report.specs.Text.{answers_of, IsPrintableBlock}
 use Rattle.ror_history.specs.History.{Revisions}
 use Rattle.ror_bench.specs.Allowed.{Allowing, given_at}
-use Rattle.ror_bench.specs.Bench.{Workbench, revisions_at}
-use Rattle.ror_bench.specs.Blocks.{IsBlockOf, IsBodyOf, refused, taken, answers_passed, passed_of, with_block}
+use Rattle.ror_bench.specs.Bench.{Workbench, revisions_at, HoldTheSame}
+use Rattle.ror_bench.specs.Blocks.{IsBlockOf, IsBodyOf, refused, taken, answers_passed, passed_of, revisions_with, with_block}
 use Rattle.ror_bench.specs.Reports.{accepted_of}
 use Rattle.ror_bench.specs.declared.bench.Passed.{Passed}
 use Rattle.ror_bench.specs.declared.report.Accepted.{Accepted}
 use Rattle.ror_bench.specs.declared.bench.BlockFault.{BlockFault}
 use Rattle.ror_bench.specs.declared.bench.BlockFault.TheVariants as faults
 use Rattle.ror_bench.proofs.MakingLemmas.{IsMade, made_nothing, made_more}
-use Rattle.ror_bench.proofs.ReportProofs.{sums}
+use Rattle.ror_bench.proofs.ReportProofs.{sums, the_same}
 use Rattle.ror.specs.declared.generate.Verdicts.{Verdicts}
 use Rattle.ror.specs.Generating.{is_yes, is_no, is_contradiction, is_too_wide, verdicts_of, both_verdicts, answers_in, IsNoRepair, IsSummed}
 use Rattle.ror.specs.Generating.{most}
@@ -150,7 +150,7 @@ pub none_summed : (start : Workbench) → AreSummed start [] start (record { yes
 none_summed start = record { blocks = []; made = made_nothing most start; verdicts_are = refl; accepted_are = refl; proved = refl; too_wide = refl }
 
 -- one block more
-pub one_summed : (start : Workbench) (lines : List Line) (bench moved : Workbench) (before after here : Verdicts) (old new : Accepted) (line : Line) (block : Block) (passed : Passed) → AreSummed start lines bench before old → line.desk < length start.state → IsNoRepair line → IsBlockOf (given_at most) bench.table (revisions_at bench line.desk) line block → IsPrintableBlock bench.table block → moved ≡ with_block bench line block → here ≡ verdicts_of (answers_of block.body) → after ≡ both_verdicts before here → passed ≡ passed_of block.body → new ≡ record { answers = old.answers + passed.answers; wide = old.wide + passed.wide } → AreSummed start (lines ++ line ∷ []) moved after new
+pub one_summed : (start : Workbench) (lines : List Line) (bench moved : Workbench) (before after here : Verdicts) (old new : Accepted) (line : Line) (block : Block) (passed : Passed) → AreSummed start lines bench before old → line.desk < length start.state → IsNoRepair line → IsBlockOf (given_at most) bench.table (revisions_at bench line.desk) line block → IsPrintableBlock bench.table block → HoldTheSame moved (with_block bench line block) → here ≡ verdicts_of (answers_of block.body) → after ≡ both_verdicts before here → passed ≡ passed_of block.body → new ≡ record { answers = old.answers + passed.answers; wide = old.wide + passed.wide } → AreSummed start (lines ++ line ∷ []) moved after new
 one_summed start lines bench moved before after here old new line block passed were within no_repair is text moves here_is after_is passed_is new_is =
     let counts = block_counts (given_at most) bench.table (revisions_at bench line.desk) line block no_repair is in
     let answers = ap (λ (p : Passed). p.answers) passed_is ∙ counts.0 in
@@ -173,6 +173,20 @@ one_summed start lines bench moved before after here old new line block passed w
 
     sum_wide : (k a k' a' : ℕ) → k ≡ a → k' ≡ a' → k + k' ≡ a + a'
     sum_wide k a k' a' p q = omega arith
+
+-- a block that was made at one bench leaves another, which checked it and held the same, as that one
+pub checked_alike : (bench checks moved checked : Workbench) (line : Line) (block : Block) → HoldTheSame checks bench → checked ≡ with_block checks line block → HoldTheSame moved (with_block bench line block) → HoldTheSame checked moved
+checked_alike bench checks moved checked line block same is moves =
+    let checked_is = the_same checked (with_block checks line block) is in
+    let tables = ap (λ (t : DecisionTable). slice_set checks.state line.desk (revisions_with t (revisions_at checks line.desk) line.command block.body)) same.0 in
+    let states = ap (λ (rs : List Revisions). slice_set rs line.desk (revisions_with bench.table (slice_index_or rs line.desk (record { opening = []; surviving = [] })) line.command block.body)) same.1 in
+    (checked_is.0 ∙ same.0 ∙ sym moves.0, checked_is.1 ∙ tables ∙ states ∙ sym moves.1)
+
+-- what holds over what one bench has at a desk holds over what the other has
+pub there_too : (P : DecisionTable → Revisions → Type 0) (checks bench : Workbench) (desk : ℕ) → HoldTheSame checks bench → P bench.table (revisions_at bench desk) → P checks.table (revisions_at checks desk)
+there_too P checks bench desk same holds =
+    subst (λ (t : DecisionTable). P t (revisions_at checks desk)) (sym same.0)
+    (subst (λ (rs : List Revisions). P bench.table (slice_index_or rs desk (record { opening = []; surviving = [] }))) (sym same.1) holds)
 
 -- the blocks of all lines
 pub all_summed : (start : Workbench) (lines : List Line) (bench : Workbench) (verdicts : Verdicts) (accepted : Accepted) → AreSummed start lines bench verdicts accepted → IsSummed start lines (record { verdicts = verdicts; accepted = accepted })

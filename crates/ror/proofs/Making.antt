@@ -25,7 +25,7 @@ use Rattle.ror_io.specs.Counts.{Rose}
 use Rattle.ror_io.specs.Writing.{Grew, GrewShort}
 use Rattle.ror_io.proofs.Writes.{Grew-none, Grew-append, GrewShort-more, GrewShort-after}
 use Rattle.ror_bench.specs.Allowed.{given_at}
-use Rattle.ror_bench.specs.Bench.{Workbench, revisions_at, IsLawfulThroughout, IsLawfulBench, LeavesNumbers}
+use Rattle.ror_bench.specs.Bench.{Workbench, revisions_at, HoldTheSame, IsLawfulThroughout, IsLawfulBench, LeavesNumbers}
 use Rattle.ror_bench.specs.Blocks.{passed_of, IsBlockOf, with_block}
 use Rattle.ror_bench.specs.Reports.{accepted_of}
 use Rattle.ror_bench.proofs.MakingLemmas.{IsMade, made_nothing, made_more, text_more}
@@ -87,7 +87,7 @@ pub none_written : (most : ℕ) (start : Workbench) (out : SinkState) → AreWri
 none_written most start out = record { blocks = []; made = made_nothing most start; wide_is = refl; faults = refl; grew = Grew-none out.written }
 
 -- one block more
-pub one_written : (most : ℕ) (start : Workbench) (lines : List Line) (bench moved : Workbench) (old between new : SinkState) (wide : Bool) (line : Line) (block : Block) → AreWritten most start lines bench old between wide → line.desk < length start.state → IsBlockOf (given_at most) bench.table (revisions_at bench line.desk) line block → IsPrintableBlock bench.table block → moved ≡ with_block bench line block → new.faults ≡ between.faults → Grew between.written new.written (block_text bench.table block) → AreWritten most start (lines ++ line ∷ []) moved old new (wide || has_wide block)
+pub one_written : (most : ℕ) (start : Workbench) (lines : List Line) (bench moved : Workbench) (old between new : SinkState) (wide : Bool) (line : Line) (block : Block) → AreWritten most start lines bench old between wide → line.desk < length start.state → IsBlockOf (given_at most) bench.table (revisions_at bench line.desk) line block → IsPrintableBlock bench.table block → HoldTheSame moved (with_block bench line block) → new.faults ≡ between.faults → Grew between.written new.written (block_text bench.table block) → AreWritten most start (lines ++ line ∷ []) moved old new (wide || has_wide block)
 one_written most start lines bench moved old between new wide line block were within is text moves faults grew =
     let same : block_text bench.table block ≡ block_text start.table block = ap (λ (t : DecisionTable). block_text t block) were.made.after.table in
     record {
@@ -103,7 +103,7 @@ one_written most start lines bench moved old between new wide line block were wi
     or_false false = refl
 
 -- one block more was made, and only a front of it written
-pub block_cut : (most : ℕ) (start : Workbench) (lines : List Line) (i : ℕ) (bench moved : Workbench) (old between new : SinkState) (wide : Bool) (line : Line) (block : Block) → i < length lines → line ≡ get_or lines i line → AreWritten most start (take i lines) bench old between wide → line.desk < length start.state → IsBlockOf (given_at most) bench.table (revisions_at bench line.desk) line block → IsPrintableBlock bench.table block → moved ≡ with_block bench line block → between.faults ≤ new.faults → Rose between.faults new.faults → GrewShort between.written new.written (block_text bench.table block) → MakesBlocks most start lines old new (Err stops.WriteFault)
+pub block_cut : (most : ℕ) (start : Workbench) (lines : List Line) (i : ℕ) (bench moved : Workbench) (old between new : SinkState) (wide : Bool) (line : Line) (block : Block) → i < length lines → line ≡ get_or lines i line → AreWritten most start (take i lines) bench old between wide → line.desk < length start.state → IsBlockOf (given_at most) bench.table (revisions_at bench line.desk) line block → IsPrintableBlock bench.table block → HoldTheSame moved (with_block bench line block) → between.faults ≤ new.faults → Rose between.faults new.faults → GrewShort between.written new.written (block_text bench.table block) → MakesBlocks most start lines old new (Err stops.WriteFault)
 block_cut most start lines i bench moved old between new wide line block within item were named is text moves up rose short =
     let same : block_text bench.table block ≡ block_text start.table block = ap (λ (t : DecisionTable). block_text t block) were.made.after.table in
     let blocks = were.blocks ++ block ∷ [] in

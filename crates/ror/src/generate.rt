@@ -6,7 +6,7 @@ ghost use Rattle.std.specs.List.{AllByRecursion};
 ghost use Rattle.ror_session.specs.declared.limits.TheConstants.{MOST_LINES};
 ghost use Rattle.ror_report.specs.Text.{answers_of, IsPrintableBlock};
 ghost use Rattle.ror_bench.specs.Allowed.{given_at};
-ghost use Rattle.ror_bench.specs.Bench.{revisions_at, LeavesNumbers};
+ghost use Rattle.ror_bench.specs.Bench.{revisions_at, HoldTheSame, LeavesNumbers};
 ghost use Rattle.ror_bench.specs.Blocks.{IsBlockOf, passed_of, with_block};
 ghost use Rattle.ror_bench.specs.Reports.{NamesADesk};
 ghost use Rattle.ror_history.specs.History.{next_number};
@@ -84,13 +84,13 @@ fn summed(alloc: Global, number: u32) -> Result<Summary, AllocError>
     summed_lines(&mut bench, &mut checks, session.lines.as_slice())
 }
 
-/// Does the lines at one bench and checks their blocks at another, which is as the first.
+/// Does the lines at one bench and checks their blocks at another, which holds the same.
 fn summed_lines(
     bench: &mut Bench,
     checks: &mut Bench,
     lines: &[Line],
 ) -> Result<Summary, AllocError>
-    requires same { checks.old ≡ bench.old }
+    requires same { HoldTheSame checks.old bench.old }
     requires desks { AllByRecursion (NamesADesk (length bench.old.state)) lines.now }
     requires numbers { AllByRecursion (LeavesNumbers (length lines.now)) bench.old.state }
     requires few { length lines.now ≤ MOST_LINES }
@@ -108,21 +108,22 @@ fn summed_lines(
     Ok(Summary { verdicts, accepted })
 }
 
-/// The block of a line at one bench, and what is counted where another, which is as the first, checks it.
+/// The block of a line at one bench, and what is counted where another, which holds the same, checks it.
 fn checked_block(
     bench: &mut Bench,
     checks: &mut Bench,
     line: &Line,
 ) -> Result<(Block, Passed), AllocError>
-    requires same { checks.old ≡ bench.old }
+    requires same { HoldTheSame checks.old bench.old }
     requires desk { line.now.desk < length bench.old.state }
     requires number { next_number (revisions_at bench.old line.now.desk) < 2 ^ 32 - 1 }
     ensures block { IfOk result (λ x. IsBlockOf (given_at most) bench.old.table
         (revisions_at bench.old line.now.desk) line.now x.0) }
     ensures text { IfOk result (λ x. IsPrintableBlock bench.old.table x.0) }
     ensures counted { IfOk result (λ x. x.1 ≡ passed_of x.0.body) }
-    ensures moved { IfOk result (λ x. bench.new ≡ with_block bench.old line.now x.0) }
-    ensures same { OnOk result (checks.new ≡ bench.new) }
+    ensures moved { IfOk result
+        (λ x. HoldTheSame bench.new (with_block bench.old line.now x.0)) }
+    ensures same { OnOk result (HoldTheSame checks.new bench.new) }
 {
     let block = bench.step(line, Bits::B127)?;
     match checks.check_line(line, &block) {

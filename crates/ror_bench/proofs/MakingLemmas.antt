@@ -9,7 +9,7 @@ use Rattle.ror_report.specs.declared.block.Block.{Block}
 use Rattle.ror_report.specs.Text.{block_text, IsPrintableBlock}
 use Rattle.ror_history.specs.History.{Revisions}
 use Rattle.ror_bench.specs.Allowed.{given_at}
-use Rattle.ror_bench.specs.Bench.{Workbench, revisions_at, LeavesNumbers}
+use Rattle.ror_bench.specs.Bench.{Workbench, revisions_at, HoldTheSame, LeavesNumbers}
 use Rattle.ror_bench.specs.Blocks.{IsBlockOf, with_block}
 use Rattle.ror_bench.specs.Desks.{with_blocks}
 use Rattle.ror_bench.specs.Reports.{EachHolds, revisions_then}
@@ -38,7 +38,7 @@ pub record IsMade (most : ℕ) (start : Workbench) (lines : List Line) (bench : 
 pub made_nothing : (most : ℕ) (start : Workbench) → IsMade most start [] start []
 made_nothing most start = record { blocks_are = record { printable = tt; given = tt }; after = after_nothing start }
 
-pub made_more : (most : ℕ) (start : Workbench) (lines : List Line) (bench moved : Workbench) (line : Line) (blocks : List Block) (block : Block) → IsMade most start lines bench blocks → line.desk < length start.state → IsBlockOf (given_at most) bench.table (revisions_at bench line.desk) line block → IsPrintableBlock bench.table block → moved ≡ with_block bench line block → IsMade most start (lines ++ line ∷ []) moved (blocks ++ block ∷ [])
+pub made_more : (most : ℕ) (start : Workbench) (lines : List Line) (bench moved : Workbench) (line : Line) (blocks : List Block) (block : Block) → IsMade most start lines bench blocks → line.desk < length start.state → IsBlockOf (given_at most) bench.table (revisions_at bench line.desk) line block → IsPrintableBlock bench.table block → HoldTheSame moved (with_block bench line block) → IsMade most start (lines ++ line ∷ []) moved (blocks ++ block ∷ [])
 made_more most start lines bench moved line blocks block made within is text moves =
     let P : Revisions → Line → Block → Type 0 = IsBlockOf (given_at most) start.table in
     let before = with_blocks lines blocks in
@@ -54,7 +54,7 @@ made_more most start lines bench moved line blocks block made within is text mov
     }
 
 -- a desk's numbers are as many fewer as lines were done
-pub numbers_then : (most : ℕ) (bench moved : Workbench) (line : Line) (block : Block) (more : ℕ) → line.desk < length bench.state → AllByRecursion (LeavesNumbers (1 + more)) bench.state → IsBlockOf (given_at most) bench.table (revisions_at bench line.desk) line block → moved ≡ with_block bench line block → AllByRecursion (LeavesNumbers more) moved.state
+pub numbers_then : (most : ℕ) (bench moved : Workbench) (line : Line) (block : Block) (more : ℕ) → line.desk < length bench.state → AllByRecursion (LeavesNumbers (1 + more)) bench.state → IsBlockOf (given_at most) bench.table (revisions_at bench line.desk) line block → HoldTheSame moved (with_block bench line block) → AllByRecursion (LeavesNumbers more) moved.state
 numbers_then most bench moved line block more within all given is =
     numbers_after bench moved line block more within all (block_proved most bench.table (revisions_at bench line.desk) line block given) is
 

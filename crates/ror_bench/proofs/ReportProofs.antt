@@ -1,6 +1,6 @@
 -- What is left of a report, block by block, that reading it is a function, and what a rejected one is.
 use Rattle.std.proofs.Common.{length-set, append-nil, inl, inr, rules, ◌≡◌, ◌≢◌, ℕ, zero, suc, ◌+◌, ◌<◌, ◌≤◌, ◌^◌, true, false, List, [], ◌∷◌, ◌++◌, length, drop, get_or, Some, Result, Ok, Err, refl, sym, ap, ◌∙◌, subst, append_assoc, length-append, zero-add, add-one, drop-cons, arith}
-use Rattle.std.specs.Prelude.{codes, IfErr, IfSome, ◌==◌, ◌⊎◌, slice_set}
+use Rattle.std.specs.Prelude.{codes, IfErr, IfSome, ◌==◌, ◌⊎◌, slice_set, slice_index_or}
 use Rattle.std.proofs.lemmas.Bool.{cases_lt}
 use Rattle.std.specs.List.{AllByRecursion, flat_map, sum_by, filter}
 use Rattle.std.specs.Str.{IsUtf8}
@@ -28,7 +28,7 @@ use Rattle.ror_bench.specs.declared.report.Accepted.{Accepted}
 use Rattle.ror_bench.specs.declared.report.Rejection.{Rejection}
 use Rattle.ror_bench.specs.declared.report.Reason.{Reason}
 use Rattle.ror_bench.specs.declared.report.TheConstants.{MOST_REPORT_BYTES}
-use Rattle.ror_bench.specs.Bench.{Workbench, revisions_at, LeavesNumbers}
+use Rattle.ror_bench.specs.Bench.{Workbench, revisions_at, HoldTheSame, LeavesNumbers}
 use Rattle.ror_bench.specs.Allowed.{proved_unless_wide}
 use Rattle.ror_bench.specs.Blocks.{IsProvedBlock, passed_of, revisions_with, with_block}
 use Rattle.ror_bench.specs.Faults.{FailsBlock, IsEarlierBlockFault}
@@ -183,9 +183,19 @@ pub record IsAfter (start : Workbench) (before : List (Line × Block)) (bench : 
 pub after_nothing : (start : Workbench) → IsAfter start [] start
 after_nothing start = record { table = refl; desks = refl; holds = λ desk within. refl }
 
-pub after_block : (start : Workbench) (before : List (Line × Block)) (bench moved : Workbench) (line : Line) (block : Block) → IsAfter start before bench → line.desk < length start.state → moved ≡ with_block bench line block → IsAfter start (before ++ (line, block) ∷ []) moved
-after_block start before bench moved line block is within moved-is =
-    subst (IsAfter start (before ++ (line, block) ∷ [])) (sym moved-is) (record {
+pub the_same : (one other : Workbench) → one ≡ other → HoldTheSame one other
+the_same one other e = (ap (λ (b : Workbench). b.table) e, ap (λ (b : Workbench). b.state) e)
+
+after_same : (start : Workbench) (before : List (Line × Block)) (one other : Workbench) → HoldTheSame one other → IsAfter start before other → IsAfter start before one
+after_same start before one other same is = record {
+  table = same.0 ∙ is.table;
+  desks = ap length same.1 ∙ is.desks;
+  holds = λ desk inside. ap (λ (states : List Revisions). slice_index_or states desk (record { opening = []; surviving = [] })) same.1 ∙ is.holds desk inside;
+}
+
+pub after_block : (start : Workbench) (before : List (Line × Block)) (bench moved : Workbench) (line : Line) (block : Block) → IsAfter start before bench → line.desk < length start.state → HoldTheSame moved (with_block bench line block) → IsAfter start (before ++ (line, block) ∷ []) moved
+after_block start before bench moved line block is within same =
+    after_same start (before ++ (line, block) ∷ []) moved (with_block bench line block) same (record {
       table = is.table;
       desks = length-set bench.state line.desk (revisions_with bench.table (revisions_at bench line.desk) line.command block.body) ∙ is.desks;
       holds = λ desk inside. elim (number_cases line.desk desk) [
@@ -220,11 +230,11 @@ numbers_at more (x ∷ xs) (suc desk) d within all = numbers_at more xs desk d (
 pub number_left : (bench : Workbench) (line : Line) (more : ℕ) → line.desk < length bench.state → AllByRecursion (LeavesNumbers (1 + more)) bench.state → LeavesNumbers 1 (revisions_at bench line.desk)
 number_left bench line more within all = let here = numbers_at (1 + more) bench.state line.desk (record { opening = []; surviving = [] }) within all in omega arith
 
-pub numbers_after : (bench moved : Workbench) (line : Line) (block : Block) (more : ℕ) → line.desk < length bench.state → AllByRecursion (LeavesNumbers (1 + more)) bench.state → IsProvedBlock bench.table (revisions_at bench line.desk) line block → moved ≡ with_block bench line block → AllByRecursion (LeavesNumbers more) moved.state
-numbers_after bench moved line block more within all proved is =
+pub numbers_after : (bench moved : Workbench) (line : Line) (block : Block) (more : ℕ) → line.desk < length bench.state → AllByRecursion (LeavesNumbers (1 + more)) bench.state → IsProvedBlock bench.table (revisions_at bench line.desk) line block → HoldTheSame moved (with_block bench line block) → AllByRecursion (LeavesNumbers more) moved.state
+numbers_after bench moved line block more within all proved same =
     let here = numbers_at (1 + more) bench.state line.desk (record { opening = []; surviving = [] }) within all in
     let rises = moved_number proved_unless_wide bench.table (revisions_at bench line.desk) line.command block.body proved.body in
-    subst (λ (b : Workbench). AllByRecursion (LeavesNumbers more) b.state) (sym is)
+    subst (λ (states : List Revisions). AllByRecursion (LeavesNumbers more) states) (sym same.1)
     (numbers_set more bench.state line.desk (revisions_with bench.table (revisions_at bench line.desk) line.command block.body) (weaker more bench.state all) (omega (arith, here, rises)))
 
 pub after_desks : (start : Workbench) (before : List (Line × Block)) (bench : Workbench) → IsAfter start before bench → (line : Line) → line.desk < length start.state → line.desk < length bench.state
@@ -305,7 +315,7 @@ way_goes_on start lines bytes place bench moved line left from accepted count pa
     record {
       before = way.before ++ (line, next.block) ∷ [];
       counted = let c = way.counted in omega (arith, c, length-append way.before ((line, next.block) ∷ []));
-      after = after_block start way.before bench moved line next.block way.after within next.moved_on;
+      after = after_block start way.before bench moved line next.block way.after within (the_same moved (with_block bench line next.block) next.moved_on);
       completes = λ x rest.
           let whole = way.completes (with_passed x (passed_of next.block.body)) (rest_with start way.before line left (length lines) (drop from bytes) (drop after bytes) next.block x is.text is.printable here.proved rest) in
           subst (IsProvedReport start lines bytes) (both_ways accepted x (passed_of next.block.body) passed next.counted) whole;

@@ -1,23 +1,33 @@
--- A workbench: a table, and what each desk holds.
-use Rattle.std.specs.Prelude.{◌≡◌, ℕ, ◌+◌, ◌<◌, ◌^◌, List, [], ◌++◌, replicate, slice_index_or}
+-- A workbench: a table, what each desk holds, and how much work was done.
+use Rattle.std.specs.Prelude.{◌≡◌, ℕ, ◌+◌, ◌-◌, ◌<◌, ◌^◌, min, List, [], ◌++◌, replicate, slice_index_or}
 use Rattle.std.specs.List.{AllByRecursion}
 use Rattle.ror_table.specs.Table.{DecisionTable}
 use Rattle.ror_value.specs.declared.input.Input.{Input}
 use Rattle.ror_value.specs.Over.{IsLawfulIn}
 use Rattle.ror_history.specs.History.{Revision, Revisions, next_number, statements_of}
 
--- a table that no line changes, and the state of the desks: the statements that each began with and its surviving
--- revisions
+-- a table that no line changes, the state of the desks: the statements that each began with and its surviving revisions,
+-- and how many pivots were made so far, by questions and repairs together
 pub record Workbench : Type 0 where
   pub table : DecisionTable
   pub state : List Revisions
+  pub pivots : ℕ
 
--- the desks of an input: each begins with its opening statements
+-- the desks of an input: each begins with its opening statements, and no pivot was made
 abbrev pub bench_of : Input → ℕ → Workbench
 bench_of input desks = record {
   table = input.table;
   state = replicate desks (record { opening = input.opening; surviving = [] });
+  pivots = 0;
 }
+
+-- both have one table and hold the same at each desk, whatever pivots were made
+abbrev pub HoldTheSame : Workbench → Workbench → Type 0
+HoldTheSame one other = (one.table ≡ other.table) × (one.state ≡ other.state)
+
+-- those of questions and those of repairs; the count stays at its greatest value
+abbrev pub pivots_together : ℕ → ℕ → ℕ
+pivots_together questions repairs = min (questions + repairs) (2 ^ 64 - 1)
 
 -- what a desk holds
 abbrev pub revisions_at : Workbench → ℕ → Revisions

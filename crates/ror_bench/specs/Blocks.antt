@@ -110,6 +110,7 @@ with_block bench line block = record {
   table = bench.table;
   state = slice_set bench.state line.desk
       (revisions_with bench.table (revisions_at bench line.desk) line.command block.body);
+  pivots = bench.pivots;
 }
 
 -- ---- blocks that are checked

@@ -7,7 +7,7 @@ ghost use Rattle.ror_value.specs.Over.{IsLawfulIn};
 ghost use Rattle.ror_pivot.specs.Answers.{most_of};
 ghost use Rattle.ror_history.specs.History.{next_number};
 ghost use Rattle.ror_bench.specs.Allowed.{given_at};
-ghost use Rattle.ror_bench.specs.Bench.{Workbench, revisions_at, bench_of, IsLawfulBench};
+ghost use Rattle.ror_bench.specs.Bench.{Workbench, revisions_at, bench_of, HoldTheSame, IsLawfulBench};
 ghost use Rattle.ror_bench.specs.Blocks.{IsBlockOf, HasText, IsProvedBlock, passed_of, IsTrueBlock, with_block};
 ghost use Rattle.ror_bench.specs.Faults.{FailsBlock, IsEarlierBlockFault};
 ghost use Rattle.ror_bench.specs.Steps as steps;
@@ -22,6 +22,7 @@ use ror_session::Line;
 use ror_statement::{MOST_ROWS, MOST_STATEMENTS, Statement};
 use ror_table::Table;
 use ror_value::Input;
+use ror_warm::Engine;
 use std::alloc::{AllocError, AllocFailed, Global};
 use std::marker::Model;
 use thiserror::Error;
@@ -94,16 +95,23 @@ pub struct Bench {
     alloc: Global,
     table: Table,
     desks: Vec<History>,
+    /// Decides the questions of all desks.
+    engine: Engine,
+    repair_pivots: u64,
 }
 
 impl Model for Bench {
     ghost use Rattle.std.specs.Prelude.{map};
     ghost use Rattle.std.specs.List.{AllByRecursion};
-    ghost use Rattle.ror_bench.specs.Bench.{Workbench, IsLawfulThroughout};
+    ghost use Rattle.ror_bench.specs.Bench.{Workbench, IsLawfulThroughout, pivots_together};
 
     ghost Value = { Workbench };
 
-    ghost view = { λ b. record { table = b.table; state = map (λ h. h.state) b.desks.items } };
+    ghost view = { λ b. record {
+      table = b.table;
+      state = map (λ h. h.state) b.desks.items;
+      pivots = pivots_together b.engine.pivots b.repair_pivots;
+    } };
 
     ghost invariant = { λ b. AllByRecursion
         (λ h. IsLawfulThroughout b.table h.state) b.desks.items };
@@ -122,6 +130,8 @@ impl Bench {
             alloc,
             table,
             desks,
+            engine: Engine::new(alloc),
+            repair_pivots: 0,
         })
     }
 
@@ -131,6 +141,14 @@ impl Bench {
         ensures lawful { IsLawfulBench self.now }
     {
         &self.table
+    }
+
+    /// How many pivots were made so far, by questions and repairs together. The count never falls, and stays at its greatest
+    /// value once there. It takes no memory.
+    pub fn pivots(&self) -> u64
+        ensures { result ≡ self.now.pivots }
+    {
+        self.engine.pivots().saturating_add(self.repair_pivots)
     }
 
     /// Does the line at its desk, questions and repairs being decided at this width, and gives its block: what was made, the
@@ -145,13 +163,23 @@ impl Bench {
         ensures block { IfOk result (IsBlockOf (given_at (most_of bits)) self.old.table
             (revisions_at self.old line.now.desk) line.now) }
         ensures text { IfOk result (HasText self.old.table) }
-        ensures moved { IfOk result (λ block. self.new ≡ with_block self.old line.now block) }
-        ensures kept { IfErr result (λ _. self.new ≡ self.old) }
+        ensures moved { IfOk result
+            (λ block. HoldTheSame self.new (with_block self.old line.now block)) }
+        ensures kept { IfErr result (λ _. HoldTheSame self.new self.old) }
+        ensures pivots { self.old.pivots ≤ self.new.pivots }
     {
         // The systems of an answer have at most as many columns as a table, and each table has alternatives.
         prove!(self.table.alternatives() > 0);
         let history = &mut self.desks[line.desk as usize];
-        let body = perform(self.alloc, &self.table, history, &line.command, bits)?;
+        let body = perform(
+            self.alloc,
+            &mut self.engine,
+            &mut self.repair_pivots,
+            &self.table,
+            history,
+            &line.command,
+            bits,
+        )?;
         Ok(Block {
             line: line.number,
             body,
@@ -182,6 +210,7 @@ impl Bench {
             IsEarlierBlockFault BlockFault.Memory) }
         ensures moved { OnOk result (self.new ≡ with_block self.old line.now block.now) }
         ensures kept { IfErr result (λ _. self.new ≡ self.old) }
+        ensures pivots { self.old.pivots ≤ self.new.pivots }
     {
         if block.line != line.number {
             return Err(BlockFault::WrongBlock);

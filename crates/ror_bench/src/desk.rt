@@ -22,13 +22,14 @@ use ror_check::{check_answers, check_repair};
 use ror_history::{History, HistoryFault};
 use ror_pivot::Bits;
 use ror_proof::{Answer, Dropped, Verdict};
-use ror_relation::decide_each;
-use ror_repair::{RepairFault, repair};
+use ror_relation::decide_each_warm;
+use ror_repair::{RepairFault, repair_counted};
 use ror_report::{Body, LineFault};
 use ror_session::{Asked, Command, Named};
 use ror_statement::{Numbered, Question, Statement};
 use ror_table::Table;
 use ror_text::Items;
+use ror_warm::Engine;
 use std::alloc::{AllocError, Global};
 
 /// What a revision at a desk comes to.
@@ -111,9 +112,12 @@ fn undo(table: &Table, history: &mut History) -> Result<Made, LineStop>
 
 // ---- the block of a line
 
-/// Does the command at a desk, whose questions and repairs are decided at this width, and gives its body.
+/// Does the command at a desk, whose questions and repairs are decided at this width, and gives its body. Questions go to the
+/// engine, and the pivots of a repair are added to a count.
 pub(crate) fn perform(
     alloc: Global,
+    engine: &mut Engine,
+    repair_pivots: &mut u64,
     table: &Table,
     history: &mut History,
     command: &Command,
@@ -126,14 +130,16 @@ pub(crate) fn perform(
     ensures moved { IfOk result (λ body. history.new.state
         ≡ revisions_with table.now history.old.state command.now body) }
     ensures kept { IfErr result (λ _. history.new.state ≡ history.old.state) }
+    ensures counted { engine.old.pivots ≤ engine.new.pivots }
+    ensures repairs_counted { repair_pivots.old ≤ repair_pivots.new }
 {
     match command {
         Command::State(named) => said(add(table, history, named)),
         Command::Withdraw(number) => said(withdraw(table, history, *number)),
         Command::Replace(number, named) => said(replace(table, history, *number, named)),
-        Command::Repair => repair_at(alloc, table, history, bits),
+        Command::Repair => repair_at(alloc, table, history, bits, repair_pivots),
         Command::Undo => said(undo(table, history)),
-        Command::Ask(asked) => match answers_to(alloc, table, history, asked, bits) {
+        Command::Ask(asked) => match answers_to(alloc, engine, table, history, asked, bits) {
             Ok(answers) => Ok(Body::Answers(Items::from(answers))),
             Err(LineStop::Refused(fault)) => Ok(Body::Refused(fault)),
             Err(LineStop::Memory) => Err(AllocError),
@@ -147,15 +153,17 @@ fn repair_at(
     table: &Table,
     history: &mut History,
     bits: Bits,
+    pivots: &mut u64,
 ) -> Result<Body, AllocError>
     requires lawful { IsLawfulThroughout table.now history.old.state }
     ensures body { IfOk result (IsRepairAt (most_of bits) table.now (standing history.old.state)) }
     ensures moved { IfOk result (λ body. history.new.state
         ≡ revisions_with table.now history.old.state Repair body) }
     ensures kept { IfErr result (λ _. history.new.state ≡ history.old.state) }
+    ensures counted { pivots.old ≤ pivots.new }
 {
     let standing = history.standing()?;
-    match repair(alloc, table, standing.as_slice(), bits) {
+    match repair_counted(alloc, table, standing.as_slice(), bits, pivots) {
         Ok(kept) => {
             withdraw_dropped(alloc, history, kept.dropped.as_slice())?;
             Ok(Body::Repaired(kept))
@@ -209,9 +217,10 @@ fn said(made: Result<Made, LineStop>) -> Result<Body, AllocError>
     }
 }
 
-/// The answers to the questions of a line, decided at this width over what stands.
+/// The answers to the questions of a line, decided at this width over what stands, by the engine.
 fn answers_to(
     alloc: Global,
+    engine: &mut Engine,
     table: &Table,
     history: &History,
     asked: &Asked,
@@ -221,10 +230,18 @@ fn answers_to(
     ensures answers { IfOk result (λ answers. AreAnswers (given_at (most_of bits)) table.now
         (statements_of history.now.state) (names.questions_of table.now asked.now) answers.items) }
     ensures refused { IfErr result (RefusesCommand table.now history.now.state (Ask asked.now)) }
+    ensures counted { engine.old.pivots ≤ engine.new.pivots }
 {
     let questions = questions_of(alloc, table, asked)?;
     let list = statements_at(alloc, history)?;
-    let answers = decide_each(alloc, table, list.as_slice(), questions.as_slice(), bits)?;
+    let answers = decide_each_warm(
+        alloc,
+        engine,
+        table,
+        list.as_slice(),
+        questions.as_slice(),
+        bits,
+    )?;
     Ok(answers)
 }
 

@@ -1,13 +1,17 @@
 //! Tests of the crate's public calls.
 
-ghost use Rattle.std.specs.Prelude.{◌≡◌, ◌<◌, [], length, replicate, IfSome};
+ghost use Rattle.std.specs.Prelude.{◌≡◌, [], length, replicate, IfSome};
+ghost use Rattle.std.specs.List.{AllByRecursion};
 ghost use Rattle.ror_session.specs.Sound.{IsSound};
+ghost use Rattle.ror_bench.specs.Bench.{LeavesNumbers};
+ghost use Rattle.ror_bench.specs.Reports.{NamesADesk};
 
 use crate::{
     Accepted, Bench, MOST_REPORT_BYTES, Passed, Reason, ReportError, check_report, generate_input,
     statement_of,
 };
 use ror_pivot::Bits;
+use ror_proof::Verdict;
 use ror_report::{Block, Body, LineFault};
 use ror_session::{Asked, Command, Line, Session, read_session};
 use ror_statement::Statement;
@@ -107,23 +111,52 @@ fn session_of(alloc: Global, text: &[u8]) -> Option<Session>
     read_session(alloc, text).ok()
 }
 
-/// Its first line, which is for one of its desks.
-fn first_line(session: &Session) -> Option<&Line>
-    requires { IsSound session.now }
-    ensures { IfSome result (λ line. line.now.desk < length session.now.desks) }
-{
-    session.lines.as_slice().first()
+/// A block that another bench accepts, what is counted of it there, and how many pivots its own bench has made by then.
+#[derive(Drop)]
+struct Done {
+    block: Block,
+    passed: Passed,
+    pivots: u64,
 }
 
-/// The block of the first line of a session, and what is counted where another bench checks it.
-fn first_block(alloc: Global, text: &[u8]) -> Option<(Block, Passed)> {
-    let session = session_of(alloc, text)?;
-    let line = first_line(&session)?;
-    let mut checks = bench_for(alloc, &session)?;
-    let mut bench = bench_for(alloc, &session)?;
-    let block = bench.step(line, Bits::B127).ok()?;
-    let passed = checks.check_line(line, &block).ok()?;
-    Some((block, passed))
+/// Does the lines at one bench, and checks each block at another.
+fn done_lines(
+    alloc: Global,
+    bench: &mut Bench,
+    checks: &mut Bench,
+    lines: &[Line],
+) -> Result<Vec<Done>, Fail>
+    requires same { checks.old.state ≡ bench.old.state }
+    requires desks { AllByRecursion (NamesADesk (length bench.old.state)) lines.now }
+    requires numbers { AllByRecursion (LeavesNumbers (length lines.now)) bench.old.state }
+{
+    let mut done = Vec::new(alloc);
+    for line in lines {
+        let block = bench.step(line, Bits::B127)?;
+        let passed = checks.check_line(line, &block)?;
+        let pivots = bench.pivots();
+        let one = Done {
+            block,
+            passed,
+            pivots,
+        };
+        done.push(one)?;
+    }
+    Ok(done)
+}
+
+/// Does the lines of a session.
+fn done_session(alloc: Global, text: &[u8]) -> Result<Vec<Done>, Fail> {
+    let session = session_of(alloc, text).ok_or("the text is a session")?;
+    let mut checks = bench_for(alloc, &session).ok_or("there is a bench")?;
+    let mut bench = bench_for(alloc, &session).ok_or("there is a bench")?;
+    done_lines(alloc, &mut bench, &mut checks, session.lines.as_slice())
+}
+
+/// The block of a session of one line, and what is counted where another bench checks it.
+fn one_block(alloc: Global, text: &[u8]) -> Result<(Block, Passed), Fail> {
+    let one = done_session(alloc, text)?.pop().ok_or("there is a line")?;
+    Ok((one.block, one.passed))
 }
 
 #[test]
@@ -132,17 +165,57 @@ fn a_line_is_done_and_its_block_accepted(rt: HostRuntime) -> Result<(), Fail> {
         answers: 0,
         wide: 0,
     };
-    let (block, passed) = first_block(rt.alloc(), b"# a judge\n@x prefer a b\n").ok_or("added")?;
+    let (block, passed) = one_block(rt.alloc(), b"# a judge\n@x prefer a b\n")?;
     assert!(rt; block.line == 2 && matches!(&block.body, Body::Added(1)));
     assert_eq!(rt; passed, none);
-    let (block, passed) = first_block(rt.alloc(), b"prefer a z\n").ok_or("refused")?;
+    let (block, passed) = one_block(rt.alloc(), b"prefer a z\n")?;
     assert!(rt; matches!(&block.body, Body::Refused(LineFault::UnknownAlternative)));
     assert_eq!(rt; passed, none);
-    let (block, _) = first_block(rt.alloc(), b"undo\n").ok_or("refused")?;
+    let (block, _) = one_block(rt.alloc(), b"undo\n")?;
     assert!(rt; matches!(&block.body, Body::Refused(LineFault::NothingToUndo)));
-    let (block, passed) = first_block(rt.alloc(), b"ask possible b c\n").ok_or("answered")?;
+    let (block, passed) = one_block(rt.alloc(), b"ask possible b c\n")?;
     assert!(rt; matches!(&block.body, Body::Answers(answers) if answers.len() == 1));
     assert_eq!(rt; passed.answers, 1);
+    Ok(())
+}
+
+#[test]
+fn what_is_asked_again_takes_no_pivots(rt: HostRuntime) -> Result<(), Fail> {
+    let done = done_session(rt.alloc(), b"ask relation\nask relation\n")?;
+    assert!(rt; done.len() == 2);
+    assert!(rt; done[0].pivots > 0);
+    assert!(rt; done[1].pivots == done[0].pivots);
+    Ok(())
+}
+
+#[test]
+fn pivots_of_a_repair_are_counted(rt: HostRuntime) -> Result<(), Fail> {
+    let done = done_session(rt.alloc(), b"prefer a b\nrepair\n")?;
+    assert!(rt; done.len() == 2);
+    assert!(rt; done[1].pivots > done[0].pivots);
+    Ok(())
+}
+
+/// Whether the one answer of the block is yes.
+fn is_yes(block: &Block) -> bool {
+    match &block.body {
+        Body::Answers(answers) => match answers.as_slice() {
+            [answer] => matches!(&answer.verdict, Verdict::Yes(_)),
+            _ => false,
+        },
+        _ => false,
+    }
+}
+
+#[test]
+fn desks_that_contradict_each_other_stand_apart(rt: HostRuntime) -> Result<(), Fail> {
+    let session =
+        b"@x prefer a b\n@y prefer b a\n@x ask necessary a b\n@y ask necessary b a\n".as_slice();
+    let done = done_session(rt.alloc(), session)?;
+    assert!(rt; done.len() == 4);
+    assert!(rt; matches!(&done[1].block.body, Body::Added(1)));
+    assert!(rt; is_yes(&done[2].block));
+    assert!(rt; is_yes(&done[3].block));
     Ok(())
 }
 

@@ -1,4 +1,5 @@
 use Rattle.std.proofs.Common.{◌∙◌, sym, ap, length, arith}
+use Rattle.ror_bench.proofs.ReportProofs.{the_same}
 use Rattle.ror.proofs.Summaries.{one_desk, started, ready, summed_all}
 use Rattle.ror.proofs.generate.summed.Goals as goal
 
@@ -33,7 +34,7 @@ summed_lines-requires c =
     let checks = started number c.len-desks.result _ c.in_ok-checks.checks (ap (λ g. g.input) other) count c.in_ok-checks.ensures in
     let lines = c.as_slice.ensures ∙ ap (λ g. g.session.lines) one in
     let all = ready number c.in_ok-bench.bench c.as_slice.result.now bench lines in
-    record { same = checks ∙ sym bench; desks = all.desks; numbers = all.numbers; few = all.few; no_repair = all.no_repair }
+    record { same = the_same c.in_ok-checks.checks c.in_ok-bench.bench (checks ∙ sym bench); desks = all.desks; numbers = all.numbers; few = all.few; no_repair = all.no_repair }
 
 pub returns : goal.returns
 returns c =

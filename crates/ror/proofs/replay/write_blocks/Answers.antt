@@ -4,7 +4,7 @@ use Rattle.std.proofs.lemmas.Result.{err_from_is_err_and}
 use Rattle.std.specs.List.{AllByRecursion}
 use Rattle.ror_session.specs.declared.session.Line.{Line}
 use Rattle.ror_report.specs.Text.{block_text}
-use Rattle.ror_bench.specs.Bench.{Workbench, LeavesNumbers}
+use Rattle.ror_bench.specs.Bench.{LeavesNumbers}
 use Rattle.ror_bench.proofs.ReportProofs.{desk_at, after_desks, number_left, one_fewer}
 use Rattle.ror_bench.proofs.MakingLemmas.{numbers_then}
 use Rattle.ror.specs.States.{sink_state}
@@ -41,7 +41,7 @@ step-requires-clause-number g c =
 
 pub print_block-requires-clause-valid : goal.print_block-requires-clause-valid
 print_block-requires-clause-valid g c =
-    rw (c.table.ensures.value ∙ ap (λ (b : Workbench). b.table) c.in_ok-block.ensures.moved) c.in_ok-block.ensures.text.valid
+    rw (c.table.ensures.value ∙ c.in_ok-block.ensures.moved.0) c.in_ok-block.ensures.text.valid
 
 pub print_block-requires-clause-narrow : goal.print_block-requires-clause-narrow
 print_block-requires-clause-narrow g c = c.in_ok-block.ensures.text.narrow
@@ -71,7 +71,7 @@ returns-in_err-write_all g c =
     let desk = desk_at (length start.state) lines i line c.requires.desks c.loop-line-test.true c.line-item.is in
     let p = err_from_is_err_and c.from_residual-in_err-write_all.result c.from_residual-in_err-write_all.ensures.1 in
     let failed = c.in_err-write_all.ensures in
-    rw (p.1, p.2) (block_cut (most_of c.args.bits) start lines i c.loop-line.bench _ _ _ (sink_state (g.O.Sink.written c.write_all.new.sink) (g.O.Sink.faults c.write_all.new.sink)) _ line block c.loop-line-test.true c.line-item.is c.loop-line.invariant.were desk c.in_ok-block.ensures.block c.in_ok-block.ensures.text.printable c.in_ok-block.ensures.moved failed.never_falls failed.failed (rw (sym (c.as_slice.ensures.value ∙ c.in_ok-text.ensures.text ∙ ap (λ t. block_text t block) (c.table.ensures.value ∙ ap (λ (b : Workbench). b.table) c.in_ok-block.ensures.moved))) failed.short))
+    rw (p.1, p.2) (block_cut (most_of c.args.bits) start lines i c.loop-line.bench c.step.new.self _ _ (sink_state (g.O.Sink.written c.write_all.new.sink) (g.O.Sink.faults c.write_all.new.sink)) _ line block c.loop-line-test.true c.line-item.is c.loop-line.invariant.were desk c.in_ok-block.ensures.block c.in_ok-block.ensures.text.printable c.in_ok-block.ensures.moved failed.never_falls failed.failed (rw (sym (c.as_slice.ensures.value ∙ c.in_ok-text.ensures.text ∙ ap (λ t. block_text t block) (c.table.ensures.value ∙ c.in_ok-block.ensures.moved.0))) failed.short))
 
 pub loop-line-preserved : goal.loop-line-preserved
 loop-line-preserved g c =
@@ -85,7 +85,7 @@ loop-line-preserved g c =
     let here = after_desks start _ c.loop-line.bench were.made.after line desk in
     let fewer = one_fewer lines i c.loop-line-test.true in
     let done = c.in_ok-write_all.ensures in
-    let text = c.as_slice.ensures.value ∙ c.in_ok-text.ensures.text ∙ ap (λ t. block_text t block) (c.table.ensures.value ∙ ap (λ (b : Workbench). b.table) c.in_ok-block.ensures.moved) in
+    let text = c.as_slice.ensures.value ∙ c.in_ok-text.ensures.text ∙ ap (λ t. block_text t block) (c.table.ensures.value ∙ c.in_ok-block.ensures.moved.0) in
     let wide : c.if-wide.wide ≡ (c.loop-line.wide || has_wide block) = elim c.if-wide.branch [
       | then-wide w ↦ w.wide-is ∙ w.if-wide.true ∙ sym (ap (λ b. b || has_wide block) w.if-wide.true)
       | else-wide w ↦ w.wide-is ∙ w.has_wide-wide.ensures ∙ sym (ap (λ b. b || has_wide block) w.if-wide.false)

@@ -6,8 +6,8 @@ use Rattle.ror_history.specs.History.{standing}
 use Rattle.ror_bench.proofs.LawfulLemmas.{lawful_now}
 use Rattle.ror_bench.proofs.desk.repair_at.Goals as goal
 
-pub repair-requires-clause-lawful : goal.repair-requires-clause-lawful
-repair-requires-clause-lawful c =
+pub repair_counted-requires-clause-lawful : goal.repair_counted-requires-clause-lawful
+repair_counted-requires-clause-lawful c =
     let t = c.args.table.now in
     let r = c.args.history.now.state in
     let list : c.as_slice.result.now ≡ standing r = c.as_slice.ensures.value ∙ c.in_ok-standing.ensures.listed in

@@ -5,7 +5,7 @@ use Rattle.ror_bench.specs.Allowed.{proved_unless_wide}
 use Rattle.ror_bench.specs.declared.bench.BlockFault.TheVariants as faults
 use Rattle.ror_bench.specs.Blocks.{IsProvedBlock, IsTrueBlock}
 use Rattle.ror_bench.specs.Faults.{FailsBlock, IsEarlierBlockFault}
-use Rattle.ror_bench.specs.Bench.{revisions_at}
+use Rattle.ror_bench.specs.Bench.{revisions_at, pivots_together}
 use Rattle.ror_bench.proofs.AnswerLemmas.{checked_proved, checked_true, checked_refused, none_proved}
 use Rattle.ror_bench.proofs.DeskLemmas.{at_bench, kept_at, checked_moves, checked_keeps, checked_lawful}
 use Rattle.ror_bench.proofs.LawfulLemmas.{lawful_now}
@@ -15,7 +15,7 @@ pub invariant_of-self : goal.invariant_of-self
 invariant_of-self c =
     let views = c.self.inside.desks.items in
     let within : c.args.line.now.desk < length (map (λ h. h.state) views) = search rules in
-    checked_lawful c.self.inside.table views c.args.line.now c.args.block.now c.index_mut-history.result.now c.check.new.history c.args.self.now proved_unless_wide c.check.result c.self.invariant within c.index_mut-history.ensures.value c.check.ensures.body c.check.ensures.moved c.check.ensures.kept
+    checked_lawful c.self.inside.table (pivots_together c.self.inside.engine.pivots c.self.inside.repair_pivots) views c.args.line.now c.args.block.now c.index_mut-history.result.now c.check.new.history c.args.self.now proved_unless_wide c.check.result c.self.invariant within c.index_mut-history.ensures.value c.check.ensures.body c.check.ensures.moved c.check.ensures.kept
 
 pub returns-clause-accepted : goal.returns-clause-accepted
 returns-clause-accepted c =
@@ -23,7 +23,7 @@ returns-clause-accepted c =
     let views = c.self.inside.desks.items in
     let old = c.index_mut-history.result.now in
     let within : c.args.line.now.desk < length (map (λ h. h.state) views) = search rules in
-    at_bench (λ t r. OnOk c.check.result (IsProvedBlock t r c.args.line.now c.args.block.now)) t views c.args.line.now.desk old c.args.self.now within c.index_mut-history.ensures.value c.self.view_is
+    at_bench (λ t r. OnOk c.check.result (IsProvedBlock t r c.args.line.now c.args.block.now)) t (pivots_together c.self.inside.engine.pivots c.self.inside.repair_pivots) views c.args.line.now.desk old c.args.self.now within c.index_mut-history.ensures.value c.self.view_is
     (checked_proved t old.state c.args.line.now c.args.block.now c.check.result c.if-block-line.false c.check.ensures.body)
 
 pub returns-clause-true_block : goal.returns-clause-true_block
@@ -32,7 +32,7 @@ returns-clause-true_block c =
     let views = c.self.inside.desks.items in
     let old = c.index_mut-history.result.now in
     let within : c.args.line.now.desk < length (map (λ h. h.state) views) = search rules in
-    at_bench (λ t r. OnOk c.check.result (IsTrueBlock t r c.args.block.now)) t views c.args.line.now.desk old c.args.self.now within c.index_mut-history.ensures.value c.self.view_is
+    at_bench (λ t r. OnOk c.check.result (IsTrueBlock t r c.args.block.now)) t (pivots_together c.self.inside.engine.pivots c.self.inside.repair_pivots) views c.args.line.now.desk old c.args.self.now within c.index_mut-history.ensures.value c.self.view_is
     (checked_true t old.state c.args.line.now c.args.block.now c.check.result (lawful_now t old.state (kept_at t views c.args.line.now.desk old c.self.invariant within c.index_mut-history.ensures.value))
     (checked_proved t old.state c.args.line.now c.args.block.now c.check.result c.if-block-line.false c.check.ensures.body))
 
@@ -42,7 +42,7 @@ returns-clause-refused c =
     let views = c.self.inside.desks.items in
     let old = c.index_mut-history.result.now in
     let within : c.args.line.now.desk < length (map (λ h. h.state) views) = search rules in
-    at_bench (λ t r. IfErr c.check.result (IsRefusedBy (FailsBlock t r c.args.line.now c.args.block.now) IsEarlierBlockFault faults.Memory)) t views c.args.line.now.desk old c.args.self.now within c.index_mut-history.ensures.value c.self.view_is
+    at_bench (λ t r. IfErr c.check.result (IsRefusedBy (FailsBlock t r c.args.line.now c.args.block.now) IsEarlierBlockFault faults.Memory)) t (pivots_together c.self.inside.engine.pivots c.self.inside.repair_pivots) views c.args.line.now.desk old c.args.self.now within c.index_mut-history.ensures.value c.self.view_is
     (checked_refused t old.state c.args.line.now c.args.block.now c.check.result c.if-block-line.false c.check.ensures.refused)
 
 pub returns-clause-not_proved : goal.returns-clause-not_proved
@@ -52,7 +52,7 @@ pub returns-clause-moved : goal.returns-clause-moved
 returns-clause-moved c =
     let views = c.self.inside.desks.items in
     let within : c.args.line.now.desk < length (map (λ h. h.state) views) = search rules in
-    checked_moves c.self.inside.table views c.args.line.now c.args.block.now c.index_mut-history.result.now c.check.new.history c.args.self.now c.check.result within c.index_mut-history.ensures.value c.self.view_is c.check.ensures.moved
+    checked_moves c.self.inside.table (pivots_together c.self.inside.engine.pivots c.self.inside.repair_pivots) views c.args.line.now c.args.block.now c.index_mut-history.result.now c.check.new.history c.args.self.now c.check.result within c.index_mut-history.ensures.value c.self.view_is c.check.ensures.moved
 
 pub returns-clause-kept : goal.returns-clause-kept
-returns-clause-kept c = checked_keeps c.self.inside.table c.self.inside.desks.items c.args.line.now c.args.block.now c.index_mut-history.result.now c.check.new.history c.args.self.now c.check.result c.index_mut-history.ensures.value c.self.view_is c.check.ensures.kept
+returns-clause-kept c = checked_keeps c.self.inside.table (pivots_together c.self.inside.engine.pivots c.self.inside.repair_pivots) c.self.inside.desks.items c.args.line.now c.args.block.now c.index_mut-history.result.now c.check.new.history c.args.self.now c.check.result c.index_mut-history.ensures.value c.self.view_is c.check.ensures.kept
