@@ -7,8 +7,6 @@ mod host;
 mod replay;
 mod running;
 mod status;
-#[cfg(test)]
-mod tests;
 mod texts;
 mod words;
 mod work;

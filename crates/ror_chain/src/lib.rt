@@ -7,6 +7,3 @@ pub mod laws;
 mod links;
 
 pub use chain::Chain;
-
-#[cfg(test)]
-mod tests;

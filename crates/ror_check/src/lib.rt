@@ -41,6 +41,3 @@ mod weighed;
 pub use check::{check_answer, check_answers};
 pub use fault::{AnswersFault, CheckFault, RepairCheckFault};
 pub use repair::check_repair;
-
-#[cfg(test)]
-mod tests;

@@ -19,6 +19,3 @@ mod questions;
 
 pub use deciding::{decide_class, decide_class_warm, decide_classes, decide_classes_warm};
 pub use questions::class_questions;
-
-#[cfg(test)]
-mod tests;

@@ -36,6 +36,3 @@ mod tag;
 pub use element::{Element, ElementError, ElementFault, ElementKind};
 pub use limits::MOST_DEPTH;
 pub use reading::read_elements;
-
-#[cfg(test)]
-mod tests;

@@ -13,6 +13,3 @@ pub use fault::{FractionFault, Part, RowFault, RowPart};
 pub use fraction::Fraction;
 pub use ratio::compare_ratios;
 pub use row::FracRow;
-
-#[cfg(test)]
-mod tests;

@@ -7,6 +7,3 @@ pub mod laws;
 mod listed;
 
 pub use history::{History, HistoryFault};
-
-#[cfg(test)]
-mod tests;

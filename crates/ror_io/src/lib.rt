@@ -9,8 +9,6 @@ pub mod shelf;
 pub mod sink;
 pub mod steady_shelf;
 pub mod steady_sink;
-#[cfg(test)]
-mod tests;
 
 pub use memory_shelf::MemoryShelf;
 pub use memory_sink::MemorySink;

@@ -8,8 +8,6 @@ mod relations;
 mod rows;
 mod systems;
 mod tables;
-#[cfg(test)]
-mod tests;
 
 ghost use Rattle.std.specs.Prelude.{◌≡◌, ◌-◌, ◌^◌, IfSome};
 ghost use Rattle.ror_pivot.specs.Answers.{most_of};

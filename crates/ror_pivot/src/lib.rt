@@ -35,6 +35,3 @@ mod sums;
 
 pub use note::{Bits, Outcome, Place, SolveFault, WideNote};
 pub use path::{solve, solve_bits, solve_counted};
-
-#[cfg(test)]
-mod tests;

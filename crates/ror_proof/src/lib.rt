@@ -14,6 +14,3 @@ pub use answer::{Answer, Certificate, Part, Pivot, PlaceText, Proof, Verdict, Wi
 pub use kept::{Dropped, Kept};
 pub use print::{print_answer, print_kept, write_answer, write_kept, write_wide};
 pub use read::{ProofFault, read_answer, read_kept, read_wide};
-
-#[cfg(test)]
-mod tests;

@@ -28,6 +28,3 @@ mod wide;
 pub use deciding::{decide, decide_each, decide_each_warm, decide_warm};
 pub use decision::{Decision, decide_system};
 pub use pairs::relation_questions;
-
-#[cfg(test)]
-mod tests;

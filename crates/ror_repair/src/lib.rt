@@ -21,6 +21,3 @@ mod repairing;
 
 pub use fault::RepairFault;
 pub use repairing::{repair, repair_counted};
-
-#[cfg(test)]
-mod tests;

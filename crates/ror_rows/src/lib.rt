@@ -6,8 +6,6 @@ mod extra;
 pub mod laws;
 mod questions;
 mod rows;
-#[cfg(test)]
-mod tests;
 
 pub use extra::{Extra, Extras};
 pub use questions::question_systems;

@@ -11,6 +11,3 @@ mod session;
 pub use limits::{MOST_DESK_NAME_BYTES, MOST_DESKS, MOST_LINES};
 pub use reading::read_session;
 pub use session::{Asked, Command, Line, Named, NamedPair, Session, SessionFault};
-
-#[cfg(test)]
-mod tests;

@@ -12,8 +12,6 @@ mod names;
 mod question;
 mod row_number;
 mod statement;
-#[cfg(test)]
-mod tests;
 
 pub use comparison::{Comparison, Form, Pair, Relation, Scope};
 pub use names::{valid, valid_question};

@@ -31,6 +31,3 @@ pub use accept::{Multipliers, Solution, accept_multipliers, accept_solution};
 pub use reject::Reject;
 pub use row::Row;
 pub use system::System;
-
-#[cfg(test)]
-mod tests;

@@ -41,6 +41,3 @@ pub use fault::{DraftFault, Kind, TableError, TableFault, TableKind, What};
 pub use limits::{MOST_ALTERNATIVES, MOST_CLASSES, MOST_CRITERIA, MOST_STEPS};
 pub use plain::read_plain;
 pub use table::Table;
-
-#[cfg(test)]
-mod tests;

@@ -13,6 +13,3 @@ mod text;
 
 pub use items::Items;
 pub use text::Text;
-
-#[cfg(test)]
-mod tests;

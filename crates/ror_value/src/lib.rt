@@ -8,6 +8,3 @@ mod value_function;
 
 pub use input::Input;
 pub use value_function::{ValueFault, ValueFunction};
-
-#[cfg(test)]
-mod tests;

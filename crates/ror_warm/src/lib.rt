@@ -22,7 +22,3 @@ mod warm;
 
 pub use engine::Engine;
 
-#[cfg(test)]
-mod tests;
-#[cfg(test)]
-mod warm_tests;

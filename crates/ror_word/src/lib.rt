@@ -10,6 +10,3 @@ mod word_32;
 mod word_64;
 
 pub use word::Word;
-
-#[cfg(test)]
-mod tests;

@@ -36,6 +36,3 @@ mod whole;
 
 pub use input::read_input;
 pub use ror_value::Input;
-
-#[cfg(test)]
-mod tests;
