@@ -44,28 +44,7 @@ use Rattle.ror_bench.proofs.AnswerLemmas.{one_list}
 use Rattle.ror_bench.proofs.LawfulLemmas.{lawful_now, moved_lawful}
 use Rattle.ror_bench.proofs.ReportProofs.{as_many}
 use Rattle.ror_bench.proofs.ApartLemmas.{turns_along, what_is_said, turns_are, turns_of_blocks}
-
--- ---- a line is refused for one fault
-
--- each fault is the one of its stage
-abbrev fault_at : ℕ → LineFault
-fault_at n = get_or (faults.UnknownAlternative ∷ faults.UnknownCriterion ∷ faults.UnknownClass ∷ faults.BadInterval ∷ faults.NoSuchStatement ∷ faults.NothingToUndo ∷ faults.TooManyStatements ∷ faults.TooManyRows ∷ faults.TooManyPairs ∷ []) n faults.TooManyPairs
-
-fault_again : (fault : LineFault) → fault_at (line_stage fault) ≡ fault
-fault_again faults.UnknownAlternative = refl
-fault_again faults.UnknownCriterion = refl
-fault_again faults.UnknownClass = refl
-fault_again faults.BadInterval = refl
-fault_again faults.NoSuchStatement = refl
-fault_again faults.NothingToUndo = refl
-fault_again faults.TooManyStatements = refl
-fault_again faults.TooManyRows = refl
-fault_again faults.TooManyPairs = refl
-
-one_refusal : (t : DecisionTable) (r : Revisions) (command : Command) (f g : LineFault) → IsRefusedFor t r command f → IsRefusedFor t r command g → f ≡ g
-one_refusal t r command f g first second =
-    let at = first_at (FailsLine t r command) line_stage (λ _. 0) f g first second in
-    sym (fault_again f) ∙ ap fault_at at.0 ∙ fault_again g
+use Rattle.ror_bench.proofs.CommandLemmas.{one_refusal}
 
 -- ---- true answers conclude the same
 

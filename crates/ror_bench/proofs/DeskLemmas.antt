@@ -27,7 +27,7 @@ nothing_before : {A : Type 0} (before after : List A) → [] ≡ before ++ after
 nothing_before [] after e = refl
 nothing_before (x ∷ xs) after e = absurd cc
 
-begun : (t : DecisionTable) (opening : List Statement) → IsLawfulIn t opening → IsLawfulThroughout t (record { opening = opening; surviving = [] })
+pub begun : (t : DecisionTable) (opening : List Statement) → IsLawfulIn t opening → IsLawfulThroughout t (record { opening = opening; surviving = [] })
 begun t opening lawful before after e =
     let none = nothing_before before after e in
     let stands : statements_of (record { opening = opening; surviving = [] }) ≡ opening = with_numbers_from-statements 1 opening in

@@ -3,6 +3,8 @@ use Rattle.std.proofs.Common.{◌≡◌, ℕ, zero, suc, ◌+◌, ◌-◌, ◌<�
 use Rattle.std.proofs.lemmas.Bool.{cases_lt}
 use Rattle.std.specs.Prelude.{slice_get, ◌↔◌}
 use Rattle.std.specs.List.{AllByRecursion, list_all, range_with_len}
+use Rattle.std.proofs.lemmas.Option.{slice_get_within}
+use Rattle.std.proofs.lemmas.List.FromFn.{length-range_with_len}
 use Rattle.smallvec.specs.SmallVec.{SmallVec}
 use Rattle.ror_text.proofs.Everywhere.{all-map, all_at}
 use Rattle.ror_statement.specs.declared.comparison.Comparison.{Comparison}
@@ -198,22 +200,18 @@ all_shown side systems (p ∷ parts) kinds h =
 
 -- ---- numbers of parts
 
-length-range : (a n : ℕ) → length (range_with_len a n) ≡ n
-length-range a zero = refl
-length-range a (suc n) = ap suc (length-range (a + 1) n)
-
 pub length-numbered : (count : ℕ) (parts : List Part) → map (λ p. p.at) parts ≡ range_with_len 1 count → length parts ≡ count
-length-numbered count parts e = sym (length-map' (λ (p : Part). p.at) parts) ∙ ap length e ∙ length-range 1 count
+length-numbered count parts e = sym (length-map' (λ (p : Part). p.at) parts) ∙ ap length e ∙ length-range_with_len 1 count
 
-few_systems_for : (k : QuestionKind) (es : List Extra) → length es ≤ 200 → length (systems_by k es) ≤ 200
-few_systems_for Plain es few = omega arith
-few_systems_for Any es few = omega arith
-few_systems_for Every es few = omega (arith, length-map' (λ (e : Extra). negation_of e ∷ []) es, few)
+pub few_by : (k : QuestionKind) (es : List Extra) → length es ≤ 200 → length (systems_by k es) ≤ 200
+few_by Plain es few = omega arith
+few_by Any es few = omega arith
+few_by Every es few = omega (arith, length-map' (λ (e : Extra). negation_of e ∷ []) es, few)
 
 pub few_systems : (t : DecisionTable) (list : List Statement) (vs : List (SmallVec Extra)) (q : Question) → map extras_of vs ≡ systems_of_question list q → IsLawfulIn t list → length vs ≤ 200
 few_systems t list vs q e lawful =
     let es = conditions_of list (property_of q) in
-    let few = few_systems_for (kind_of q) es (conditions_few t list (property_of q) lawful) in
+    let few = few_by (kind_of q) es (conditions_few t list (property_of q) lawful) in
     omega (arith, length-map' extras_of vs, ap length e, length-map' (map comparison_of_extra) (systems_by (kind_of q) es), few)
 
 pub as_many : (list : List Statement) (vs : List (SmallVec Extra)) (q : Question) → map extras_of vs ≡ systems_of_question list q → length vs ≡ length (systems_of_question list q)
@@ -259,10 +257,10 @@ numbers_few : (k : QuestionKind) (c : Conclusion) (count : ℕ) (numbers : List 
 numbers_few Plain conclusions.Yes count numbers h = let e = ap length h in omega (arith, e)
 numbers_few Plain conclusions.No count numbers h = let e = ap length h in omega (arith, e)
 numbers_few Plain conclusions.Contradiction count numbers h = let e = ap length h in omega (arith, e)
-numbers_few Any conclusions.Yes count numbers h = let e = ap length h in omega (arith, e, length-range 1 count)
-numbers_few Any conclusions.No count numbers h = let e = ap length h in omega (arith, e, length-range 1 count)
+numbers_few Any conclusions.Yes count numbers h = let e = ap length h in omega (arith, e, length-range_with_len 1 count)
+numbers_few Any conclusions.No count numbers h = let e = ap length h in omega (arith, e, length-range_with_len 1 count)
 numbers_few Any conclusions.Contradiction count numbers h = let e = ap length h in omega (arith, e)
-numbers_few Every conclusions.Yes count numbers h = let e = ap length h in omega (arith, e, length-range 1 count)
+numbers_few Every conclusions.Yes count numbers h = let e = ap length h in omega (arith, e, length-range_with_len 1 count)
 numbers_few Every conclusions.No count numbers h = let e = ap length h.3 in omega (arith, e, h.1, h.2)
 numbers_few Every conclusions.Contradiction count numbers h = let e = ap length h in omega (arith, e)
 
@@ -316,7 +314,7 @@ all_from_places t list (extra ∷ extras) h = (h 0 (system_for t list extra) ref
 
 -- the part with a number is there, where the numbers go on from one
 part_with : (P : Part → Type 0) (a n i : ℕ) (parts : List Part) → map (λ p. p.at) parts ≡ range_with_len a n → AllByRecursion P parts → i < n → (p : Part) × (p.at ≡ a + i) × P p
-part_with P a n i [] e h lt = absurd (let l = ap length e in omega (arith, length-range a n))
+part_with P a n i [] e h lt = absurd (let l = ap length e in omega (arith, length-range_with_len a n))
 part_with P a zero i (p ∷ parts) e h lt = absurd (omega arith)
 part_with P a (suc n) zero (p ∷ parts) e h lt = let first : p.at ≡ a = cc in (p, omega arith, h.0)
 part_with P a (suc n) (suc i) (p ∷ parts) e h lt =
@@ -324,11 +322,6 @@ part_with P a (suc n) (suc i) (p ∷ parts) e h lt =
     let x = part_with P (a + 1) n i parts others h.1 (omega arith) in
     let at = x.1 in
     (x.0, omega arith, x.2)
-
-slice_get-within : {X : Type 0} (xs : List X) (i : ℕ) (x : X) → slice_get xs i ≡ Some x → i < length xs
-slice_get-within [] i x e = absurd cc
-slice_get-within (y ∷ ys) zero x e = omega arith
-slice_get-within (y ∷ ys) (suc i) x e = let l = slice_get-within ys i x e in omega arith
 
 -- a part that shows its system not solvable shows it of the system at the place before its number
 not_solvable_at : (systems : List LinearSystem) (p : Part) (i : ℕ) (s : LinearSystem) → ShowsOfItsSystem NotSolvable systems p → p.at ≡ 1 + i → slice_get systems i ≡ Some s → IsSolvable s → ⊥
@@ -345,7 +338,7 @@ every_yes t list q proof k-is lawful asked consistent p =
     let numbered : map (λ p. p.at) proof.parts ≡ range_with_len 1 count = subst (λ (k : QuestionKind). AreNumbersFor k conclusions.Yes count (map (λ p. p.at) proof.parts)) k-is p.numbered in
     let parts : AllByRecursion (ShowsOfItsSystem NotSolvable systems) proof.parts = subst (λ (k : QuestionKind). AllByRecursion (ShowsOfItsSystem (part_side k conclusions.Yes) systems) proof.parts) k-is p.parts in
     let each : (i : ℕ) (s : LinearSystem) → slice_get systems i ≡ Some s → IsSolvable s → ⊥ = λ i s there can.
-    let within : i < length systems = slice_get-within systems i s there in
+    let within : i < length systems = slice_get_within systems i s there in
     let x = part_with (ShowsOfItsSystem NotSolvable systems) 1 count i proof.parts numbered parts (omega (arith, within, length-map' (system_for t list) (systems_of_question list q))) in
     not_solvable_at systems x.0 i s x.2 x.1 there can in
     (systems_decide_every t list q lawful consistent asked k-is).1 (all_from_places t list (systems_of_question list q) each)

@@ -7,6 +7,7 @@ use Rattle.std.specs.Set.{is_member}
 use Rattle.std.proofs.lemmas.Bool.{cases_Bool, cases_lt, false≢true}
 use Rattle.std.proofs.lemmas.List.{map-append, take_all}
 use Rattle.std.proofs.lemmas.List.Filters.{length-filter_both}
+use Rattle.std.proofs.lemmas.Option.{slice_get_within}
 use Rattle.ror_statement.specs.declared.statement.Numbered.{Numbered}
 use Rattle.ror_statement.specs.declared.statement.Statement.{Statement}
 use Rattle.ror_table.specs.Table.{DecisionTable}
@@ -98,11 +99,6 @@ some-left [] k lt e = absurd (omega arith)
 some-left (y ∷ ys) zero lt e = cc
 some-left (y ∷ ys) (suc k) lt e = some-left ys k (omega arith) e
 
-pub place-within : {X : Type 0} (xs : List X) (k : ℕ) (x : X) → slice_get xs k ≡ Some x → k < length xs
-place-within [] k x there = absurd cc
-place-within (y ∷ ys) zero x there = omega arith
-place-within (y ∷ ys) (suc k) x there = let l = place-within ys k x there in omega arith
-
 same_front : {X : Type 0} (xs ys : List X) (x y : X) → xs ++ x ∷ [] ≡ ys ++ y ∷ [] → xs ≡ ys
 same_front [] [] x y e = refl
 same_front [] (b ∷ []) x y e = absurd cc
@@ -149,7 +145,7 @@ module _ (list : List Numbered) (ds : List Dropped) (i place : ℕ) (m : Matched
     matched_next same =
         let here_too = subst (λ n. AreNumbersIn list (numbers_of ds) ↔ AreIn (s.number ∷ numbers_in (drop (suc i) list)) (n ∷ numbers_of (drop (suc place) ds))) same both_left in
         let step = first_in s.number (numbers_in (drop (suc i) list)) (numbers_of (drop (suc place) ds)) rest_up in
-        let lt = place-within ds place d next in
+        let lt = slice_get_within ds place d next in
         record {
           up = rest_up.1;
           same = (λ h. step.0 (here_too.0 h), λ h. here_too.1 (step.1 h));
@@ -287,4 +283,4 @@ module _ (t : DecisionTable) (list : List Numbered) (ds : List Dropped) (i place
 
 pub walk_ends : (t : DecisionTable) (list : List Numbered) (ds : List Dropped) (i place : ℕ) (kept : List Statement) → Walked t list ds i place kept → length list ≤ i → (kept ≡ statements_in (kept_of (numbers_of ds) list)) × AreRefuted t list ds
 walk_ends t list ds i place kept w end =
-    (w.so_far ∙ ap (λ xs. statements_in (kept_of (numbers_of ds) xs)) (take_all i list end), λ j k d s there stands same. let l = place-within list k s stands in w.refuted j k d s (omega arith) there stands same)
+    (w.so_far ∙ ap (λ xs. statements_in (kept_of (numbers_of ds) xs)) (take_all i list end), λ j k d s there stands same. let l = slice_get_within list k s stands in w.refuted j k d s (omega arith) there stands same)

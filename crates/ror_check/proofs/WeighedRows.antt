@@ -1,32 +1,18 @@
 -- What stands for no rows, for one row more, and what few rows show of all.
 use Rattle.std.proofs.Common.{◌⊎◌, inl, inr, ℕ, zero, suc, ◌+◌, ◌<◌, List, [], ◌∷◌, ◌++◌, length, take, get_or, ℤ, pos, ◌+ℤ◌, ◌*ℤ◌, ◌≡◌, refl, ap, sym, ◌∙◌, arith, length-append, length-take, unsigned_abs}
 use Rattle.std.specs.Prelude.{slice_get}
-use Rattle.std.proofs.lemmas.List.{map-append, take_more}
+use Rattle.std.proofs.lemmas.List.{take_more}
 use Rattle.ror_text.proofs.Everywhere.{all-append, all-front, all-back}
 use Rattle.ror_integers.specs.Vectors.{dot, absolute_dot, entry, column, SomePositive}
 use Rattle.ror_integers.proofs.Ring.{sums, zero-product}
-use Rattle.ror_integers.proofs.Dots.{dot-append, absolute_dot-append}
 use Rattle.ror_integers.proofs.Signs.{NoneNegative-append, NoneNegative-append_left, NoneNegative-append_right}
 use Rattle.ror_statement.specs.declared.comparison.Comparison.{Comparison}
 use Rattle.ror_system.specs.System.{LinearSystem}
 use Rattle.ror_system.specs.Acceptance.{AreAcceptedMultipliers}
+use Rattle.ror_system.proofs.Totals.{dot-column_of_both, absolute_dot-column_of_both}
 use Rattle.ror_table.specs.Table.{DecisionTable}
 use Rattle.ror_rows.specs.Rows.{weak_rows, strict_rows, extended_by}
 use Rattle.ror_check.specs.Weighed.{StandsFor}
-
-length-column : (rows : List (List ℤ)) (j : ℕ) → length (column rows j) ≡ length rows
-length-column [] j = refl
-length-column (row ∷ rows) j = ap suc (length-column rows j)
-
-column-append : (xs ys : List (List ℤ)) (j : ℕ) → column (xs ++ ys) j ≡ column xs j ++ column ys j
-column-append xs ys j = map-append (λ (row : List ℤ). entry row j) xs ys
-
--- the sums of rows, part by part
-dot-parts : (ms ns : List ℤ) (xs ys : List (List ℤ)) (j : ℕ) → length ms ≡ length xs → dot (ms ++ ns) (column (xs ++ ys) j) ≡ dot ms (column xs j) +ℤ dot ns (column ys j)
-dot-parts ms ns xs ys j long = rw (column-append xs ys j) (dot-append ms ns (column xs j) (column ys j) (long ∙ sym (length-column xs j)))
-
-absolute-parts : (ms ns : List ℤ) (xs ys : List (List ℤ)) (j : ℕ) → length ms ≡ length xs → absolute_dot (ms ++ ns) (column (xs ++ ys) j) ≡ absolute_dot ms (column xs j) + absolute_dot ns (column ys j)
-absolute-parts ms ns xs ys j long = rw (column-append xs ys j) (absolute_dot-append ms ns (column xs j) (column ys j) (long ∙ sym (length-column xs j)))
 
 some-left : (xs ys : List ℤ) → SomePositive xs → SomePositive (xs ++ ys)
 some-left [] ys some = let none = some.1 in absurd (omega arith)
@@ -72,8 +58,8 @@ stands_without ns ms few (first ∷ rows) m row later zero-is s =
       fewer = omega (arith, length-append all (row ∷ []), fewer);
       first = s.first;
       widths = λ n wide. s.widths n (all-front (λ row. length row ≡ n) all (row ∷ []) wide);
-      sums = λ j. (let own = s.sums j in let parts = dot-parts ms (m ∷ []) all (row ∷ []) j long in let none = zero-product (entry row j) in let e = ap (λ z. z *ℤ entry row j) zero-is in omega (arith, sums, own, parts, none, e));
-      absolute_sums = λ j. (let own = s.absolute_sums j in let parts = absolute-parts ms (m ∷ []) all (row ∷ []) j long in let e = ap unsigned_abs (ap (λ z. z *ℤ entry row j) zero-is ∙ zero-product (entry row j)) in omega (arith, own, parts, e));
+      sums = λ j. (let own = s.sums j in let parts = dot-column_of_both ms (m ∷ []) all (row ∷ []) j long in let none = zero-product (entry row j) in let e = ap (λ z. z *ℤ entry row j) zero-is in omega (arith, sums, own, parts, none, e));
+      absolute_sums = λ j. (let own = s.absolute_sums j in let parts = absolute_dot-column_of_both ms (m ∷ []) all (row ∷ []) j long in let e = ap unsigned_abs (ap (λ z. z *ℤ entry row j) zero-is ∙ zero-product (entry row j)) in omega (arith, own, parts, e));
       none_negative = λ none. NoneNegative-append ms (m ∷ []) (s.none_negative none) (omega (arith, sums, zero-is), tt);
       some_positive = λ some. some-left ms (m ∷ []) (s.some_positive some);
     }
@@ -95,8 +81,8 @@ stands_with ns ms few rows m row s =
       fewer = omega (arith, length-append rows (row ∷ []), length-append few (row ∷ []), fewer);
       first = first-append few rows (row ∷ []) s.first;
       widths = λ n wide. all-append (λ row. length row ≡ n) few (row ∷ []) (s.widths n (all-front (λ row. length row ≡ n) rows (row ∷ []) wide)) (all-back (λ row. length row ≡ n) rows (row ∷ []) wide);
-      sums = λ j. (dot-parts ns (m ∷ []) few (row ∷ []) j long_few ∙ ap (λ z. z +ℤ dot (m ∷ []) (column (row ∷ []) j)) (s.sums j) ∙ sym (dot-parts ms (m ∷ []) rows (row ∷ []) j long));
-      absolute_sums = λ j. (absolute-parts ns (m ∷ []) few (row ∷ []) j long_few ∙ ap (λ z. z + absolute_dot (m ∷ []) (column (row ∷ []) j)) (s.absolute_sums j) ∙ sym (absolute-parts ms (m ∷ []) rows (row ∷ []) j long));
+      sums = λ j. (dot-column_of_both ns (m ∷ []) few (row ∷ []) j long_few ∙ ap (λ z. z +ℤ dot (m ∷ []) (column (row ∷ []) j)) (s.sums j) ∙ sym (dot-column_of_both ms (m ∷ []) rows (row ∷ []) j long));
+      absolute_sums = λ j. (absolute_dot-column_of_both ns (m ∷ []) few (row ∷ []) j long_few ∙ ap (λ z. z + absolute_dot (m ∷ []) (column (row ∷ []) j)) (s.absolute_sums j) ∙ sym (absolute_dot-column_of_both ms (m ∷ []) rows (row ∷ []) j long));
       none_negative = λ none. NoneNegative-append ms (m ∷ []) (s.none_negative (NoneNegative-append_left ns (m ∷ []) none)) (NoneNegative-append_right ns (m ∷ []) none);
       some_positive = λ some. elim (some-either ns (m ∷ []) some) [
         | inl own ↦ some-left ms (m ∷ []) (s.some_positive own)
@@ -134,24 +120,24 @@ module _ (t : DecisionTable) (base few : LinearSystem) (cs : List Comparison) (n
   same_sums long j =
       let w = weak.sums j in
       let s = strict.sums j in
-      let all = dot-parts (wm ++ wx) (sm ++ sx) (base.weak ++ W) (base.strict ++ S) j (long_with wm wx base.weak W weak.as_many long) in
-      let all_weak = dot-parts wm wx base.weak W j weak.as_many in
-      let all_strict = dot-parts sm sx base.strict S j strict.as_many in
-      let own = dot-parts (nw ++ wx) (ns ++ sx) (few.weak ++ W) (few.strict ++ S) j (long_with nw wx few.weak W weak.as_many_few long) in
-      let own_weak = dot-parts nw wx few.weak W j weak.as_many_few in
-      let own_strict = dot-parts ns sx few.strict S j strict.as_many_few in
+      let all = dot-column_of_both (wm ++ wx) (sm ++ sx) (base.weak ++ W) (base.strict ++ S) j (long_with wm wx base.weak W weak.as_many long) in
+      let all_weak = dot-column_of_both wm wx base.weak W j weak.as_many in
+      let all_strict = dot-column_of_both sm sx base.strict S j strict.as_many in
+      let own = dot-column_of_both (nw ++ wx) (ns ++ sx) (few.weak ++ W) (few.strict ++ S) j (long_with nw wx few.weak W weak.as_many_few long) in
+      let own_weak = dot-column_of_both nw wx few.weak W j weak.as_many_few in
+      let own_strict = dot-column_of_both ns sx few.strict S j strict.as_many_few in
       omega (arith, sums, w, s, all, all_weak, all_strict, own, own_weak, own_strict)
 
   same_absolute_sums : length wx ≡ length W → (j : ℕ) → absolute_dot ((wm ++ wx) ++ (sm ++ sx)) (column ((base.weak ++ W) ++ (base.strict ++ S)) j) ≡ absolute_dot ((nw ++ wx) ++ (ns ++ sx)) (column ((few.weak ++ W) ++ (few.strict ++ S)) j)
   same_absolute_sums long j =
       let w = weak.absolute_sums j in
       let s = strict.absolute_sums j in
-      let all = absolute-parts (wm ++ wx) (sm ++ sx) (base.weak ++ W) (base.strict ++ S) j (long_with wm wx base.weak W weak.as_many long) in
-      let all_weak = absolute-parts wm wx base.weak W j weak.as_many in
-      let all_strict = absolute-parts sm sx base.strict S j strict.as_many in
-      let own = absolute-parts (nw ++ wx) (ns ++ sx) (few.weak ++ W) (few.strict ++ S) j (long_with nw wx few.weak W weak.as_many_few long) in
-      let own_weak = absolute-parts nw wx few.weak W j weak.as_many_few in
-      let own_strict = absolute-parts ns sx few.strict S j strict.as_many_few in
+      let all = absolute_dot-column_of_both (wm ++ wx) (sm ++ sx) (base.weak ++ W) (base.strict ++ S) j (long_with wm wx base.weak W weak.as_many long) in
+      let all_weak = absolute_dot-column_of_both wm wx base.weak W j weak.as_many in
+      let all_strict = absolute_dot-column_of_both sm sx base.strict S j strict.as_many in
+      let own = absolute_dot-column_of_both (nw ++ wx) (ns ++ sx) (few.weak ++ W) (few.strict ++ S) j (long_with nw wx few.weak W weak.as_many_few long) in
+      let own_weak = absolute_dot-column_of_both nw wx few.weak W j weak.as_many_few in
+      let own_strict = absolute_dot-column_of_both ns sx few.strict S j strict.as_many_few in
       omega (arith, w, s, all, all_weak, all_strict, own, own_weak, own_strict)
 
   pub accepted_for_all : AreAcceptedMultipliers (extended_by t few cs) (nw ++ wx) (ns ++ sx) → AreAcceptedMultipliers (extended_by t base cs) (wm ++ wx) (sm ++ sx)

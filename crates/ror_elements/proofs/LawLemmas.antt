@@ -4,7 +4,7 @@ use Rattle.std.specs.Prelude.{◌==◌, IfOk, IfSome, option_map, position, if�
 use Rattle.std.specs.Char.{encode_utf8}
 use Rattle.std.specs.List.{AllByRecursion, position_or_len}
 use Rattle.std.specs.Str.{IsUtf8, is_utf8, bytes_eq}
-use Rattle.std.proofs.lemmas.Bool.{cases_Bool, eqb-true, ltb-true, false_from_ne_true}
+use Rattle.std.proofs.lemmas.Bool.{cases_Bool, eqb-true, ltb-true, false_from_ne_true, not-false}
 use Rattle.std.proofs.lemmas.List.Recursion.{is_count_by}
 use Rattle.std.proofs.lemmas.List.Sums.{passes_at_first}
 use Rattle.std.proofs.lemmas.Str.{IsUtf8-drop, IsUtf8-nil, IsUtf8-from_is_utf8, is_utf8-from_IsUtf8, IsUtf8-past_char, IsCharBoundary-after_ascii, utf8_lossy-IsUtf8}
@@ -72,10 +72,6 @@ not_true : (s : Bool) → not s ≡ true → s ≡ true → ⊥
 not_true true e f = absurd cc
 not_true false e f = absurd cc
 
-pub not_false : (s : Bool) → not s ≡ false → s ≡ true
-not_false true e = refl
-not_false false e = absurd cc
-
 first_of_all : (bytes : List ℕ) (first : ElementFault) → IsUtf8 bytes → (read_all read nothing_read (without_mark bytes) >>= finish) ≡ Err first → IsFirstFaultOf bytes first
 first_of_all bytes first u e = elim (bind_err (read_all read nothing_read (without_mark bytes)) finish first e) [
   | inl at ↦ let f = (first_fault_iff read nothing_read (without_mark bytes) first).0 at in at_byte f.before f.after f.line f.reached u f.split f.reads f.fails
@@ -89,7 +85,7 @@ is_first bytes first e = elim (bind_err (refuse_bad_utf8 bytes) (λ _. read_all 
       let r = refuse_err (fault NotUtf8 (bad_utf8_line bytes)) first (not (is_utf8 bytes)) bad in
       not_utf8 (λ u. not_true (is_utf8 bytes) r.0 (is_utf8-from_IsUtf8 bytes u)) r.1
   | inr good ↦
-      let valid = not_false (is_utf8 bytes) (refuse_ok (fault NotUtf8 (bad_utf8_line bytes)) (not (is_utf8 bytes)) good.0 good.1) in
+      let valid = not-false (is_utf8 bytes) (refuse_ok (fault NotUtf8 (bad_utf8_line bytes)) (not (is_utf8 bytes)) good.0 good.1) in
       first_of_all bytes first (IsUtf8-from_is_utf8 bytes valid) good.2
 ]
 

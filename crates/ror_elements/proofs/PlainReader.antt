@@ -3,7 +3,7 @@ use Rattle.std.proofs.Common.{◌≡◌, ℕ, Bool, true, false, not, List, [], 
 use Rattle.std.specs.Prelude.{IfOk, ◌==◌, if◌then◌else◌}
 use Rattle.std.specs.List.{AllByRecursion}
 use Rattle.std.specs.Str.{IsUtf8, is_utf8, bytes_eq}
-use Rattle.std.proofs.lemmas.Bool.{cases_Bool}
+use Rattle.std.proofs.lemmas.Bool.{cases_Bool, not-false}
 use Rattle.std.proofs.lemmas.Str.{IsUtf8-from_is_utf8}
 use Rattle.ror_text.specs.Reading.{◌>>=◌, refuse, read_all}
 use Rattle.ror_text.proofs.ReadingLemmas.{bind_ok, refuse_ok}
@@ -21,7 +21,7 @@ use Rattle.ror_elements.specs.Open.{finished, is_none}
 use Rattle.ror_elements.specs.Reader.{nothing_read, bad, empty_tag}
 use Rattle.ror_elements.specs.Tags.{opened, is_bad_root, open_element, close_in, close, after_end_name, in_end_name, in_empty_tag}
 use Rattle.ror_elements.specs.Tree.{Tree}
-use Rattle.ror_elements.proofs.LawLemmas.{closing-gathered, without_mark-IsUtf8, past_utf8, not_false}
+use Rattle.ror_elements.proofs.LawLemmas.{closing-gathered, without_mark-IsUtf8, past_utf8}
 use Rattle.ror_elements.proofs.TextLemmas.{IsNamed, AtMode, IsGathered, read-kept, nothing-kept}
 
 -- ---- the definitions
@@ -164,7 +164,7 @@ pub to_plain : (bytes : List ℕ) (root : Tree) → elements_of bytes ≡ Ok roo
 unfolding elements_of run
 to_plain bytes root e =
     let tested = bind_ok (refuse_bad_utf8 bytes) (λ _. read_all read nothing_read (without_mark bytes) >>= finish) root e in
-    let u = IsUtf8-from_is_utf8 bytes (not_false (is_utf8 bytes) (refuse_ok _ (not (is_utf8 bytes)) tested.0 tested.1)) in
+    let u = IsUtf8-from_is_utf8 bytes (not-false (is_utf8 bytes) (refuse_ok _ (not (is_utf8 bytes)) tested.0 tested.1)) in
     let all = bind_ok (read_all read nothing_read (without_mark bytes)) finish root tested.2 in
     let clean = read-clean (without_mark bytes) nothing_read all.0 all.1 in
     record {

@@ -5,7 +5,7 @@ use Rattle.std.specs.Char.{encode_utf8, IsScalar}
 use Rattle.std.specs.List.{AllByRecursion, list_any}
 use Rattle.std.specs.Str.{IsUtf8, bytes_eq}
 use Rattle.std.proofs.Math.Seq.{take-append_seam, get_or-append_seam}
-use Rattle.std.proofs.lemmas.Bool.{cases_Bool, eqb-true}
+use Rattle.std.proofs.lemmas.Bool.{cases_Bool, eqb-true, not-false}
 use Rattle.std.proofs.lemmas.Str.{IsUtf8-take, IsUtf8-drop, IsUtf8-append, IsUtf8-nil, IsUtf8-encode, IsCharBoundary-before_ascii, IsCharBoundary-after_ascii}
 use Rattle.ror_text.specs.Reading.{◌>>=◌, refuse, need, read_all}
 use Rattle.ror_text.proofs.ReadingLemmas.{keeps}
@@ -46,10 +46,6 @@ both : (s t : Bool) → (s && t) ≡ true → (s ≡ true) × (t ≡ true)
 both true t e = (refl, e)
 both false t e = absurd cc
 
-not_false : (s : Bool) → not s ≡ false → s ≡ true
-not_false true e = refl
-not_false false e = absurd cc
-
 -- ---- ASCII bytes
 
 low_is : (b n : ℕ) → (b == n) ≡ true → n < 128 → b < 128
@@ -81,7 +77,7 @@ mark_low b e =
 end_low : (b : ℕ) → is_name_byte b ≡ false → b < 128
 end_low b e = elim (cases_Bool (is_white b)) [
   | inl white ↦ white_low b white
-  | inr dark ↦ mark_low b (not_false (is_mark b) (rw dark at e))
+  | inr dark ↦ mark_low b (not-false (is_mark b) (rw dark at e))
 ]
 
 quote_low : (q : Quote) → quote_byte q < 128
@@ -221,7 +217,7 @@ add_text-ends P r bytes f = when (λ (s : Reader). s.top.kept ≡ true → P s.t
 outside-kept : (p rest : List ℕ) (r : Reader) (byte : ℕ) → IsUtf8 (p ++ byte ∷ rest) → IsGathered p r → TextFollows p r.top → Gathers (p ++ byte ∷ []) (outside r byte)
 unfolding outside
 outside-kept p rest r byte u s h = past _ _ (not (is_white byte)) _ (λ e.
-    let low = white_low byte (not_false (is_white byte) e) in
+    let low = white_low byte (not-false (is_white byte) e) in
     record { top = s.top; below = s.below; here = λ k. resume p r.top.text byte low (stop p r.top.text rest byte low u (h k)) })
 
 in_content-kept : (p rest : List ℕ) (r : Reader) (byte : ℕ) → IsUtf8 (p ++ byte ∷ rest) → IsGathered p r → TextFollows p r.top
@@ -286,7 +282,7 @@ begin-kept p openings.Doctype r byte low s h = tt
 in_beginning-kept : (p : List ℕ) (opening : Opening) (count : ℕ) (r : Reader) (byte : ℕ) → IsGathered p r → TextIs r.top → Gathers (p ++ byte ∷ []) (in_beginning opening count r byte)
 unfolding in_beginning
 in_beginning-kept p opening count r byte s h = past _ _ (not (is_byte_at (opening_text opening) count byte)) _ (λ e.
-    let low = all_low (opening_text opening) count byte (opening_low opening) (not_false (is_byte_at (opening_text opening) count byte) e) in
+    let low = all_low (opening_text opening) count byte (opening_low opening) (not-false (is_byte_at (opening_text opening) count byte) e) in
     when (Gathers (p ++ byte ∷ [])) (nat_lt (count + 1) (length (opening_text opening))) _ _ (λ _. record { top = s.top; below = s.below; here = h }) (λ _. begin-kept p opening r byte low s h))
 
 in_comment-kept : (p : List ℕ) (before : Seen) (r : Reader) (byte : ℕ) → IsGathered p r → TextIs r.top → IsGathered (p ++ byte ∷ []) (in_comment before r byte)
@@ -479,7 +475,7 @@ after_end_name-kept : (p : List ℕ) (r : Reader) (byte : ℕ) → IsGathered p 
 unfolding after_end_name
 after_end_name-kept p r byte s h =
     when (Gathers (p ++ byte ∷ [])) (is_white byte) _ _ (λ _. record { top = s.top; below = s.below; here = h })
-    (λ _. past _ _ (not (byte == 62)) _ (λ e. close-kept p r byte (low_is byte 62 (not_false (byte == 62) e) (omega arith)) s.below))
+    (λ _. past _ _ (not (byte == 62)) _ (λ e. close-kept p r byte (low_is byte 62 (not-false (byte == 62) e) (omega arith)) s.below))
 
 in_end_name-kept : (p : List ℕ) (r : Reader) (byte : ℕ) → r.mode ≡ modes.EndName → IsGathered p r → TextIs r.top → Gathers (p ++ byte ∷ []) (in_end_name r byte)
 unfolding in_end_name
@@ -509,7 +505,7 @@ in_start_name-kept p rest r byte is u s h name =
 in_empty_tag-kept : (p : List ℕ) (r : Reader) (byte : ℕ) → IsGathered p r → InTag r.top r.tag → Gathers (p ++ byte ∷ []) (in_empty_tag r byte)
 unfolding in_empty_tag
 in_empty_tag-kept p r byte s h = past _ _ (not (byte == 62)) _ (λ e.
-    let low = low_is byte 62 (not_false (byte == 62) e) (omega arith) in
+    let low = low_is byte 62 (not-false (byte == 62) e) (omega arith) in
     keeps (IsGathered (p ++ byte ∷ [])) (open_element r) close (λ inside is.
     let opens : IsGathered (p ++ byte ∷ []) inside = subst (λ result. Gathers (p ++ byte ∷ []) result) is (open_element-kept p r byte low s.top s.below h) in
     close-kept p inside byte low opens.below))

@@ -1,12 +1,12 @@
 -- The line of a number too wide of one system, both ways, and its first faulty word.
-use Rattle.std.proofs.Common.{◌≡◌, ℕ, ◌+◌, ◌<◌, ◌^◌, Bool, true, false, not, eqb, List, [], ◌∷◌, ◌++◌, length, drop, Some, Result, Ok, Err, refl, sym, ap, subst, ◌∙◌, arith, inl, inr}
+use Rattle.std.proofs.Common.{◌≡◌, ℕ, ◌+◌, ◌<◌, ◌^◌, true, false, not, eqb, List, [], ◌∷◌, ◌++◌, length, drop, Some, Result, Ok, Err, refl, sym, ap, subst, ◌∙◌, arith, inl, inr}
 use Rattle.std.specs.Prelude.{codes}
 use Rattle.std.specs.Fmt.{decimal}
-use Rattle.std.proofs.lemmas.Bool.{and_from, eqb-true, eq-eqb, false≢true}
+use Rattle.std.proofs.lemmas.Bool.{and_from, eqb-true, eq-eqb, false≢true, not-false, not-true}
 use Rattle.ror_text.specs.Cursor.{Cursor, line_words}
 use Rattle.ror_text.specs.Numbers.{small_number_of}
 use Rattle.ror_text.specs.Reading.{◌>>=◌, refuse}
-use Rattle.ror_text.specs.SpacedLines.{are_words, line_text}
+use Rattle.ror_text.specs.SpacedLines.{are_words}
 use Rattle.ror_text.proofs.CursorLemmas.{Spans, line_spans}
 use Rattle.ror_text.proofs.NumberLemmas.{is_word-decimal, decimal_some, small_number_of-decimal}
 use Rattle.ror_text.proofs.ReadingLemmas.{bind_ok, bind_err, refuse_ok, refuse_err}
@@ -36,20 +36,12 @@ the_number_again : (place n : ℕ) (more : List (List ℕ)) → n < 2 ^ 32 → t
 unfolding the_number_at
 the_number_again place n more small = rw (small_number_again place n more small, eq-eqb n n refl) refl
 
-same_number : (b : Bool) → not b ≡ false → b ≡ true
-same_number true e = refl
-same_number false e = absurd cc
-
-other_number : (b : Bool) → not b ≡ true → b ≡ false
-other_number true e = absurd cc
-other_number false e = refl
-
 the_number_sound : (place n : ℕ) (words more : List (List ℕ)) → the_number_at place n words ≡ Ok more → words ≡ decimal n ∷ more
 unfolding the_number_at
 the_number_sound place n words more e =
     let a = bind_ok (small_number_at place words) (tested place n) more e in
     let b = bind_ok (refuse (BadNumber place) (not (eqb a.0.0 n))) (λ _. done a.0.1) more a.2 in
-    let same : a.0.0 ≡ n = eqb-true a.0.0 n (same_number (eqb a.0.0 n) (refuse_ok (BadNumber place) (not (eqb a.0.0 n)) b.0 b.1)) in
+    let same : a.0.0 ≡ n = eqb-true a.0.0 n (not-false (eqb a.0.0 n) (refuse_ok (BadNumber place) (not (eqb a.0.0 n)) b.0 b.1)) in
     (small_number_sound place words a.0 a.1).0 ∙ ap (λ (m : ℕ). decimal m ∷ a.0.1) same ∙ ap (λ (ws : List (List ℕ)). decimal n ∷ ws) (ok_is a.0.1 more b.2)
 
 -- a word that is no number is not this one
@@ -79,7 +71,7 @@ the_number_fails t place n more words f small e =
             | inl other ↦
                 let test = refuse_err (BadNumber place) f (not (eqb a.0.0 n)) other in
                 let number = small_number_sound place words a.0 a.1 in
-                let apart : eqb a.0.0 n ≡ false = other_number (eqb a.0.0 n) test.0 in
+                let apart : eqb a.0.0 n ≡ false = not-true (eqb a.0.0 n) test.0 in
                 let bad : number_fault (decimal a.0.0) place ≡ BadNumber place = some_word_fault (decimal a.0.0) place (decimal_some a.0.0 (omega (arith, number.1))) in
                 subst (λ (ws : List (List ℕ)). IsFirstFaultyWord t (the_number n ∷ more) ws place f) (sym number.0)
                 (inl (λ (is : decimal a.0.0 ≡ decimal n). false≢true (sym apart ∙ ap (λ (m : ℕ). eqb m n) (same_decimal a.0.0 n number.1 small is) ∙ eq-eqb n n refl), test.1 ∙ sym bad))

@@ -1,12 +1,13 @@
 -- The verdict on a question, by what its systems come to.
-use Rattle.std.proofs.Common.{◌≡◌, ℕ, zero, suc, ◌+◌, ◌<◌, true, List, [], ◌∷◌, ◌++◌, length, map, take, get_or, Some, Ok, Err, Result, refl, sym, ap, ap₂, subst, ◌∙◌, arith}
+use Rattle.std.proofs.Common.{◌≡◌, ℕ, suc, ◌+◌, ◌<◌, true, List, [], ◌∷◌, ◌++◌, length, map, take, get_or, Ok, Err, Result, refl, sym, ap, ap₂, subst, ◌∙◌, arith}
 use Rattle.std.proofs.lemmas.List.{length-map, take_more}
-use Rattle.std.specs.Prelude.{slice_get, IfOk}
+use Rattle.std.specs.Prelude.{IfOk}
 use Rattle.std.specs.Global.{Vec}
 use Rattle.std.specs.declared.alloc.AllocError.{AllocError}
 use Rattle.smallvec.specs.SmallVec.{SmallVec}
 use Rattle.ror_statement.specs.declared.comparison.Comparison.{Comparison}
 use Rattle.std.specs.List.{AllByRecursion, AllZip, range_with_len}
+use Rattle.std.proofs.lemmas.Option.{slice_get_within}
 use Rattle.ror_text.proofs.Everywhere.{all-by}
 use Rattle.ror_statement.specs.declared.statement.Statement.{Statement}
 use Rattle.ror_statement.specs.declared.question.QuestionKind.{QuestionKind}
@@ -70,11 +71,6 @@ no_system t list q is = rw is refl
 one_system : (t : DecisionTable) (list : List Statement) (q : Question) → kind_of q ≡ Any → length (systems_of_question list q) ≡ 1
 one_system t list q is = rw is refl
 
-place_within : {X : Type 0} (xs : List X) (i : ℕ) (x : X) → slice_get xs i ≡ Some x → i < length xs
-place_within [] i x there = absurd cc
-place_within (y ∷ ys) zero x there = omega arith
-place_within (y ∷ ys) (suc i) x there = let within = place_within ys i x there in omega arith
-
 module _ (most : ℕ) (t : DecisionTable) (list : List Statement) (q : Question) (base : Certificate) (lawful : IsLawfulIn t list) (asked : IsAskedIn t q) (shows : ShowsAsBase most conclusions.Yes (base_system t list) base) where
   proves : (k : QuestionKind) (c : Conclusion) (parts : List Part) → kind_of q ≡ k → may_conclude k c ≡ true → base_side c ≡ base_side conclusions.Yes → AreNumbersFor k c (length (systems_of_question list q)) (map (λ p. p.at) parts)
       → AllByRecursion (ShowsOfItsSystem (part_side k c) (question_systems_of t list q)) parts → Proves t list q c (record { base = base; parts = parts })
@@ -88,17 +84,17 @@ module _ (most : ℕ) (t : DecisionTable) (list : List Statement) (q : Question)
   -- the first solvable system
   found : (k : QuestionKind) → kind_of q ≡ k → (p : Part) → IsPartOf most conclusions.Yes (question_systems_of t list q) p → IsGivenVerdict most t list q (verdict_of k base (searches.Solvable p))
   found Plain is p part =
-      let within = place_within (question_systems_of t list q) part.shown.before part.shown.system part.shown.there in
+      let within = slice_get_within (question_systems_of t list q) part.shown.before part.shown.system part.shown.there in
       absurd (omega (arith, within, ap length (no_system t list q is)))
   found Any is p part =
-      let within = place_within (question_systems_of t list q) part.shown.before part.shown.system part.shown.there in
+      let within = slice_get_within (question_systems_of t list q) part.shown.before part.shown.system part.shown.there in
       let counted = part.shown.counted in
       let one = one_system t list q is in
       let at : p.at ≡ 1 = omega (arith, within, counted, as_many t list q, one) in
       let numbers : AreNumbersFor Any conclusions.Yes (length (systems_of_question list q)) (p.at ∷ []) = rw (one, at) refl in
       yes_given most t list q (record { base = base; parts = p ∷ [] }) lawful asked (proves Any conclusions.Yes (p ∷ []) is refl refl numbers (part.shown, tt)) (record { base = shows.1; parts = (part.narrow, tt) })
   found Every is p part =
-      let within = place_within (question_systems_of t list q) part.shown.before part.shown.system part.shown.there in
+      let within = slice_get_within (question_systems_of t list q) part.shown.before part.shown.system part.shown.there in
       let counted = part.shown.counted in
       let numbers : AreNumbersFor Every conclusions.No (length (systems_of_question list q)) (p.at ∷ []) = (p.at, omega (arith, counted), omega (arith, within, counted, as_many t list q), refl) in
       no_given most t list q (record { base = base; parts = p ∷ [] }) lawful asked (proves Every conclusions.No (p ∷ []) is refl refl numbers (part.shown, tt)) (record { base = shows.1; parts = (part.narrow, tt) })

@@ -3,24 +3,21 @@
 use Rattle.std.proofs.Common.{◌≡◌, ℕ, zero, suc, ◌+◌, ◌*◌, ◌<◌, ◌≤◌, ◌++◌, Bool, true, false, List, [], ◌∷◌, length, sym, ap, ◌∙◌, arith, append_assoc, length-append}
 use Rattle.std.specs.Prelude.{◌==◌, if◌then◌else◌}
 use Rattle.std.specs.List.{AllByRecursion, flat_map, range_with_len}
-use Rattle.std.proofs.lemmas.List.{append-nil, map-id}
+use Rattle.std.proofs.lemmas.List.{append-nil}
 use Rattle.std.proofs.lemmas.List.Concat.{flat_map-append}
-use Rattle.std.proofs.lemmas.List.FromFn.{map-range_with_len_more}
 use Rattle.ror_text.proofs.Everywhere.{all-pieces}
+use Rattle.ror_text.proofs.ListLemmas.{range_more}
 use Rattle.ror_statement.specs.declared.question.Question.{Question}
 use Rattle.ror_statement.specs.declared.question.Question.TheVariants.{Necessary, Possible}
 use Rattle.ror_table.specs.Table.{DecisionTable}
 use Rattle.ror_value.specs.Over.{IsAskedIn}
 use Rattle.ror_relation.specs.Pairs.{pair_questions, questions_from, relation_questions}
 
-range_more : (n : ℕ) → range_with_len 0 (n + 1) ≡ range_with_len 0 n ++ n ∷ []
-range_more n = sym (map-id (range_with_len 0 (n + 1))) ∙ map-range_with_len_more (λ k. k) 0 n n (omega arith) ∙ ap (λ (ks : List ℕ). ks ++ n ∷ []) (map-id (range_with_len 0 n))
-
 -- those on one alternative more
 pub questions_more : (f : ℕ → List Question) (i : ℕ) (old before after : List Question) → before ≡ old ++ flat_map f (range_with_len 0 i) → after ≡ before ++ f i → after ≡ old ++ flat_map f (range_with_len 0 (i + 1))
 questions_more f i old before after so_far pushed =
     let all : flat_map f (range_with_len 0 (i + 1)) ≡ flat_map f (range_with_len 0 i) ++ f i =
-    (ap (flat_map f) (range_more i) ∙ flat_map-append f (range_with_len 0 i) (i ∷ []) ∙ ap (λ (qs : List Question). flat_map f (range_with_len 0 i) ++ qs) (append-nil (f i))) in
+    (ap (flat_map f) (range_more 0 i i (omega arith)) ∙ flat_map-append f (range_with_len 0 i) (i ∷ []) ∙ ap (λ (qs : List Question). flat_map f (range_with_len 0 i) ++ qs) (append-nil (f i))) in
     pushed ∙ ap (λ (qs : List Question). qs ++ f i) so_far ∙ append_assoc old (flat_map f (range_with_len 0 i)) (f i) ∙ ap (λ (qs : List Question). old ++ qs) (sym all)
 
 all_below : (P : ℕ → Type 0) (a n : ℕ) → ((j : ℕ) → j < a + n → P j) → AllByRecursion P (range_with_len a n)

@@ -7,6 +7,7 @@ use Rattle.std.specs.Prelude.{slice_get}
 use Rattle.std.specs.List.{AllByRecursion, range_with_len}
 use Rattle.smallvec.specs.SmallVec.{SmallVec}
 use Rattle.ror_text.proofs.Everywhere.{all-append, all-map, all_at}
+use Rattle.ror_text.proofs.ListLemmas.{range_more}
 use Rattle.ror_statement.specs.declared.question.Conclusion.{Conclusion}
 use Rattle.ror_statement.specs.declared.question.Conclusion.TheVariants as conclusions
 use Rattle.ror_table.specs.Table.{DecisionTable}
@@ -76,14 +77,7 @@ pub refuted_more : (most : ℕ) (systems : List LinearSystem) (i : ℕ) (s : Lin
 refuted_more most systems i s m parts so_far there shows = record {
   numbered =
       let p : Part = record { at = i + 1; body = certificates.Multipliers m } in
-      map-append (λ (p : Part). p.at) parts (p ∷ []) ∙ ap (λ (ns : List ℕ). ns ++ (i + 1) ∷ []) so_far.numbered ∙ sym (range_more i);
+      map-append (λ (p : Part). p.at) parts (p ∷ []) ∙ ap (λ (ns : List ℕ). ns ++ (i + 1) ∷ []) so_far.numbered ∙ sym (range_more 1 i (i + 1) (omega arith));
   each = all-append (IsPartOf most conclusions.Contradiction systems) parts _ so_far.each (part_here most conclusions.Contradiction systems i s (certificates.Multipliers m) there shows, tt);
   none_solvable = none_more systems i s there (λ can. not_both s m.weak m.strict shows.0.refute can) so_far.none_solvable;
 }
-  where
-    range_from : (a n k : ℕ) → k ≡ a + n → range_with_len a (suc n) ≡ range_with_len a n ++ k ∷ []
-    range_from a zero k is = let same : a ≡ k = omega arith in ap (λ (x : ℕ). x ∷ []) same
-    range_from a (suc n) k is = ap (λ (ns : List ℕ). a ∷ ns) (range_from (a + 1) n k (omega arith))
-
-    range_more : (n : ℕ) → range_with_len 1 (n + 1) ≡ range_with_len 1 n ++ (n + 1) ∷ []
-    range_more n = let step : suc n ≡ n + 1 = omega arith in subst (λ (m : ℕ). range_with_len 1 m ≡ range_with_len 1 n ++ (n + 1) ∷ []) step (range_from 1 n (n + 1) (omega arith))

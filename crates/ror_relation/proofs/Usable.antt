@@ -1,4 +1,5 @@
 -- The systems of a question are few, and add few rows, each of what the table has.
+use Rattle.ror_check.proofs.Checking.{few_by}
 use Rattle.std.proofs.Common.{◌≡◌, ◌≤◌, List, [], ◌∷◌, length, map, ap, sym, subst, arith}
 use Rattle.std.proofs.lemmas.List.{length-map}
 use Rattle.std.specs.List.{AllByRecursion}
@@ -26,11 +27,6 @@ usable_by t Every es few named = each es named
     each : (es : List Extra) → AllByRecursion (λ e. IsNamedIn t e.form) es → AllByRecursion (AreUsable t) (map (map comparison_of_extra) (systems_by Every es))
     each [] named = tt
     each (e ∷ es) named = ((omega arith, (turned-named t e.form named.0, tt)), each es named.1)
-
-few_by : (k : QuestionKind) (es : List Extra) → length es ≤ 200 → length (systems_by k es) ≤ 200
-few_by Plain es few = omega arith
-few_by Any es few = omega arith
-few_by Every es few = omega (arith, length-map es (λ e. negation_of e ∷ []), few)
 
 -- ---- the systems of a question
 

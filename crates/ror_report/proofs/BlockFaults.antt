@@ -1,7 +1,7 @@
 -- The fault of a block and of the last line is the one that is given.
 use Rattle.std.proofs.Common.{◌≡◌, ℕ, ◌+◌, ◌≤◌, zero, suc, Bool, true, false, not, eqb, Option, Some, None, List, [], ◌∷◌, length, length-append, Result, Ok, Err, refl, sym, ap, ◌∙◌, arith, inl, inr}
 use Rattle.std.specs.Prelude.{◌≢◌, codes}
-use Rattle.std.proofs.lemmas.Bool.{cases_Bool, ne_eqb, eqb-false}
+use Rattle.std.proofs.lemmas.Bool.{cases_Bool, ne_eqb, eqb-false, not-true}
 use Rattle.ror_text.specs.Cursor.{Cursor, line_words}
 use Rattle.ror_text.specs.Reading.{◌>>=◌, refuse}
 use Rattle.ror_text.proofs.ReadingLemmas.{bind_err, refuse_err}
@@ -27,10 +27,6 @@ use Rattle.ror_report.proofs.Bodies.{answer_step, no_answers, goes_on_some}
 use Rattle.ror_report.proofs.BlockLemmas.{answer_has_bytes}
 use Rattle.ror_report.proofs.LineForms.{in_report_ok}
 use Rattle.ror_report.proofs.FormFaults.{no_fault, in_report_err, line_fails, line_goes, number_reads, reads_form}
-
-not_true : (b : Bool) → not b ≡ true → b ≡ false
-not_true true e = absurd cc
-not_true false e = refl
 
 -- ---- answers
 
@@ -92,7 +88,7 @@ body_err t c at (Some form) f line found e =
           elim (bind_err (refuse (BadLine b.0.1.place) (not (ends_body b.0.1.rest))) (λ _. line_read b.0) f b.2) [
             | inl more ↦
                 let tested = refuse_err (BadLine b.0.1.place) f (not (ends_body b.0.1.rest)) more in
-                after_form at b.0.1 form line found ((reads_form t form at).ok b.0 b.1) (not_true (ends_body b.0.1.rest) tested.0) tested.1
+                after_form at b.0.1 form line found ((reads_form t form at).ok b.0 b.1) (not-true (ends_body b.0.1.rest) tested.0) tested.1
             | inr none ↦ absurd (no_fault _ f none.2)
           ]
     ]
@@ -125,7 +121,7 @@ abbrev end_read : ℕ × Cursor → Result ℕ ReportFault
 end_read end = Ok end.0
 
 some_bytes : (bytes : List ℕ) → not (eqb (length bytes) 0) ≡ true → bytes ≢ []
-some_bytes bytes h is = let zero : length bytes ≡ 0 = ap length is in eqb-false (length bytes) 0 (not_true (eqb (length bytes) 0) h) zero
+some_bytes bytes h is = let zero : length bytes ≡ 0 = ap length is in eqb-false (length bytes) 0 (not-true (eqb (length bytes) 0) h) zero
 
 bytes_there : (bytes : List ℕ) → bytes ≢ [] → eqb (length bytes) 0 ≡ false
 bytes_there [] some = absurd (some refl)

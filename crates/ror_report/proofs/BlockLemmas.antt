@@ -2,7 +2,7 @@
 use Rattle.std.proofs.Common.{◌≡◌, ℕ, zero, suc, ◌+◌, ◌<◌, ◌≤◌, ◌^◌, true, false, not, Option, Some, None, List, [], ◌∷◌, ◌++◌, length, Ok, refl, sym, ap, subst, ◌∙◌, append_assoc, arith, inl, inr, length-append}
 use Rattle.std.specs.Prelude.{codes, ◌↔◌}
 use Rattle.std.specs.List.{flat_map, AllByRecursion}
-use Rattle.std.proofs.lemmas.Bool.{cases_Bool}
+use Rattle.std.proofs.lemmas.Bool.{cases_Bool, not-false}
 use Rattle.ror_text.specs.Reading.{◌>>=◌, refuse}
 use Rattle.ror_text.specs.SpacedLines.{line_text}
 use Rattle.ror_text.proofs.ReadingLemmas.{bind_ok, refuse_ok}
@@ -30,7 +30,7 @@ use Rattle.ror_report.specs.Reading.{read_in_report, numbered_line, form_words, 
 use Rattle.ror_report.specs.Laws.{IsBlockText}
 use Rattle.ror_report.proofs.Bodies.{answer_step, no_answers}
 use Rattle.ror_text.proofs.CursorLemmas.{Spans, spans_then, line_again, line_spans}
-use Rattle.ror_report.proofs.LineForms.{base_is_small, numbered_again, numbered_sound, in_report_ok, line_reads_back, line_is_read, passed, done, ok_is, IsOneLine, added_line, withdrawn_line, replaced_line, undone_line, refused_line, form_found, form_words_again, form_words_sound, goes_on_at_answer, ends_no_part, no_form_at_answer, ends_no_form, form_at_repaired, form_at_repair_wide, repair_wide_begins}
+use Rattle.ror_report.proofs.LineForms.{base_is_small, numbered_again, numbered_sound, in_report_ok, line_reads_back, line_is_read, done, ok_is, IsOneLine, added_line, withdrawn_line, replaced_line, undone_line, refused_line, form_found, form_words_again, form_words_sound, goes_on_at_answer, ends_no_part, no_form_at_answer, ends_no_form, form_at_repaired, form_at_repair_wide, repair_wide_begins}
 
 -- ---- what was written is read again
 
@@ -248,7 +248,7 @@ formed_sound t form c x e =
     subst (λ (y : Body × Cursor). IsReadBody t c y.0 y.1) (ok_is a.0 x b.2) (record {
       spans = lines.spans;
       printable = lines.printable;
-      ended = passed _ (refuse_ok _ _ b.0 b.1);
+      ended = not-false _ (refuse_ok _ _ b.0 b.1);
     })
 
 answers_sound : (t : DecisionTable) (c : Cursor) (x : Body × Cursor) → answers_at t c ≡ Ok x → IsReadBody t c x.0 x.1

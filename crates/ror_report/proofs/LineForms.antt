@@ -47,11 +47,6 @@ done x = Ok x
 pub ok_is : {A : Type 0} (x y : A) → done x ≡ done y → x ≡ y
 ok_is x y e = cc
 
--- the opposite of a test that failed
-pub passed : (b : Bool) → not b ≡ false → b ≡ true
-passed true e = refl
-passed false e = absurd cc
-
 -- ---- any line
 
 pub in_report_ok : {A : Type 0} (r : Result A ProofFault) (x : A) → read_in_report r ≡ Ok x → r ≡ Ok x

@@ -2,7 +2,7 @@
 use Rattle.std.proofs.Common.{◌≡◌, ℕ, ◌<◌, ◌^◌, true, not, eqb, List, [], ◌∷◌, ◌++◌, length, drop, Some, Ok, refl, sym, ap, subst, ◌∙◌, append_assoc, arith, inl, inr}
 use Rattle.std.specs.Prelude.{codes, ◌↔◌, nat_eq}
 use Rattle.std.specs.List.{flat_map, AllByRecursion, starts_with}
-use Rattle.std.proofs.lemmas.Bool.{cases_Bool, eqb-true, cond-true, cond-false}
+use Rattle.std.proofs.lemmas.Bool.{cases_Bool, eqb-true, cond-true, cond-false, not-false}
 use Rattle.std.proofs.lemmas.List.{append-nil, append_cancel_left}
 use Rattle.std.proofs.lemmas.Bool.Decides.{Decides-eqb}
 use Rattle.std.proofs.lemmas.Slice.Eq.{starts_is}
@@ -15,7 +15,7 @@ use Rattle.ror_report.specs.declared.read.ReportFault.TheVariants.{BadLine}
 use Rattle.ror_report.specs.Text.{numbered_text, block_text, header_text, end_text, report_text, IsPrintableBlock}
 use Rattle.ror_report.specs.Reading.{numbered_line, ends_body, header_at, block_at, end_at}
 use Rattle.ror_report.proofs.BlockLemmas.{block_reads_back}
-use Rattle.ror_report.proofs.LineForms.{numbered_again, numbered_sound, passed, done, ok_is, ends_at_block, ends_at_end_text, block_begins, end_begins}
+use Rattle.ror_report.proofs.LineForms.{numbered_again, numbered_sound, done, ok_is, ends_at_block, ends_at_end_text, block_begins, end_begins}
 
 -- ---- the last line
 
@@ -26,7 +26,7 @@ no_bytes (b ∷ bs) e = absurd (omega arith)
 end_cut : (c : Cursor) (x : ℕ × Cursor) (n : ℕ) → numbered_line (codes "end") c ≡ Ok x → (refuse (BadLine x.1.place) (not (eqb (length x.1.rest) 0)) >>= λ _. done x.0) ≡ Ok n → (c.rest ≡ numbered_text (codes "end") n) × (n < 2 ^ 32)
 end_cut c x n read e =
     let a = bind_ok (refuse (BadLine x.1.place) (not (eqb (length x.1.rest) 0))) (λ _. done x.0) n e in
-    let empty : x.1.rest ≡ [] = no_bytes x.1.rest (eqb-true _ _ (passed _ (refuse_ok _ _ a.0 a.1))) in
+    let empty : x.1.rest ≡ [] = no_bytes x.1.rest (eqb-true _ _ (not-false _ (refuse_ok _ _ a.0 a.1))) in
     let line = numbered_sound (codes "end") c x read in
     subst (λ m. (c.rest ≡ numbered_text (codes "end") m) × (m < 2 ^ 32)) (ok_is x.0 n a.2) (line.0.rest ∙ ap (λ (r : List ℕ). numbered_text (codes "end") x.0 ++ r) empty ∙ append-nil _, line.1)
 

@@ -4,7 +4,7 @@ use Rattle.std.specs.Prelude.{FitsSigned, ◌≤ℤ◌}
 use Rattle.std.specs.Int.{w128}
 use Rattle.std.specs.List.{AllByRecursion, flat_map, range_with_len}
 use Rattle.std.proofs.lemmas.Int.{ints}
-use Rattle.std.proofs.lemmas.List.{append-nil, map-id}
+use Rattle.std.proofs.lemmas.List.{append-nil}
 use Rattle.std.proofs.lemmas.List.FromFn.{fill_by_all, map-range_with_len_more, length-map-range_with_len}
 use Rattle.std.proofs.lemmas.List.Concat.{flat_map-append}
 use Rattle.ror_integers.specs.Vectors.{entry, ones, row_difference}
@@ -12,6 +12,7 @@ use Rattle.ror_integers.proofs.Dots.{length-ones}
 use Rattle.ror_integers.proofs.Rows.{entry-row_difference}
 use Rattle.ror_integers.proofs.Parts.{entry-zeros, length-zeros, row_difference-append}
 use Rattle.ror_text.proofs.Everywhere.{all-append}
+use Rattle.ror_text.proofs.ListLemmas.{range_more}
 use Rattle.ror_statement.specs.declared.comparison.Form.{Form}
 use Rattle.ror_statement.specs.declared.comparison.Form.TheVariants.{Value, Strength}
 use Rattle.ror_table.specs.Table.{DecisionTable, rank, steps}
@@ -85,8 +86,6 @@ form_row-blocks t (Strength p q s) named =
     ∙ difference-steps t (λ i k. by p.first i k -ℤ by p.second i k) (λ i k. by q.first i k -ℤ by q.second i k) (length t.criteria) 0
 
 -- ---- loops
-range_more : (n : ℕ) → range_with_len 0 (n + 1) ≡ range_with_len 0 n ++ n ∷ []
-range_more n = sym (map-id (range_with_len 0 (n + 1))) ∙ map-range_with_len_more (λ k. k) 0 n n (omega arith) ∙ ap (λ ks. ks ++ n ∷ []) (map-id (range_with_len 0 n))
 
 -- one step more
 pub steps_more : (f : ℕ → ℤ) (k : ℕ) (old row after : List ℤ) (x : ℤ) → row ≡ old ++ map f (range_with_len 0 k) → after ≡ row ++ (x ∷ []) → x ≡ f k → after ≡ old ++ map f (range_with_len 0 (k + 1))
@@ -101,7 +100,7 @@ pub blocks_more : (f : ℕ → List ℤ) (i : ℕ) (row after : List ℤ) → ro
 blocks_more f i row after so_far pushed =
     pushed
     ∙ ap (λ (xs : List ℤ). xs ++ f i) so_far
-    ∙ sym (ap (flat_map f) (range_more i) ∙ flat_map-append f (range_with_len 0 i) (i ∷ []) ∙ ap (λ (xs : List ℤ). flat_map f (range_with_len 0 i) ++ xs) (append-nil (f i)))
+    ∙ sym (ap (flat_map f) (range_more 0 i i (omega arith)) ∙ flat_map-append f (range_with_len 0 i) (i ∷ []) ∙ ap (λ (xs : List ℤ). flat_map f (range_with_len 0 i) ++ xs) (append-nil (f i)))
 
 -- ---- narrow entries
 entry-ones_cases : (r k : ℕ) → (entry (ones r) k ≡ pos 0) ⊎ (entry (ones r) k ≡ pos 1)

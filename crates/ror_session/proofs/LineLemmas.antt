@@ -41,10 +41,6 @@ utf8_name (byte ∷ bytes) utf8 sign = IsUtf8-drop (byte ∷ bytes) 1 utf8 (IsCh
 pub utf8_rest : (word : List ℕ) → IsUtf8 word → get_or word 0 0 ≡ 64 → IsUtf8 (take (length word - 1) (drop 1 word))
 utf8_rest word utf8 sign = subst IsUtf8 (sym (take_rest 1 word)) (utf8_name word utf8 sign)
 
-pub from_not : (b : Bool) → not b ≡ false → b ≡ true
-from_not true h = refl
-from_not false h = absurd cc
-
 pub sign_of : (word other : List ℕ) (test : Bool) → word ≡ other → test ≡ eqb (get_or other 0 0) 64 → test ≡ true → get_or word 0 0 ≡ 64
 sign_of word other test same is passed =
     let sign : get_or other 0 0 ≡ 64 = eqb-true (get_or other 0 0) 64 (sym is ∙ passed) in

@@ -1,7 +1,7 @@
 -- The fault that is read is the first, and the first fault is read.
 use Rattle.std.proofs.Common.{◌≡◌, ℕ, ◌<◌, ◌≤◌, Bool, true, false, not, cond, eqb, ltb, ◌||◌, List, [], ◌∷◌, length, Result, Ok, Err, refl, sym, ap, ◌∙◌, inl, inr}
 use Rattle.std.specs.Str.{IsUtf8, is_utf8}
-use Rattle.std.proofs.lemmas.Bool.{ltb-true, ltb-false, lt-ltb, le-ltb, eqb-true, false≢true}
+use Rattle.std.proofs.lemmas.Bool.{ltb-true, ltb-false, lt-ltb, le-ltb, eqb-true, false≢true, not-false}
 use Rattle.std.proofs.lemmas.List.{nil_from_length}
 use Rattle.std.proofs.lemmas.Str.{IsUtf8-from_is_utf8}
 use Rattle.ror_text.specs.declared.lines.TheConstants.{MOST_TEXT_BYTES}
@@ -18,7 +18,6 @@ use Rattle.ror_table.specs.Grammar.{LineWords}
 use Rattle.ror_table.specs.Faults.{HasRead, IsFaultOfLine, IsReadable, BeginsTable, IsEmpty, IsFirstFaultOf}
 use Rattle.ror_table.specs.Faults.IsFirstFaultOf.{too_long, not_utf8, no_line, other_line, in_line, nothing_there, too_many_steps}
 use Rattle.ror_table.proofs.GrammarLemmas.{whole_table, Numbered, texts, head_words, read_lines_write, written_lines_read, head_is, bool_false}
-use Rattle.ror_table.proofs.LineSteps.{not_false}
 use Rattle.ror_table.proofs.LineFaultLemmas.{line_first, first_line_fault, refused}
 use Rattle.ror_table.specs.declared.limits.TheConstants.{MOST_STEPS}
 use Rattle.ror_table.proofs.RankLemmas.{or_cases}
@@ -113,7 +112,7 @@ plain_fault bytes e is =
           let short : length bytes ≤ MOST_TEXT_BYTES = ltb-false MOST_TEXT_BYTES (length bytes) rest.0 in
           elim (refused (at_line (bad_utf8_line bytes) NotUtf8) (not (is_utf8 bytes)) (after_head (numbered_lines bytes) >>= λ lines. read_all body_line empty_table lines >>= λ s. whole_table s) e rest.1) [
             | inl bad ↦ not_utf8 short (λ (text : IsUtf8 bytes). false≢true (ap not (sym (is_utf8-true bytes text)) ∙ bad.0)) bad.1
-            | inr good ↦ readable_fault bytes (numbered_lines bytes) e (record { short = short; utf8 = IsUtf8-from_is_utf8 bytes (not_false (is_utf8 bytes) good.0) }) refl good.1
+            | inr good ↦ readable_fault bytes (numbered_lines bytes) e (record { short = short; utf8 = IsUtf8-from_is_utf8 bytes (not-false (is_utf8 bytes) good.0) }) refl good.1
           ]
     ]
 

@@ -3,7 +3,7 @@ use Rattle.std.proofs.Common.{Result, ◌≡◌, ℕ, ◌≤◌, Bool, true, fal
 use Rattle.std.specs.Prelude.{codes}
 use Rattle.std.specs.List.{AllZip}
 use Rattle.std.specs.Str.{bytes_eq, is_utf8}
-use Rattle.std.proofs.lemmas.Bool.{ltb-false, le-ltb, eqb-true, ne_eqb, and_parts}
+use Rattle.std.proofs.lemmas.Bool.{ltb-false, le-ltb, eqb-true, ne_eqb, and_parts, not-false}
 use Rattle.std.proofs.lemmas.List.{append-nil, map_push, map-append, length-append, nil_from_length, get_or_append_left, get_or_at}
 use Rattle.std.proofs.lemmas.List.Folds.{list_any_none}
 use Rattle.std.proofs.lemmas.Str.{IsUtf8-from_is_utf8}
@@ -26,7 +26,7 @@ use Rattle.ror_table.proofs.DraftLemmas.{table, IsDraft-add_criterion, IsDraft-a
 use Rattle.ror_table.proofs.IndexLemmas.{IsTable-from_tests}
 use Rattle.ror_table.proofs.RankLemmas.{or_neither}
 use Rattle.ror_table.proofs.PlainLemmas.{is_utf8-true}
-use Rattle.ror_table.proofs.LineSteps.{AddsCriterion, SetsClasses, AddsAlternative, Adds, body_line_adds, adds_body_line, two_words, two_tests, is_word, not_false, after_refuse, written_bounded}
+use Rattle.ror_table.proofs.LineSteps.{AddsCriterion, SetsClasses, AddsAlternative, Adds, body_line_adds, adds_body_line, two_words, two_tests, is_word, after_refuse, written_bounded}
 use Rattle.ror_table.proofs.LineSteps.Adds.{a_criterion, the_classes, an_alternative}
 
 abbrev pub Numbered : Type 0
@@ -53,14 +53,10 @@ one_more [] (b ∷ others) line a h w = absurd h
 one_more (l ∷ lines) [] line a h w = absurd h
 one_more (l ∷ lines) (b ∷ others) line a h w = (h.0, one_more lines others line a h.1 w)
 
-not_true : (b : Bool) → not b ≡ false → b ≡ true
-not_true true h = refl
-not_true false h = absurd cc
-
 pub is_early : (t : DecisionTable) → is_past_criteria t ≡ false → IsEarly t
 is_early t h =
     let both = or_neither (not (eqb t.classes 0)) (not (eqb (length t.alternatives) 0)) h in
-    record { classes = eqb-true t.classes 0 (not_true _ both.0); alternatives = nil_from_length t.alternatives (eqb-true (length t.alternatives) 0 (not_true _ both.1)) }
+    record { classes = eqb-true t.classes 0 (not-false _ both.0); alternatives = nil_from_length t.alternatives (eqb-true (length t.alternatives) 0 (not-false _ both.1)) }
 
 -- only criteria stand
 only_criteria : (lines : List LineWords) (t : DecisionTable) → WritesTable lines t → IsEarly t → lines ≡ map criterion_words t.criteria
@@ -331,7 +327,7 @@ read_plain_text bytes t e =
     let whole = whole_table_is d.0 t read.draft d.2 in
     subst (IsPlainText bytes) whole.0 (record {
       short = ltb-false MOST_TEXT_BYTES (length bytes) a.0;
-      utf8 = IsUtf8-from_is_utf8 bytes (not_false (is_utf8 bytes) b.0);
+      utf8 = IsUtf8-from_is_utf8 bytes (not-false (is_utf8 bytes) b.0);
       lines = record { rest = texts c.0; is = after_head_is (numbered_lines bytes) c.0 c.1; writes = read.writes };
       table = whole.1;
     })

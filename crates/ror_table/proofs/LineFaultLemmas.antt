@@ -3,7 +3,7 @@ use Rattle.std.proofs.Common.{◌≡◌, ℕ, ◌+◌, ◌<◌, Bool, true, fals
 use Rattle.std.specs.Prelude.{◌⊎◌, codes, Contains}
 use Rattle.std.specs.Str.{bytes_eq}
 use Rattle.std.proofs.lemmas.List.{length-drop}
-use Rattle.std.proofs.lemmas.Bool.{cases_order, ltb-true, ltb-false, le-ltb, leb-true, ne_eqb, eqb-false, false≢true}
+use Rattle.std.proofs.lemmas.Bool.{cases_order, ltb-true, ltb-false, le-ltb, leb-true, ne_eqb, eqb-false, false≢true, not-false, not_from_true}
 use Rattle.std.proofs.lemmas.Map.Made.{is_member-Decides}
 use Rattle.std.proofs.lemmas.Slice.Eq.{bytes_eq-Decides}
 use Rattle.ror_text.specs.Ids.{is_id}
@@ -23,7 +23,7 @@ use Rattle.ror_table.specs.Plain.{at_line, direction_of, performances_of, is_pas
 use Rattle.ror_table.specs.Grammar.{LineWords, word_at}
 use Rattle.ror_table.specs.LineFaults.{IsNamed, IsEarly, IsCriterionLine, IsClassesLine, IsAlternativeLine, HasForm, ArePerformances, FailsLine, line_stage, IsFirstOfLine}
 use Rattle.ror_table.proofs.GrammarLemmas.{is_early}
-use Rattle.ror_table.proofs.LineSteps.{Adds, body_line_adds, is_word, two_words, three_words, two_and_more, direction_of_word, direction_of-direction_word, are_written, written_are, length-written, not_false, after_refuse}
+use Rattle.ror_table.proofs.LineSteps.{Adds, body_line_adds, is_word, two_words, three_words, two_and_more, direction_of_word, direction_of-direction_word, are_written, written_are, length-written, after_refuse}
 use Rattle.ror_table.proofs.LineSteps.Adds.{a_criterion, the_classes, an_alternative}
 
 -- ---- tests
@@ -34,9 +34,6 @@ refused f false r e is = inr (refl, is)
 
 true_not_false : (b : Bool) → b ≡ true → b ≡ false → ⊥
 true_not_false b t f = false≢true (sym f ∙ t)
-
-passes : (b : Bool) → b ≡ true → not b ≡ false
-passes b t = ap not t
 
 -- ---- what stands at the front of a line
 
@@ -133,13 +130,13 @@ criterion_form : (t : DecisionTable) (line : LineWords) (d : Direction) → has_
     → is_past_criteria t ≡ false → not (is_id (word_at line 1)) ≡ false → HasForm t line
 criterion_form t line d visible name three direction early valid =
     let id : List ℕ = word_at line 1 in
-    let parts = three_words line (not_false (eqb (length line) 3) three) in
+    let parts = three_words line (not-false (eqb (length line) 3) three) in
     record {
       visible = visible;
       known = inl (record {
         criterion = record { id = id; direction = d };
         is = parts ∙ ap (λ (w : List ℕ). w ∷ id ∷ word_at line 2 ∷ []) name ∙ ap (λ (w : List ℕ). codes "criterion" ∷ id ∷ w ∷ []) (direction_of_word (word_at line 2) d direction);
-        valid = not_false (is_id id) valid;
+        valid = not-false (is_id id) valid;
         early = is_early t early;
       });
     }
@@ -169,7 +166,7 @@ criterion_first n t line e visible name is =
     elim (criterion_exit (at_line n BadLine) (at_line n RepeatedId) (at_line n (TooMany Criteria)) (not (eqb (length line) 3)) (direction_of (word_at line 2)) (is_past_criteria t) (not (is_id id)) (has_id (criterion_ids t) id) (leb MOST_CRITERIA (length t.criteria)) (λ d. add_criterion t id d) e is) [
       | no_form at fails ↦ bad_at n t line e at (λ form.
           let h = criterion_of t line name form in
-          fails (ap (λ (l : LineWords). not (eqb (length l) 3)) h.is) h.criterion.direction (ap (λ (l : LineWords). direction_of (word_at l 2)) h.is ∙ direction_of-direction_word h.criterion.direction) (early_not_past t h.early) (ap (λ (l : LineWords). not (is_id (word_at l 1))) h.is ∙ passes (is_id h.criterion.id) h.valid))
+          fails (ap (λ (l : LineWords). not (eqb (length l) 3)) h.is) h.criterion.direction (ap (λ (l : LineWords). direction_of (word_at l 2)) h.is ∙ direction_of-direction_word h.criterion.direction) (early_not_past t h.early) (ap (λ (l : LineWords). not (is_id (word_at l 1))) h.is ∙ not_from_true (is_id h.criterion.id) h.valid))
       | repeats three d direction early valid member at ↦
           let form = criterion_form t line d visible name three direction early valid in
           first_at n t line RepeatedId e at (record {
@@ -214,7 +211,7 @@ classes_form t line visible name two early = record {
   visible = visible;
   known = inr (inl (record {
     word = word_at line 1;
-    is = two_words line (not_false (eqb (length line) 2) two) ∙ ap (λ (w : List ℕ). w ∷ word_at line 1 ∷ []) name;
+    is = two_words line (not-false (eqb (length line) 2) two) ∙ ap (λ (w : List ℕ). w ∷ word_at line 1 ∷ []) name;
     early = is_early t early;
   }));
 }
@@ -281,7 +278,7 @@ alternative_form t line visible name some few valid = record {
     id = word_at line 1;
     words = drop 2 line;
     is = two_and_more line some ∙ ap (λ (w : List ℕ). w ∷ word_at line 1 ∷ drop 2 line) name;
-    valid = not_false (is_id (word_at line 1)) valid;
+    valid = not-false (is_id (word_at line 1)) valid;
     not_more = omega (arith, ltb-false (length t.criteria + 2) (length line) few, length-drop 2 line);
   }));
 }
@@ -309,7 +306,7 @@ alternative_first n t line e visible name is =
       | no_alternative at fails ↦ bad_at n t line e at (λ form.
           let h = alternative_of t line name form in
           let long : length line ≡ length (codes "alternative" ∷ h.id ∷ h.words) = ap length h.is in
-          fails (le-ltb (length line) 2 (omega (arith, long))) (le-ltb due (length line) (omega (arith, long, h.not_more))) (ap (λ (l : LineWords). not (is_id (word_at l 1))) h.is ∙ passes (is_id h.id) h.valid))
+          fails (le-ltb (length line) 2 (omega (arith, long))) (le-ltb due (length line) (omega (arith, long, h.not_more))) (ap (λ (l : LineWords). not (is_id (word_at l 1))) h.is ∙ not_from_true (is_id h.id) h.valid))
       | has_repeat some few valid member at ↦
           let form = alternative_form t line visible name some few valid in
           first_at n t line RepeatedId e at (record {

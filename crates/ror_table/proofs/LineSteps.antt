@@ -6,7 +6,7 @@ use Rattle.std.specs.Option.{option_map, option_and_then}
 use Rattle.std.specs.Str.{bytes_eq, all_ascii_digits}
 use Rattle.std.specs.Char.{is_ascii_digit}
 use Rattle.std.proofs.lemmas.List.{length-drop}
-use Rattle.std.proofs.lemmas.Bool.{ltb-false, leb-true, le-ltb, leb-false, lt-leb, eqb-true, eqb-false, ne_eqb, and_parts}
+use Rattle.std.proofs.lemmas.Bool.{ltb-false, leb-true, le-ltb, leb-false, lt-leb, eqb-true, eqb-false, ne_eqb, and_parts, not-false}
 use Rattle.std.proofs.lemmas.Slice.Eq.{bytes_eq-Decides}
 use Rattle.ror_text.specs.Ids.{is_id, IsId}
 use Rattle.ror_text.specs.Lines.{has_control, is_control}
@@ -81,10 +81,6 @@ pub two_and_more : (line : LineWords) → ltb (length line) 2 ≡ false → line
 two_and_more [] h = absurd cc
 two_and_more (a ∷ []) h = absurd cc
 two_and_more (a ∷ b ∷ more) h = refl
-
-pub not_false : (b : Bool) → not b ≡ false → b ≡ true
-not_false true h = refl
-not_false false h = absurd cc
 
 direction_by : (word : List ℕ) (d : Direction) (a b : Bool) → bytes_eq word (codes "max") ≡ a → bytes_eq word (codes "min") ≡ b → cond a (Some Max) (cond b (Some Min) None) ≡ Some d → word ≡ direction_word d
 direction_by word d true b max min h = let same : Max ≡ d = cc in is_word word (codes "max") max ∙ ap direction_word same
@@ -246,13 +242,13 @@ unfolding criterion_line with_criterion
 criterion_line_adds line t words t' first e =
     let id : List ℕ = word_at words 1 in
     let r = criterion_tests (at_line line BadLine) (at_line line RepeatedId) (at_line line (TooMany Criteria)) (not (eqb (length words) 3)) (direction_of (word_at words 2)) (is_past_criteria t) (not (is_id id)) (has_id (criterion_ids t) id) (leb MOST_CRITERIA (length t.criteria)) (λ d. add_criterion t id d) t' e in
-    let parts = three_words words (not_false (eqb (length words) 3) r.1) in
+    let parts = three_words words (not-false (eqb (length words) 3) r.1) in
     let name : word_at words 0 ≡ codes "criterion" = is_word (word_at words 0) (codes "criterion") first in
     let direction : word_at words 2 ≡ direction_word r.0 = direction_of_word (word_at words 2) r.0 r.2 in
     record {
       criterion = record { id = id; direction = r.0 };
       is = parts ∙ ap (λ (w : List ℕ). w ∷ id ∷ word_at words 2 ∷ []) name ∙ ap (λ (w : List ℕ). codes "criterion" ∷ id ∷ w ∷ []) direction;
-      valid = not_false (is_id id) r.4;
+      valid = not-false (is_id id) r.4;
       fresh = r.5;
       room = leb-false MOST_CRITERIA (length t.criteria) r.6;
       early = r.3;
@@ -291,7 +287,7 @@ classes_line_sets line t words t' first e =
     record {
       word = word_at words 1;
       count = r.0;
-      is = two_words words (not_false (eqb (length words) 2) r.1) ∙ ap (λ (w : List ℕ). w ∷ word_at words 1 ∷ []) name;
+      is = two_words words (not-false (eqb (length words) 2) r.1) ∙ ap (λ (w : List ℕ). w ∷ word_at words 1 ∷ []) name;
       written = r.3;
       some = omega arith;
       few = ltb-false MOST_CLASSES r.0 r.5;
@@ -333,7 +329,7 @@ alternative_line_adds line t words t' first e =
     record {
       alternative = record { id = id; performances = r.0 };
       writes = record { numbers = drop 2 words; is = parts ∙ ap (λ (w : List ℕ). w ∷ id ∷ drop 2 words) name; written = written };
-      valid = not_false (is_id id) r.3;
+      valid = not-false (is_id id) r.3;
       fresh = r.4;
       width = omega (arith, length-written (drop 2 words) r.0 written, length-drop 2 words);
       room = leb-false MOST_ALTERNATIVES (length t.alternatives) r.7;

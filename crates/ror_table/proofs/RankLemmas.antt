@@ -1,17 +1,17 @@
 -- Ranks, steps and columns: how they follow from levels, and how they compare.
-use Rattle.std.proofs.Common.{◌≡◌, ℕ, ◌+◌, ◌-◌, ◌<◌, ◌≤◌, Bool, true, false, cond, ◌&&◌, ◌||◌, List, [], ◌∷◌, ◌++◌, length, filter, zero, suc, ℤ, pos, Contains, refl, sym, ap, subst, ◌∙◌, arith, add-zero, inl, inr}
+use Rattle.std.proofs.Common.{◌≡◌, ℕ, ◌+◌, ◌-◌, ◌<◌, ◌≤◌, Bool, true, false, cond, ◌&&◌, ◌||◌, List, [], ◌∷◌, length, filter, zero, suc, ℤ, pos, Contains, refl, sym, ap, subst, ◌∙◌, arith, add-zero, inl, inr}
 use Rattle.std.specs.Prelude.{sum_by, ◌≢◌, ◌⊎◌}
 use Rattle.std.specs.List.{IsDistinct, AllByRecursion, range_with_len}
 use Rattle.std.specs.Cmp.{int_eq_equiv, signed_Decides, both_ways}
 use Rattle.std.specs.Set.{is_member, unique_keys}
 use Rattle.std.proofs.lemmas.Int.{ints}
-use Rattle.std.proofs.lemmas.List.{length-map, map-id}
+use Rattle.std.proofs.lemmas.List.{length-map}
 use Rattle.std.proofs.lemmas.List.Elements.{Contains-get_or}
-use Rattle.std.proofs.lemmas.List.FromFn.{map-range_with_len_more}
 use Rattle.std.proofs.lemmas.List.Kept.{AllPairs-filter}
 use Rattle.std.proofs.lemmas.List.Sums.{sum_by_push}
 use Rattle.std.proofs.lemmas.Map.Keys.{IsDistinct-cons}
 use Rattle.std.proofs.lemmas.Map.Made.{is_member-Decides, is_member-filter, length-from_keys, length-le_from_is_member, AllPairs-from_IsDistinct, IsDistinct-from_AllPairs}
+use Rattle.ror_text.proofs.ListLemmas.{range_more}
 use Rattle.ror_table.specs.declared.direction.Direction.{Direction}
 use Rattle.ror_table.specs.declared.direction.Direction.TheVariants.{Max, Min}
 use Rattle.ror_table.specs.Table.{DecisionTable, is_worse, is_same, levels_count, direction_at, performances_on, performance_of, performance_at, rank, steps, offset, column, columns}
@@ -121,12 +121,9 @@ rank-le-steps t a i within =
 
 -- ---- columns
 
-range_more : (n : ℕ) → range_with_len 0 (n + 1) ≡ range_with_len 0 n ++ n ∷ []
-range_more n = sym (map-id (range_with_len 0 (n + 1))) ∙ map-range_with_len_more (λ k. k) 0 n n (omega arith) ∙ ap (λ ks. ks ++ n ∷ []) (map-id (range_with_len 0 n))
-
 -- the columns of one criterion more
 pub offset-suc : (t : DecisionTable) (i : ℕ) → offset t (i + 1) ≡ offset t i + steps t i
-offset-suc t i = ap (sum_by (steps t)) (range_more i) ∙ sum_by_push (steps t) (range_with_len 0 i) i
+offset-suc t i = ap (sum_by (steps t)) (range_more 0 i i (omega arith)) ∙ sum_by_push (steps t) (range_with_len 0 i) i
 
 pub offset-le : (t : DecisionTable) (i n : ℕ) → offset t i ≤ offset t (i + n)
 offset-le t i zero = subst (λ m. offset t i ≤ offset t m) (sym (add-zero i)) (omega arith)

@@ -2,7 +2,7 @@
 use Rattle.std.proofs.Common.{◌≡◌, ℕ, Bool, true, false, List, [], ◌∷◌, Option, Some, None, Result, Ok, Err, refl, sym, ap, ◌∙◌, cond}
 use Rattle.std.specs.Prelude.{IfSome, codes, not, find, option_map, option_and_then, unwrap_or, is_some, ◌||◌, ◌&&◌}
 use Rattle.std.specs.List.{AllByRecursion}
-use Rattle.std.proofs.lemmas.Bool.{false≢true, or_parts, or_right}
+use Rattle.std.proofs.lemmas.Bool.{false≢true, or_parts, or_right, not-false}
 use Rattle.ror_text.specs.Reading.{refuse, need, read_all}
 use Rattle.ror_text.proofs.Everywhere.{all-by}
 use Rattle.ror_text.proofs.ReadingLemmas.{bind_ok, need_ok, refuse_ok}
@@ -223,10 +223,6 @@ complete_parts true false true i false none no_set e = (refl, refl)
 complete_parts true false false true false none no_set e = (refl, refl)
 complete_parts true false false false false none no_set e = absurd cc
 
-complete_from : (b : Bool) → not b ≡ false → b ≡ true
-complete_from true e = refl
-complete_from false e = absurd cc
-
 there_known : (listed : List Tree) (o : Option Tree) → is_some o ≡ true → IfSome o (IsKnownText listed) → is_id_of listed (option_map text_of o) ≡ true
 there_known listed None some h = absurd cc
 there_known listed (Some t) some h = h
@@ -248,7 +244,7 @@ affectation_known best_first root r c are also stated t next e =
     let no_alternatives = none_found (is_named (codes "alternativesSetID")) (inside t) (all-by (λ x. is_set x ≡ false) (λ x. is_named (codes "alternativesSetID") x ≡ false) (inside t) (λ x h. (or_parts (is_named (codes "alternativesSetID") x) (is_named (codes "categoriesSet") x) h).0) sets) in
     let no_categories = none_found (is_named (codes "categoriesSet")) (inside t) (all-by (λ x. is_set x ≡ false) (λ x. is_named (codes "categoriesSet") x ≡ false) (inside t) (λ x h. (or_parts (is_named (codes "alternativesSetID") x) (is_named (codes "categoriesSet") x) h).1) sets) in
     let there = complete_parts (is_some (find (is_named (codes "alternativeID")) (inside t))) (is_some (find (is_named (codes "alternativesSetID")) (inside t))) (is_some (find (is_named (codes "categoryID")) (inside t))) (is_some (find (is_named (codes "categoriesInterval")) (inside t))) (is_some (find (is_named (codes "categoriesSet")) (inside t)))
-    no_alternatives no_categories (complete_from (is_complete t) (refuse_ok _ (not (is_complete t)) u.0 u.1)) in
+    no_alternatives no_categories (not-false (is_complete t) (refuse_ok _ (not (is_complete t)) u.0 u.1)) in
     let ends : is_some (find (is_either (codes "categoryID") (codes "categoriesInterval")) (inside t)) ≡ true = some_of_either (is_named (codes "categoryID")) (is_named (codes "categoriesInterval")) (inside t) ∙ there.1 in
     let known : IfSome (find (is_either (codes "categoryID") (codes "categoriesInterval")) (inside t)) (AreKnownEnds root) =
     first_is (AreKnownEnds root) (part best_first r c) (λ (x : Assigned). x.classes) (is_either (codes "categoryID") (codes "categoriesInterval")) (classes_in best_first root) (λ b x n f. (part_is best_first root (listed_alternatives root) r c are also b x n f).classes)

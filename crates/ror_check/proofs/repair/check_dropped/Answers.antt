@@ -2,6 +2,7 @@ use Rattle.std.proofs.Common.{arith, ◌≡◌, suc, ◌+◌, ◌++◌, [], ◌�
 use Rattle.std.specs.Prelude.{slice_get}
 use Rattle.std.proofs.lemmas.Bool.{ltb-true, lt-ltb, false≢true}
 use Rattle.std.proofs.lemmas.Result.{err_from_is_err_and}
+use Rattle.std.proofs.lemmas.Option.{slice_get_within}
 use Rattle.ror_value.specs.Over.{IsLawfulIn}
 use Rattle.ror_statement.specs.declared.statement.Numbered.{Numbered}
 use Rattle.ror_check.specs.Repair.{numbers_of, RefutesDropped}
@@ -9,7 +10,7 @@ use Rattle.ror_check.specs.RepairSteps.{RefusesOne}
 use Rattle.ror_check.proofs.Checking.{slice_get-at, some_same}
 use Rattle.ror_check.proofs.Numbers.{rises}
 use Rattle.ror_check.proofs.Repairs.{with_lawful}
-use Rattle.ror_check.proofs.RepairWalk.{Walked, found, place-within, popped, walk_begins, walk_here, walk_keeps, walk_drops, walk_refuses, walk_ends}
+use Rattle.ror_check.proofs.RepairWalk.{Walked, found, popped, walk_begins, walk_here, walk_keeps, walk_drops, walk_refuses, walk_ends}
 use Rattle.ror_check.proofs.repair.check_dropped.Goals as goal
 
 pub loop-numbered-init : goal.loop-numbered-init
@@ -27,7 +28,7 @@ loop-numbered-preserved-in_default c =
     let pushed : c.push.new.self.items ≡ kept ++ s.0.statement ∷ [] = c.in_ok-push.ensures.items ∙ ap (λ (x : Numbered). kept ++ x.statement ∷ []) (s.2 _) in
     let more : suc i ≡ i + 1 = omega arith in
     subst (λ n. Walked t list ds n place c.push.new.self.items) more
-    (subst (Walked t list ds (suc i) place) (sym pushed) (walk_keeps t list ds i place kept c.loop-numbered.invariant s.0 s.1 (λ d there. absurd (false≢true (c.in_default.ensures.lookup.0 ∙ lt-ltb place _ (place-within ds place d there))))))
+    (subst (Walked t list ds (suc i) place) (sym pushed) (walk_keeps t list ds i place kept c.loop-numbered.invariant s.0 s.1 (λ d there. absurd (false≢true (c.in_default.ensures.lookup.0 ∙ lt-ltb place _ (slice_get_within ds place d there))))))
 
 pub loop-numbered-preserved-then-next-numbered : goal.loop-numbered-preserved-then-next-numbered
 loop-numbered-preserved-then-next-numbered c =
