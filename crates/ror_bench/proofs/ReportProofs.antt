@@ -13,10 +13,11 @@ use Rattle.ror_table.specs.Table.{DecisionTable, IsTable}
 use Rattle.ror_text.specs.FirstFault.{IsRefusedBy}
 use Rattle.ror_text.specs.Cursor.{Cursor, cursor_at}
 use Rattle.ror_report.specs.declared.block.Block.{Block}
-use Rattle.ror_report.specs.declared.read.ReportFault.{ReportFault}
+use Rattle.ror_proof.specs.declared.read.ProofFault.{ProofFault}
 use Rattle.ror_report.specs.Text.{block_text, header_text, end_text, IsPrintableBlock}
-use Rattle.ror_report.specs.declared.read.ReportFault.TheVariants as forms
-use Rattle.ror_report.specs.Reading.{report_fault, ends_body, begins_end, block_at, end_at, header_at}
+use Rattle.ror_proof.specs.declared.read.ProofFault.TheVariants as forms
+use Rattle.ror_proof.specs.Reading.{proof_fault}
+use Rattle.ror_report.specs.Reading.{ends_body, begins_end, block_at, end_at, header_at}
 use Rattle.ror_report.proofs.BlockLemmas.{block_reads_back, is_read_iff_text}
 use Rattle.ror_report.proofs.ReportLemmas.{ends_at_rest, header_is_text, header_reads_back, end_is_text, end_reads_back}
 use Rattle.ror_report.proofs.LineForms.{block_begins, end_begins}
@@ -43,7 +44,7 @@ use Rattle.ror_bench.proofs.Utf8Proofs.{proved_is_utf8, few_blocks}
 
 -- ---- reading is a function
 
-abbrev ok_block : Block × Cursor → Result (Block × Cursor) ReportFault
+abbrev ok_block : Block × Cursor → Result (Block × Cursor) ProofFault
 ok_block p = Ok p
 
 -- two blocks that stand at one place are one, and end at one place
@@ -351,10 +352,10 @@ first_read start before line lines total bytes from table first =
     let after : Cursor = record { place = from + length (block_text start.table first.block); rest = first.after } in
     (is_read_iff_text start.table (cursor_at bytes from) first.block after table).1 (record { text = first.text; place = refl; printable = first.printable; ended = first.ended })
 
-ok_read : Block × Cursor → Result (Block × Cursor) ReportFault
+ok_read : Block × Cursor → Result (Block × Cursor) ProofFault
 ok_read p = Ok p
 
-pub one_read : (r : Result (Block × Cursor) ReportFault) (p q : Block × Cursor) → r ≡ Ok p → r ≡ Ok q → q ≡ p
+pub one_read : (r : Result (Block × Cursor) ProofFault) (p q : Block × Cursor) → r ≡ Ok p → r ≡ Ok q → q ≡ p
 one_read r p q e f = (let both = sym e ∙ f in cc)
 
 next_not_first : (start : Workbench) (before : List (Line × Block)) (line : Line) (lines : List Line) (total : ℕ) (bytes : List ℕ) (from : ℕ) (reason : Reason) → IsTable start.table → HasFirst start before line lines total (drop from bytes) → RejectsNext start.table (revisions_then start before line.desk) line bytes from reason → ⊥
@@ -457,12 +458,12 @@ refused_rejects t u r line bytes from block after found (blocks.Answer k fault) 
 refused_rejects t u r line bytes from block after found (blocks.Repair fault) same no_end read first = (refl, refused found after (blocks.Repair fault) no_end (ap (λ (v : DecisionTable). block_at v (cursor_at bytes from)) (sym same) ∙ read) (first (λ e. cc)) refl)
 refused_rejects t u r line bytes from block after found blocks.Memory same no_end read first = tt
 
-pub misread_rejects : (t u : DecisionTable) (r : Revisions) (line : Line) (bytes : List ℕ) (from block : ℕ) (fault : ReportFault) → u ≡ t → begins_end (drop from bytes) ≡ false → IfSome (report_fault fault) (λ f. block_at u (cursor_at bytes from) ≡ Err f) → IfRejected (AtBlock block (RejectsNext t r line bytes from)) (misread_error bytes block fault)
+pub misread_rejects : (t u : DecisionTable) (r : Revisions) (line : Line) (bytes : List ℕ) (from block : ℕ) (fault : ProofFault) → u ≡ t → begins_end (drop from bytes) ≡ false → IfSome (proof_fault fault) (λ f. block_at u (cursor_at bytes from) ≡ Err f) → IfRejected (AtBlock block (RejectsNext t r line bytes from)) (misread_error bytes block fault)
 misread_rejects t u r line bytes from block (forms.BadLine at) same no_end bad = (refl, block_misread (forms.BadLine at) no_end (ap (λ (v : DecisionTable). block_at v (cursor_at bytes from)) (sym same) ∙ bad) refl)
 misread_rejects t u r line bytes from block (forms.BadNumber at) same no_end bad = (refl, block_misread (forms.BadNumber at) no_end (ap (λ (v : DecisionTable). block_at v (cursor_at bytes from)) (sym same) ∙ bad) refl)
 misread_rejects t u r line bytes from block forms.Memory same no_end bad = tt
 
-pub end_rejects : (t : DecisionTable) (bytes : List ℕ) (from block count : ℕ) (fault : ReportFault) → begins_end (drop from bytes) ≡ true → IfSome (report_fault fault) (λ f. end_at (cursor_at bytes from) ≡ Err f) → IfRejected (AtBlock block (RejectsEnd t bytes from count)) (misread_error bytes block fault)
+pub end_rejects : (t : DecisionTable) (bytes : List ℕ) (from block count : ℕ) (fault : ProofFault) → begins_end (drop from bytes) ≡ true → IfSome (proof_fault fault) (λ f. end_at (cursor_at bytes from) ≡ Err f) → IfRejected (AtBlock block (RejectsEnd t bytes from count)) (misread_error bytes block fault)
 end_rejects t bytes from block count (forms.BadLine at) begins bad = (refl, end_misread (forms.BadLine at) begins bad refl)
 end_rejects t bytes from block count (forms.BadNumber at) begins bad = (refl, end_misread (forms.BadNumber at) begins bad refl)
 end_rejects t bytes from block count forms.Memory begins bad = tt

@@ -8,8 +8,8 @@ use Rattle.ror_text.specs.Lines.{line_of}
 use Rattle.ror_table.specs.Table.{DecisionTable}
 use Rattle.ror_session.specs.declared.session.Line.{Line}
 use Rattle.ror_report.specs.declared.block.Block.{Block}
-use Rattle.ror_report.specs.declared.read.ReportFault.{ReportFault}
-use Rattle.ror_report.specs.declared.read.ReportFault.TheVariants as forms
+use Rattle.ror_proof.specs.declared.read.ProofFault.{ProofFault}
+use Rattle.ror_proof.specs.declared.read.ProofFault.TheVariants as forms
 use Rattle.ror_report.specs.Reading.{begins_end, block_at, end_at, header_at}
 use Rattle.ror_report.specs.Text.{report_text, IsPrintableBlock}
 use Rattle.ror_check.specs.declared.fault.CheckFault.TheVariants as checks
@@ -84,7 +84,7 @@ pub record IsAcceptedReport (bench : Workbench) (lines : List Line) (bytes : Lis
 -- ---- for what a report is rejected
 
 -- the line of a fault within the bytes, or the one that their end is in
-abbrev pub misread_reason : List ℕ → ReportFault → Reason
+abbrev pub misread_reason : List ℕ → ProofFault → Reason
 misread_reason bytes (forms.BadLine place) =
     reasons.BadLine (line_of bytes (min place (length bytes)))
 misread_reason bytes (forms.BadNumber place) =
@@ -101,13 +101,13 @@ block_reason blocks.Memory = reasons.WrongBlock
 -- a block is due, or for the first fault of the block.
 pub data RejectsNext (t : DecisionTable) (r : Revisions) (line : Line) (bytes : List ℕ) (from : ℕ)
     (reason : Reason) : Type 0 where
-  end_misread : (fault : ReportFault) → begins_end (drop from bytes) ≡ true
+  end_misread : (fault : ProofFault) → begins_end (drop from bytes) ≡ true
       → end_at (cursor_at bytes from) ≡ Err fault → reason ≡ misread_reason bytes fault
       → RejectsNext t r line bytes from reason
   ends_early : (n : ℕ) → begins_end (drop from bytes) ≡ true
       → end_at (cursor_at bytes from) ≡ Ok n → reason ≡ reasons.WrongBlock
       → RejectsNext t r line bytes from reason
-  block_misread : (fault : ReportFault) → begins_end (drop from bytes) ≡ false
+  block_misread : (fault : ProofFault) → begins_end (drop from bytes) ≡ false
       → block_at t (cursor_at bytes from) ≡ Err fault → reason ≡ misread_reason bytes fault
       → RejectsNext t r line bytes from reason
   refused : (b : Block) (after : ℕ) (fault : BlockFault) → begins_end (drop from bytes) ≡ false
@@ -119,13 +119,13 @@ pub data RejectsNext (t : DecisionTable) (r : Revisions) (line : Line) (bytes : 
 -- number.
 pub data RejectsEnd (t : DecisionTable) (bytes : List ℕ) (from count : ℕ)
     (reason : Reason) : Type 0 where
-  end_misread : (fault : ReportFault) → begins_end (drop from bytes) ≡ true
+  end_misread : (fault : ProofFault) → begins_end (drop from bytes) ≡ true
       → end_at (cursor_at bytes from) ≡ Err fault → reason ≡ misread_reason bytes fault
       → RejectsEnd t bytes from count reason
   miscounted : (n : ℕ) → begins_end (drop from bytes) ≡ true
       → end_at (cursor_at bytes from) ≡ Ok n → n ≢ count → reason ≡ reasons.WrongBlock
       → RejectsEnd t bytes from count reason
-  block_misread : (fault : ReportFault) → begins_end (drop from bytes) ≡ false
+  block_misread : (fault : ProofFault) → begins_end (drop from bytes) ≡ false
       → block_at t (cursor_at bytes from) ≡ Err fault → reason ≡ misread_reason bytes fault
       → RejectsEnd t bytes from count reason
   one_too_many : (b : Block) (after : ℕ) → begins_end (drop from bytes) ≡ false

@@ -23,8 +23,8 @@ use Rattle.ror_history.specs.History.{Revision, Revisions, standing, statements_
 use Rattle.ror_text.specs.Cursor.{cursor_at}
 use Rattle.ror_session.specs.declared.session.Line.{Line}
 use Rattle.ror_report.specs.declared.block.Block.{Block}
-use Rattle.ror_report.specs.declared.read.ReportFault.{ReportFault}
-use Rattle.ror_report.specs.declared.read.ReportFault.TheVariants as forms
+use Rattle.ror_proof.specs.declared.read.ProofFault.{ProofFault}
+use Rattle.ror_proof.specs.declared.read.ProofFault.TheVariants as forms
 use Rattle.ror_report.specs.Reading.{begins_end, block_at, end_at}
 use Rattle.ror_report.specs.Text.{block_text, end_text, IsPrintableBlock}
 use Rattle.ror_bench.specs.Allowed.{of_form}
@@ -171,14 +171,14 @@ with_passed accepted passed = record {
 -- a last line stands at the place, where a block is due
 abbrev pub IsEarlyEnd : List ℕ → ℕ → Reason → Type 0
 IsEarlyEnd bytes from reason = ((n : ℕ) × (end_at (cursor_at bytes from) ≡ Ok n)
-    × (reason ≡ reasons.WrongBlock)) ⊎ ((fault : ReportFault)
+    × (reason ≡ reasons.WrongBlock)) ⊎ ((fault : ProofFault)
     × (end_at (cursor_at bytes from) ≡ Err fault) × (reason ≡ misread_reason bytes fault))
 
 -- a block stands at the place, where the last line is due
 abbrev pub IsLateBlock : DecisionTable → List ℕ → ℕ → Reason → Type 0
 IsLateBlock t bytes from reason = ((b : Block) × (after : ℕ)
     × (block_at t (cursor_at bytes from) ≡ Ok (b, cursor_at bytes after))
-    × (reason ≡ reasons.WrongBlock)) ⊎ ((fault : ReportFault)
+    × (reason ≡ reasons.WrongBlock)) ⊎ ((fault : ProofFault)
     × (block_at t (cursor_at bytes from) ≡ Err fault) × (reason ≡ misread_reason bytes fault))
 
 -- ---- which error a fault of a block is
@@ -190,6 +190,6 @@ abbrev pub refused_block_error : ℕ → BlockFault → ReportError
 refused_block_error block faults.Memory = errors.Memory
 refused_block_error block fault = rejected block (block_reason fault)
 
-abbrev pub misread_error : List ℕ → ℕ → ReportFault → ReportError
+abbrev pub misread_error : List ℕ → ℕ → ProofFault → ReportError
 misread_error bytes block forms.Memory = errors.Memory
 misread_error bytes block fault = rejected block (misread_reason bytes fault)

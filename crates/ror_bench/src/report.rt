@@ -12,7 +12,8 @@ ghost use Rattle.ror_bench.specs.Steps.{IsEarlyEnd, IsLateBlock, IsNextBlock, mi
 
 use crate::bench::{Bench, BlockFault, Passed};
 use ror_check::{CheckFault, RepairCheckFault};
-use ror_report::{ReportFault, begins_end, read_block, read_end, read_header};
+use ror_proof::ProofFault;
+use ror_report::{begins_end, read_block, read_end, read_header};
 use ror_session::Line;
 use ror_table::Table;
 use ror_text::lines::{is_utf8, line_number};
@@ -256,14 +257,14 @@ fn refused_block(block: u32, fault: BlockFault) -> ReportError
 }
 
 /// The error of a block or a last line that is not as it is to be, by the number of its line.
-fn misread(bytes: &[u8], block: u32, fault: ReportFault) -> ReportError
+fn misread(bytes: &[u8], block: u32, fault: ProofFault) -> ReportError
     requires { length bytes.now ≤ MOST_REPORT_BYTES }
     ensures { result ≡ misread_error bytes.now block fault }
 {
     let reason = match fault {
-        ReportFault::BadLine(place) => Reason::BadLine(line_at(bytes, place)),
-        ReportFault::BadNumber(place) => Reason::BadNumber(line_at(bytes, place)),
-        ReportFault::Memory => return ReportError::Memory,
+        ProofFault::BadLine(place) => Reason::BadLine(line_at(bytes, place)),
+        ProofFault::BadNumber(place) => Reason::BadNumber(line_at(bytes, place)),
+        ProofFault::Memory => return ReportError::Memory,
     };
     ReportError::Rejected(Rejection { block, reason })
 }

@@ -24,7 +24,7 @@ use ror_text::spaced::{Words, line_at};
 use std::alloc::{AllocError, AllocFailed, Global};
 use thiserror::Error;
 
-/// Why no answer or repair was read; the place is the first byte of the faulty line.
+/// Why no answer, repair or block of a report was read; the place is the first byte of the faulty line.
 #[derive(Debug, Drop, Error)]
 pub enum ProofFault {
     /// A wrong, empty, missing or extra word, an id that the table lacks, no line feed, or a part after a verdict that has

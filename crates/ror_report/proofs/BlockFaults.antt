@@ -1,5 +1,5 @@
 -- The fault of a block and of the last line is the one that is given.
-use Rattle.std.proofs.Common.{◌≡◌, ℕ, ◌+◌, ◌≤◌, zero, suc, Bool, true, false, not, eqb, Option, Some, None, List, [], ◌∷◌, length, length-append, Result, Ok, Err, refl, sym, ap, ◌∙◌, arith, inl, inr}
+use Rattle.std.proofs.Common.{◌≡◌, ℕ, ◌+◌, ◌≤◌, zero, suc, true, false, not, eqb, Option, Some, None, List, [], ◌∷◌, length, length-append, Result, Ok, Err, refl, sym, ap, ◌∙◌, arith, inl, inr}
 use Rattle.std.specs.Prelude.{◌≢◌, codes}
 use Rattle.std.proofs.lemmas.Bool.{cases_Bool, ne_eqb, eqb-false, not-true}
 use Rattle.ror_text.specs.Cursor.{Cursor, line_words}
@@ -7,55 +7,53 @@ use Rattle.ror_text.specs.Reading.{◌>>=◌, refuse}
 use Rattle.ror_text.proofs.ReadingLemmas.{bind_err, refuse_err}
 use Rattle.ror_table.specs.Table.{DecisionTable, IsTable}
 use Rattle.ror_proof.specs.declared.answer.Answer.{Answer}
+use Rattle.ror_proof.specs.declared.read.ProofFault.{ProofFault}
+use Rattle.ror_proof.specs.declared.read.ProofFault.TheVariants.{BadLine}
 use Rattle.ror_proof.specs.Expected.{IsLine}
 use Rattle.ror_proof.specs.Reading.{answer_at}
 use Rattle.ror_proof.specs.Text.{answer_text}
 use Rattle.ror_proof.proofs.AnswerLemmas.{answer_is_text, is_read_iff_text}
-use Rattle.ror_proof.proofs.LineFaults.{answer_err, answer_fails}
+use Rattle.ror_proof.proofs.WordFaults.{no_fault}
+use Rattle.ror_proof.proofs.LineFaults.{answer_err, answer_fails, line_fails, line_goes}
 use Rattle.ror_report.specs.declared.block.Block.{Block}
 use Rattle.ror_report.specs.declared.block.Body.{Body}
 use Rattle.ror_report.specs.declared.block.Body.TheVariants.{Answers}
 use Rattle.ror_report.specs.declared.names.BodyForm.{BodyForm}
-use Rattle.ror_report.specs.declared.read.ReportFault.{ReportFault}
-use Rattle.ror_report.specs.declared.read.ReportFault.TheVariants.{BadLine}
-use Rattle.ror_report.specs.Reading.{numbered_line, read_in_report, form_lines, form_of, ends_body, body_answers, formed_at, answers_at, body_of, body_at, block_at, end_at}
+use Rattle.ror_report.specs.Reading.{numbered_line, form_lines, form_of, ends_body, body_answers, formed_at, answers_at, body_of, body_at, block_at, end_at}
 use Rattle.ror_report.specs.Faults.{expected_number, IsFaultOfAnswers, IsFaultOfBlock, IsFaultOfEnd}
 use Rattle.ror_report.specs.Faults.IsFaultOfAnswers.{this_answer, later_answer}
 use Rattle.ror_report.specs.Faults.IsFaultOfBlock.{in_name, in_form, after_form, in_answers}
 use Rattle.ror_report.specs.Faults.IsFaultOfEnd.{in_end, after_end}
 use Rattle.ror_report.proofs.Bodies.{answer_step, no_answers, goes_on_some}
 use Rattle.ror_report.proofs.BlockLemmas.{answer_has_bytes}
-use Rattle.ror_report.proofs.LineForms.{in_report_ok}
-use Rattle.ror_report.proofs.FormFaults.{no_fault, in_report_err, line_fails, line_goes, number_reads, reads_form}
+use Rattle.ror_report.proofs.FormFaults.{number_reads, reads_form}
 
 -- ---- answers
 
-abbrev one_more : Answer → List Answer × Cursor → Result (List Answer × Cursor) ReportFault
+abbrev one_more : Answer → List Answer × Cursor → Result (List Answer × Cursor) ProofFault
 one_more x others = Ok (x ∷ others.0, others.1)
 
-answers_err : (t : DecisionTable) (most : ℕ) (c : Cursor) (f : ReportFault) → body_answers t most c ≡ Err f → IsFaultOfAnswers t f c
+answers_err : (t : DecisionTable) (most : ℕ) (c : Cursor) (f : ProofFault) → body_answers t most c ≡ Err f → IsFaultOfAnswers t f c
 unfolding body_answers
 answers_err t zero c f e = absurd (no_fault _ f e)
 answers_err t (suc most) c f e =
     elim (cases_Bool (ends_body c.rest)) [
       | inl ends ↦ absurd (no_fault _ f (sym (no_answers t (suc most) c ends) ∙ e))
       | inr more ↦
-          elim (bind_err (read_in_report (answer_at t c)) (λ first. body_answers t most first.1 >>= λ others. one_more first.0 others) f (sym (answer_step t most c more) ∙ e)) [
-            | inl here ↦
-                let handed = in_report_err (answer_at t c) f here in
-                this_answer c more handed.first (answer_err t c handed.first handed.is) handed.becomes
+          elim (bind_err (answer_at t c) (λ first. body_answers t most first.1 >>= λ others. one_more first.0 others) f (sym (answer_step t most c more) ∙ e)) [
+            | inl here ↦ this_answer c more (answer_err t c f here)
             | inr a ↦
                 elim (bind_err (body_answers t most a.0.1) (λ others. one_more a.0.0 others) f a.2) [
-                  | inl deeper ↦ later_answer c a.0.1 a.0.0 more (answer_is_text t c a.0.0 a.0.1 (in_report_ok (answer_at t c) a.0 a.1)) (answers_err t most a.0.1 f deeper)
+                  | inl deeper ↦ later_answer c a.0.1 a.0.0 more (answer_is_text t c a.0.0 a.0.1 a.1) (answers_err t most a.0.1 f deeper)
                   | inr none ↦ absurd (no_fault _ f none.2)
                 ]
           ]
     ]
 
-answers_fail : (t : DecisionTable) (most : ℕ) (c : Cursor) (f : ReportFault) → IsTable t → length c.rest ≤ most → IsFaultOfAnswers t f c → body_answers t most c ≡ Err f
-answers_fail t zero c f table room (this_answer _ more g fault is) = let some = goes_on_some c.rest more in absurd (omega (arith, some, room))
+answers_fail : (t : DecisionTable) (most : ℕ) (c : Cursor) (f : ProofFault) → IsTable t → length c.rest ≤ most → IsFaultOfAnswers t f c → body_answers t most c ≡ Err f
+answers_fail t zero c f table room (this_answer _ more fault) = let some = goes_on_some c.rest more in absurd (omega (arith, some, room))
 answers_fail t zero c f table room (later_answer _ after x more text fault) = let some = goes_on_some c.rest more in absurd (omega (arith, some, room))
-answers_fail t (suc most) c f table room (this_answer _ more g fault is) = answer_step t most c more ∙ rw (answer_fails t c g fault) (ap Err (sym is))
+answers_fail t (suc most) c f table room (this_answer _ more fault) = answer_step t most c more ∙ rw (answer_fails t c f fault) refl
 answers_fail t (suc most) c f table room (later_answer _ after x more text fault) =
     let read = (is_read_iff_text t c x after table).1 text in
     let all : length c.rest ≡ length (answer_text t x) + length after.rest = ap length text.text ∙ length-append (answer_text t x) after.rest in
@@ -64,17 +62,17 @@ answers_fail t (suc most) c f table room (later_answer _ after x more text fault
 
 -- ---- blocks
 
-abbrev block_read : ℕ → Body × Cursor → Result (Block × Cursor) ReportFault
+abbrev block_read : ℕ → Body × Cursor → Result (Block × Cursor) ProofFault
 block_read line body = Ok (record { line = line; body = body.0 }, body.1)
 
-abbrev answers_read : List Answer × Cursor → Result (Body × Cursor) ReportFault
+abbrev answers_read : List Answer × Cursor → Result (Body × Cursor) ProofFault
 answers_read answers = Ok (Answers answers.0, answers.1)
 
-abbrev line_read : Body × Cursor → Result (Body × Cursor) ReportFault
+abbrev line_read : Body × Cursor → Result (Body × Cursor) ProofFault
 line_read body = Ok body
 
 -- the fault of a body behind the line that names the session's line
-body_err : (t : DecisionTable) (c at : Cursor) (form : Option BodyForm) (f : ReportFault) → IsLine t (expected_number (codes "line")) c at → form_of (line_words at) ≡ form → body_of t form at ≡ Err f → IsFaultOfBlock t c f
+body_err : (t : DecisionTable) (c at : Cursor) (form : Option BodyForm) (f : ProofFault) → IsLine t (expected_number (codes "line")) c at → form_of (line_words at) ≡ form → body_of t form at ≡ Err f → IsFaultOfBlock t c f
 unfolding formed_at answers_at
 body_err t c at None f line found e =
     elim (bind_err (body_answers t (length at.rest) at) (λ answers. answers_read answers) f e) [
@@ -93,7 +91,7 @@ body_err t c at (Some form) f line found e =
           ]
     ]
 
-pub block_err : (t : DecisionTable) (c : Cursor) (f : ReportFault) → block_at t c ≡ Err f → IsFaultOfBlock t c f
+pub block_err : (t : DecisionTable) (c : Cursor) (f : ProofFault) → block_at t c ≡ Err f → IsFaultOfBlock t c f
 unfolding block_at body_at
 block_err t c f e =
     elim (bind_err (numbered_line (codes "line") c) (λ line. body_at t line.1 >>= λ body. block_read line.0 body) f e) [
@@ -105,7 +103,7 @@ block_err t c f e =
           ]
     ]
 
-pub block_fails : (t : DecisionTable) (c : Cursor) (f : ReportFault) → IsTable t → IsFaultOfBlock t c f → block_at t c ≡ Err f
+pub block_fails : (t : DecisionTable) (c : Cursor) (f : ProofFault) → IsTable t → IsFaultOfBlock t c f → block_at t c ≡ Err f
 unfolding block_at body_at formed_at answers_at
 block_fails t c f table (in_name fault) = rw (line_fails t (expected_number (codes "line")) c (numbered_line (codes "line") c) f (number_reads t (codes "line") c) fault) refl
 block_fails t c f table (in_form body form line found fault) =
@@ -117,7 +115,7 @@ block_fails t c f table (in_answers body line found fault) =
 
 -- ---- the last line
 
-abbrev end_read : ℕ × Cursor → Result ℕ ReportFault
+abbrev end_read : ℕ × Cursor → Result ℕ ProofFault
 end_read end = Ok end.0
 
 some_bytes : (bytes : List ℕ) → not (eqb (length bytes) 0) ≡ true → bytes ≢ []
@@ -127,7 +125,7 @@ bytes_there : (bytes : List ℕ) → bytes ≢ [] → eqb (length bytes) 0 ≡ f
 bytes_there [] some = absurd (some refl)
 bytes_there (b ∷ bs) some = ne_eqb (length (b ∷ bs)) 0 (λ (e : length (b ∷ bs) ≡ 0). omega arith)
 
-pub end_err : (t : DecisionTable) (c : Cursor) (f : ReportFault) → end_at c ≡ Err f → IsFaultOfEnd t c f
+pub end_err : (t : DecisionTable) (c : Cursor) (f : ProofFault) → end_at c ≡ Err f → IsFaultOfEnd t c f
 unfolding end_at
 end_err t c f e =
     elim (bind_err (numbered_line (codes "end") c) (λ end. refuse (BadLine end.1.place) (not (eqb (length end.1.rest) 0)) >>= λ _. end_read end) f e) [
@@ -141,7 +139,7 @@ end_err t c f e =
           ]
     ]
 
-pub end_fails : (t : DecisionTable) (c : Cursor) (f : ReportFault) → IsFaultOfEnd t c f → end_at c ≡ Err f
+pub end_fails : (t : DecisionTable) (c : Cursor) (f : ProofFault) → IsFaultOfEnd t c f → end_at c ≡ Err f
 unfolding end_at
 end_fails t c f (in_end fault) = rw (line_fails t (expected_number (codes "end")) c (numbered_line (codes "end") c) f (number_reads t (codes "end") c) fault) refl
 end_fails t c f (after_end after line some is) = rw ((line_goes t (expected_number (codes "end")) c after (numbered_line (codes "end") c) (number_reads t (codes "end") c) line).1, bytes_there after.rest some) (ap Err (sym is))

@@ -22,15 +22,15 @@ use Rattle.ror_report.specs.declared.block.Body.TheVariants.{Added, Withdrawn, R
 use Rattle.ror_report.specs.declared.names.BodyForm.{BodyForm}
 use Rattle.ror_report.specs.declared.names.BodyForm.TheVariants as bodies
 use Rattle.ror_report.specs.declared.names.LineForm.{LineForm}
-use Rattle.ror_report.specs.declared.read.ReportFault.{ReportFault}
-use Rattle.ror_report.specs.declared.read.ReportFault.TheVariants.{BadLine}
-use Rattle.ror_report.specs.Names.{form_word, body_word}
+use Rattle.ror_proof.specs.declared.read.ProofFault.TheVariants.{BadLine}
+use Rattle.ror_proof.proofs.WordLemmas.{done, ok_is}
+use Rattle.ror_report.specs.Names.{form_word}
 use Rattle.ror_report.specs.Text.{numbered_text, body_text, block_text, IsPrintableBody, IsPrintableBlock}
-use Rattle.ror_report.specs.Reading.{read_in_report, numbered_line, form_words, form_line, repaired_lines, repair_wide_lines, form_lines, form_of, ends_body, body_answers, formed_at, answers_at, body_of, body_at, block_at}
+use Rattle.ror_report.specs.Reading.{numbered_line, form_words, form_line, repaired_lines, repair_wide_lines, form_lines, form_of, ends_body, body_answers, formed_at, answers_at, body_of, body_at, block_at}
 use Rattle.ror_report.specs.Laws.{IsBlockText}
 use Rattle.ror_report.proofs.Bodies.{answer_step, no_answers}
 use Rattle.ror_text.proofs.CursorLemmas.{Spans, spans_then, line_again, line_spans}
-use Rattle.ror_report.proofs.LineForms.{base_is_small, numbered_again, numbered_sound, in_report_ok, line_reads_back, line_is_read, done, ok_is, IsOneLine, added_line, withdrawn_line, replaced_line, undone_line, refused_line, form_found, form_words_again, form_words_sound, goes_on_at_answer, ends_no_part, no_form_at_answer, ends_no_form, form_at_repaired, form_at_repair_wide, repair_wide_begins}
+use Rattle.ror_report.proofs.LineForms.{base_is_small, numbered_again, numbered_sound, line_reads_back, line_is_read, IsOneLine, added_line, withdrawn_line, replaced_line, undone_line, refused_line, form_found, form_words_again, form_words_sound, goes_on_at_answer, ends_no_part, no_form_at_answer, ends_no_form, form_at_repaired, form_at_repair_wide, repair_wide_begins}
 
 -- ---- what was written is read again
 
@@ -179,9 +179,9 @@ body_sound t (suc most) c x e room =
     elim (cases_Bool (ends_body c.rest)) [
       | inl ends ↦ no_answer_read t (suc most) c x ends e
       | inr more ↦
-          let a = bind_ok (read_in_report (answer_at t c)) (λ first. body_answers t most first.1 >>= λ others. done (first.0 ∷ others.0, others.1)) x (sym (answer_step t most c more) ∙ e) in
+          let a = bind_ok (answer_at t c) (λ first. body_answers t most first.1 >>= λ others. done (first.0 ∷ others.0, others.1)) x (sym (answer_step t most c more) ∙ e) in
           let b = bind_ok (body_answers t most a.0.1) (λ others. done (a.0.0 ∷ others.0, others.1)) x a.2 in
-          let first = answer_is_text t c a.0.0 a.0.1 (in_report_ok (answer_at t c) a.0 a.1) in
+          let first = answer_is_text t c a.0.0 a.0.1 a.1 in
           let all : length c.rest ≡ length (answer_text t a.0.0) + length a.0.1.rest = ap length first.text ∙ length-append (answer_text t a.0.0) a.0.1.rest in
           let others = body_sound t most a.0.1 b.0 b.1 (omega (arith, all, answer_has_bytes t a.0.0)) in
           subst (λ (y : List Answer × Cursor). AreReadAnswers t c y.0 y.1) (ok_is (a.0.0 ∷ b.0.0, b.0.1) x b.2) (record {
@@ -214,8 +214,8 @@ one_line_sound t form c x e =
 repaired_sound : (t : DecisionTable) (c : Cursor) (x : Body × Cursor) → repaired_lines c ≡ Ok x → AreReadLines t c x.0 x.1
 unfolding repaired_lines
 repaired_sound t c x e =
-    let a = bind_ok (read_in_report (kept_at c)) (λ kept. done (Repaired kept.0, kept.1)) x e in
-    let kept = kept_is_text c a.0.0 a.0.1 (in_report_ok (kept_at c) a.0 a.1) in
+    let a = bind_ok (kept_at c) (λ kept. done (Repaired kept.0, kept.1)) x e in
+    let kept = kept_is_text c a.0.0 a.0.1 a.1 in
     subst (λ (y : Body × Cursor). AreReadLines t c y.0 y.1) {x = (Repaired a.0.0, a.0.1)} (ok_is (Repaired a.0.0, a.0.1) x a.2) (record {
       spans = record { rest = kept.text; place = kept.place };
       printable = kept.printable;
@@ -225,10 +225,10 @@ repair_wide_sound : (t : DecisionTable) (c : Cursor) (x : Body × Cursor) → re
 unfolding repair_wide_lines
 repair_wide_sound t c x e =
     let made = λ (n : ℕ) (note : WideText × Cursor). done (RepairWide n note.0, note.1) in
-    let a = bind_ok (numbered_line (codes "repair-wide") c) (λ number. read_in_report (wide_line_of 0 number.1) >>= λ note. made number.0 note) x e in
-    let b = bind_ok (read_in_report (wide_line_of 0 a.0.1)) (λ note. made a.0.0 note) x a.2 in
+    let a = bind_ok (numbered_line (codes "repair-wide") c) (λ number. wide_line_of 0 number.1 >>= λ note. made number.0 note) x e in
+    let b = bind_ok (wide_line_of 0 a.0.1) (λ note. made a.0.0 note) x a.2 in
     let line = numbered_sound (codes "repair-wide") c a.0 a.1 in
-    let wide = wide_line_of_sound 0 a.0.1 b.0 base_is_small (in_report_ok (wide_line_of 0 a.0.1) b.0 b.1) in
+    let wide = wide_line_of_sound 0 a.0.1 b.0 base_is_small b.1 in
     subst (λ (y : Body × Cursor). AreReadLines t c y.0 y.1) {x = (RepairWide a.0.0 b.0.0, b.0.1)} (ok_is (RepairWide a.0.0 b.0.0, b.0.1) x b.2) (record {
       spans = spans_then c a.0.1 b.0.1 (numbered_text (codes "repair-wide") a.0.0) (wide_text 0 b.0.0) line.0 wide.0;
       printable = (line.1, wide.1);

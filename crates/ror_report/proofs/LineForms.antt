@@ -1,5 +1,5 @@
 -- Lines of a name and a number, bodies of one line and repairs, both ways, and how the pieces of a report begin.
-use Rattle.std.proofs.Common.{◌≡◌, ℕ, suc, ◌<◌, ◌^◌, ◌+◌, Bool, true, false, not, eqb, List, [], ◌∷◌, ◌++◌, length, drop, Option, Some, None, Result, Ok, Err, refl, sym, ap, subst, ◌∙◌, arith, inl, inr}
+use Rattle.std.proofs.Common.{◌≡◌, ℕ, suc, ◌<◌, ◌^◌, ◌+◌, true, false, not, eqb, List, [], ◌∷◌, ◌++◌, length, drop, Option, Some, None, Result, Ok, refl, sym, ap, subst, ◌∙◌, arith, inl, inr}
 use Rattle.std.specs.Prelude.{codes, nat_eq}
 use Rattle.std.specs.Fmt.{decimal}
 use Rattle.std.specs.List.{starts_with, position_or_len, before_first}
@@ -21,8 +21,7 @@ use Rattle.ror_proof.specs.declared.read.ProofFault.TheVariants as words
 use Rattle.ror_proof.specs.Names.{name_of}
 use Rattle.ror_proof.specs.Words.{after_word, name_at, no_more, small_number_at}
 use Rattle.ror_proof.specs.Reading.{begins_part, ended}
-use Rattle.ror_proof.proofs.WordLemmas as word_lemmas
-use Rattle.ror_proof.proofs.WordLemmas.{after_word_again, after_word_sound, no_more_sound, small_number_again, small_number_sound, name_again, name_sound}
+use Rattle.ror_proof.proofs.WordLemmas.{after_word_again, after_word_sound, no_more_sound, small_number_again, small_number_sound, name_again, name_sound, done, ok_is}
 use Rattle.ror_report.specs.declared.block.Block.{Block}
 use Rattle.ror_report.specs.declared.block.Body.{Body}
 use Rattle.ror_report.specs.declared.block.Body.TheVariants.{Added, Withdrawn, Replaced, Undone, Refused}
@@ -32,43 +31,32 @@ use Rattle.ror_report.specs.declared.names.BodyForm.{BodyForm}
 use Rattle.ror_report.specs.declared.names.BodyForm.TheVariants as bodies
 use Rattle.ror_report.specs.declared.names.LineForm.{LineForm}
 use Rattle.ror_report.specs.declared.names.LineForm.TheVariants as forms
-use Rattle.ror_report.specs.declared.read.ReportFault.{ReportFault}
 use Rattle.ror_report.specs.Names.{form_word, body_word, body_forms, fault_word, line_faults}
 use Rattle.ror_report.specs.Text.{numbered_text, body_text, block_text, end_text, IsPrintableBody}
-use Rattle.ror_report.specs.Reading.{read_in_report, number_words, numbered_line, operand_at, form_words, form_of, begins_block, begins_end, ends_body}
+use Rattle.ror_report.specs.Reading.{number_words, numbered_line, operand_at, form_words, form_of, begins_block, begins_end, ends_body}
 
 -- the number of a base system
 pub base_is_small : 0 < 2 ^ 32
 base_is_small = omega arith
 
-abbrev pub done : {A : Type 0} → A → Result A ReportFault
-done x = Ok x
-
-pub ok_is : {A : Type 0} (x y : A) → done x ≡ done y → x ≡ y
-ok_is x y e = cc
-
 -- ---- any line
-
-pub in_report_ok : {A : Type 0} (r : Result A ProofFault) (x : A) → read_in_report r ≡ Ok x → r ≡ Ok x
-in_report_ok (Ok y) x e = cc
-in_report_ok (Err f) x e = absurd cc
 
 -- a line that was written is read as its words are
 pub line_reads_back : {A : Type 0} (reading : ℕ → List (List ℕ) → Result A ProofFault) (x : A) (place : ℕ) (word : List ℕ) (ws : List (List ℕ)) (rest : List ℕ) → are_words (word ∷ ws) ≡ true → reading place (word ∷ ws) ≡ Ok x
-    → read_in_report (ended (record { place = place; rest = line_text (word ∷ ws) ++ rest }) (reading place (line_words (record { place = place; rest = line_text (word ∷ ws) ++ rest })))) ≡ Ok (x, record { place = place + length (line_text (word ∷ ws)); rest = rest })
+    → ended (record { place = place; rest = line_text (word ∷ ws) ++ rest }) (reading place (line_words (record { place = place; rest = line_text (word ∷ ws) ++ rest }))) ≡ Ok (x, record { place = place + length (line_text (word ∷ ws)); rest = rest })
 unfolding ended
 line_reads_back reading x place word ws rest are read =
     let line = line_again place word ws rest are in
     rw (line.0, read, line.1) refl
 
 -- what is read of a line is read of its words, and a line feed ends it
-pub line_is_read : {A : Type 0} (c : Cursor) (reading : Result A ProofFault) (x : A × Cursor) → read_in_report (ended c reading) ≡ Ok x → (reading ≡ Ok x.0) × (line_after c ≡ Some x.1)
+pub line_is_read : {A : Type 0} (c : Cursor) (reading : Result A ProofFault) (x : A × Cursor) → ended c reading ≡ Ok x → (reading ≡ Ok x.0) × (line_after c ≡ Some x.1)
 unfolding ended
 line_is_read c reading x e =
-    let a = bind_ok reading (λ value. need (words.BadLine c.place) (line_after c) >>= λ next. word_lemmas.done (value, next)) x (in_report_ok (ended c reading) x e) in
-    let b = bind_ok (need (words.BadLine c.place) (line_after c)) (λ next. word_lemmas.done (a.0, next)) x a.2 in
-    let same = word_lemmas.ok_is (a.0, b.0) x b.2 in
-    (a.1 ∙ ap (λ y. word_lemmas.done y.0) same, need_ok (words.BadLine c.place) (line_after c) b.0 b.1 ∙ ap (λ y. Some y.1) same)
+    let a = bind_ok reading (λ value. need (words.BadLine c.place) (line_after c) >>= λ next. done (value, next)) x e in
+    let b = bind_ok (need (words.BadLine c.place) (line_after c)) (λ next. done (a.0, next)) x a.2 in
+    let same = ok_is (a.0, b.0) x b.2 in
+    (a.1 ∙ ap (λ y. done y.0) same, need_ok (words.BadLine c.place) (line_after c) b.0 b.1 ∙ ap (λ y. Some y.1) same)
 
 -- ---- a line of a name and a number
 
@@ -85,13 +73,13 @@ numbered_again name place n rest word small =
 number_words_sound : (name : List ℕ) (place : ℕ) (ws : List (List ℕ)) (n : ℕ) → number_words name place ws ≡ Ok n → (ws ≡ name ∷ decimal n ∷ []) × (n < 2 ^ 32)
 unfolding number_words
 number_words_sound name place ws n e =
-    let last = λ (number : ℕ × List (List ℕ)). no_more place number.1 >>= λ _. word_lemmas.done number.0 in
+    let last = λ (number : ℕ × List (List ℕ)). no_more place number.1 >>= λ _. done number.0 in
     let a = bind_ok (after_word place name ws) (λ more. small_number_at place more >>= λ number. last number) n e in
     let b = bind_ok (small_number_at place a.0) (λ number. last number) n a.2 in
-    let d = bind_ok (no_more place b.0.1) (λ _. word_lemmas.done b.0.0) n b.2 in
+    let d = bind_ok (no_more place b.0.1) (λ _. done b.0.0) n b.2 in
     let number = small_number_sound place a.0 b.0 b.1 in
     let operand : a.0 ≡ decimal b.0.0 ∷ [] = number.0 ∙ ap (λ (more : List (List ℕ)). decimal b.0.0 ∷ more) (no_more_sound place b.0.1 d.0 d.1) in
-    subst (λ m. (ws ≡ name ∷ decimal m ∷ []) × (m < 2 ^ 32)) (word_lemmas.ok_is b.0.0 n d.2) (after_word_sound place name ws a.0 a.1 ∙ ap (λ (more : List (List ℕ)). name ∷ more) operand, number.1)
+    subst (λ m. (ws ≡ name ∷ decimal m ∷ []) × (m < 2 ^ 32)) (ok_is b.0.0 n d.2) (after_word_sound place name ws a.0 a.1 ∙ ap (λ (more : List (List ℕ)). name ∷ more) operand, number.1)
 
 pub numbered_sound : (name : List ℕ) (c : Cursor) (x : ℕ × Cursor) → numbered_line name c ≡ Ok x → Spans c (numbered_text name x.0) x.1 × (x.0 < 2 ^ 32)
 numbered_sound name c x e =
@@ -168,34 +156,34 @@ record IsReadOperand (t : DecisionTable) (form : LineForm) (more : List (List �
   printable : IsPrintableBody t y.0
 
 number_operand : (t : DecisionTable) (form : LineForm) (make : ℕ → Body) → ((n : ℕ) → body_text t (make n) ≡ numbered_text (form_word form) n) → ((n : ℕ) → n < 2 ^ 32 → IsPrintableBody t (make n))
-    → (place : ℕ) (more : List (List ℕ)) (y : Body × List (List ℕ)) → (small_number_at place more >>= λ number. word_lemmas.done (make number.0, number.1)) ≡ Ok y → IsReadOperand t form more y
+    → (place : ℕ) (more : List (List ℕ)) (y : Body × List (List ℕ)) → (small_number_at place more >>= λ number. done (make number.0, number.1)) ≡ Ok y → IsReadOperand t form more y
 number_operand t form make written printable place more y e =
-    let a = bind_ok (small_number_at place more) (λ number. word_lemmas.done (make number.0, number.1)) y e in
+    let a = bind_ok (small_number_at place more) (λ number. done (make number.0, number.1)) y e in
     let number = small_number_sound place more a.0 a.1 in
-    subst (IsReadOperand t form more) (word_lemmas.ok_is (make a.0.0, a.0.1) y a.2) (record { operand = decimal a.0.0 ∷ []; written = written a.0.0; is = number.0; printable = printable a.0.0 number.1 })
+    subst (IsReadOperand t form more) (ok_is (make a.0.0, a.0.1) y a.2) (record { operand = decimal a.0.0 ∷ []; written = written a.0.0; is = number.0; printable = printable a.0.0 number.1 })
 
 operand_sound : (t : DecisionTable) (form : LineForm) (place : ℕ) (more : List (List ℕ)) (y : Body × List (List ℕ)) → operand_at form place more ≡ Ok y → IsReadOperand t form more y
 operand_sound t forms.Added place more y e = number_operand t forms.Added Added (λ n. refl) (λ n small. small) place more y e
 operand_sound t forms.Withdrawn place more y e = number_operand t forms.Withdrawn Withdrawn (λ n. refl) (λ n small. small) place more y e
 operand_sound t forms.Replaced place more y e = number_operand t forms.Replaced Replaced (λ n. refl) (λ n small. small) place more y e
-operand_sound t forms.Undone place more y e = subst (IsReadOperand t forms.Undone more) (word_lemmas.ok_is (Undone, more) y e) (record { operand = []; written = refl; is = refl; printable = tt })
+operand_sound t forms.Undone place more y e = subst (IsReadOperand t forms.Undone more) (ok_is (Undone, more) y e) (record { operand = []; written = refl; is = refl; printable = tt })
 operand_sound t forms.Refused place more y e =
-    let a = bind_ok (name_at fault_word line_faults place more) (λ fault. word_lemmas.done (Refused fault.0, fault.1)) y e in
+    let a = bind_ok (name_at fault_word line_faults place more) (λ fault. done (Refused fault.0, fault.1)) y e in
     let name = name_sound fault_word line_faults place more a.0 a.1 in
-    subst (IsReadOperand t forms.Refused more) (word_lemmas.ok_is (Refused a.0.0, a.0.1) y a.2) (record { operand = fault_word a.0.0 ∷ []; written = refl; is = name; printable = tt })
+    subst (IsReadOperand t forms.Refused more) (ok_is (Refused a.0.0, a.0.1) y a.2) (record { operand = fault_word a.0.0 ∷ []; written = refl; is = name; printable = tt })
 
 -- the words of what was read as a body of this form
 pub form_words_sound : (t : DecisionTable) (form : LineForm) (place : ℕ) (ws : List (List ℕ)) (body : Body) → form_words form place ws ≡ Ok body → (body_text t body ≡ line_text ws) × IsPrintableBody t body
 unfolding form_words
 form_words_sound t form place ws body e =
-    let last = λ (y : Body × List (List ℕ)). no_more place y.1 >>= λ _. word_lemmas.done y.0 in
+    let last = λ (y : Body × List (List ℕ)). no_more place y.1 >>= λ _. done y.0 in
     let a = bind_ok (after_word place (form_word form) ws) (λ more. operand_at form place more >>= λ y. last y) body e in
     let b = bind_ok (operand_at form place a.0) (λ y. last y) body a.2 in
-    let d = bind_ok (no_more place b.0.1) (λ _. word_lemmas.done b.0.0) body b.2 in
+    let d = bind_ok (no_more place b.0.1) (λ _. done b.0.0) body b.2 in
     let read = operand_sound t form place a.0 b.0 b.1 in
     let all : a.0 ≡ read.operand = read.is ∙ ap (λ (more : List (List ℕ)). read.operand ++ more) (no_more_sound place b.0.1 d.0 d.1) ∙ append-nil read.operand in
     let is : ws ≡ form_word form ∷ read.operand = after_word_sound place (form_word form) ws a.0 a.1 ∙ ap (λ (more : List (List ℕ)). form_word form ∷ more) all in
-    subst (λ (x : Body). (body_text t x ≡ line_text ws) × IsPrintableBody t x) (word_lemmas.ok_is b.0.0 body d.2) (read.written ∙ ap line_text (sym is), read.printable)
+    subst (λ (x : Body). (body_text t x ≡ line_text ws) × IsPrintableBody t x) (ok_is b.0.0 body d.2) (read.written ∙ ap line_text (sym is), read.printable)
 
 -- ---- how the pieces begin
 

@@ -11,11 +11,12 @@ use Rattle.ror_text.proofs.ReadingLemmas.{bind_ok, refuse_ok}
 use Rattle.ror_table.specs.Table.{DecisionTable, IsTable}
 use Rattle.ror_text.specs.Cursor.{Cursor}
 use Rattle.ror_report.specs.declared.block.Block.{Block}
-use Rattle.ror_report.specs.declared.read.ReportFault.TheVariants.{BadLine}
+use Rattle.ror_proof.specs.declared.read.ProofFault.TheVariants.{BadLine}
+use Rattle.ror_proof.proofs.WordLemmas.{done, ok_is}
 use Rattle.ror_report.specs.Text.{numbered_text, block_text, header_text, end_text, report_text, IsPrintableBlock}
 use Rattle.ror_report.specs.Reading.{numbered_line, ends_body, header_at, block_at, end_at}
 use Rattle.ror_report.proofs.BlockLemmas.{block_reads_back}
-use Rattle.ror_report.proofs.LineForms.{numbered_again, numbered_sound, done, ok_is, ends_at_block, ends_at_end_text, block_begins, end_begins}
+use Rattle.ror_report.proofs.LineForms.{numbered_again, numbered_sound, ends_at_block, ends_at_end_text, block_begins, end_begins}
 
 -- ---- the last line
 

@@ -5,18 +5,17 @@ use Rattle.ror_text.specs.Cursor.{Cursor, line_words}
 use Rattle.ror_table.specs.Table.{DecisionTable}
 use Rattle.ror_proof.specs.declared.answer.Answer.{Answer}
 use Rattle.ror_proof.specs.declared.read.ProofFault.{ProofFault}
+use Rattle.ror_proof.specs.declared.read.ProofFault.TheVariants.{BadLine}
 use Rattle.ror_proof.specs.declared.kept.Kept.{Kept}
 use Rattle.ror_proof.specs.Expected.{Expected, expected_wide_of, IsLine, IsFaultOfLine, IsFaultOfAnswer, IsFaultOfKept}
 use Rattle.ror_proof.specs.Expected.Expected.{the_word, one_of, a_small_number, the_end}
 use Rattle.ror_proof.specs.Laws.{IsAnswerText, IsKeptText}
-use Rattle.ror_report.specs.declared.read.ReportFault.{ReportFault}
-use Rattle.ror_report.specs.declared.read.ReportFault.TheVariants.{BadLine}
 use Rattle.ror_report.specs.declared.names.BodyForm.{BodyForm}
 use Rattle.ror_report.specs.declared.names.BodyForm.TheVariants as bodies
 use Rattle.ror_report.specs.declared.names.LineForm.{LineForm}
 use Rattle.ror_report.specs.declared.names.LineForm.TheVariants as forms
 use Rattle.ror_report.specs.Names.{form_word, body_word, fault_word, line_faults}
-use Rattle.ror_report.specs.Reading.{fault_of_answer, ends_body, form_of}
+use Rattle.ror_report.specs.Reading.{ends_body, form_of}
 
 -- a name and a number
 abbrev pub expected_number : List ℕ → List (List ℕ) → List Expected
@@ -34,12 +33,6 @@ expected_operand forms.Refused = one_of (map fault_word line_faults) ∷ []
 abbrev pub expected_form : LineForm → List (List ℕ) → List Expected
 expected_form form words = the_word (form_word form) ∷ (expected_operand form ++ the_end ∷ [])
 
--- the fault of a line of which this is expected, as one of the report
-abbrev pub IsFaultInReport : DecisionTable → (List (List ℕ) → List Expected) → Cursor
-    → ReportFault → Type 0
-IsFaultInReport t expected c fault =
-    (f : ProofFault) × IsFaultOfLine t expected c f × (fault ≡ fault_of_answer f)
-
 -- the line that says at which statement a repair is too wide
 abbrev pub expected_repair_wide : List (List ℕ) → List Expected
 expected_repair_wide words = expected_number (body_word bodies.RepairWide) words
@@ -52,27 +45,26 @@ AreFormLines t bodies.RepairWide c after =
     (wide : Cursor) × IsLine t expected_repair_wide c wide × IsLine t (expected_wide_of 0) wide after
 
 -- the fault of the first faulty line among these
-abbrev pub IsFaultOfForm : DecisionTable → BodyForm → Cursor → ReportFault → Type 0
-IsFaultOfForm t (bodies.OneLine form) c fault = IsFaultInReport t (expected_form form) c fault
-IsFaultOfForm t bodies.Repaired c fault =
-    (f : ProofFault) × IsFaultOfKept t c f × (fault ≡ fault_of_answer f)
+abbrev pub IsFaultOfForm : DecisionTable → BodyForm → Cursor → ProofFault → Type 0
+IsFaultOfForm t (bodies.OneLine form) c fault = IsFaultOfLine t (expected_form form) c fault
+IsFaultOfForm t bodies.Repaired c fault = IsFaultOfKept t c fault
 IsFaultOfForm t bodies.RepairWide c fault =
-    IsFaultInReport t expected_repair_wide c fault
+    IsFaultOfLine t expected_repair_wide c fault
     ⊎ ((wide : Cursor) × IsLine t expected_repair_wide c wide
-    × IsFaultInReport t (expected_wide_of 0) wide fault)
+    × IsFaultOfLine t (expected_wide_of 0) wide fault)
 
 -- the fault of the first faulty answer of a body
-pub data IsFaultOfAnswers (t : DecisionTable) (fault : ReportFault) : Cursor → Type 0 where
-  this_answer : (c : Cursor) → ends_body c.rest ≡ false → (f : ProofFault) → IsFaultOfAnswer t c f
-      → fault ≡ fault_of_answer f → IsFaultOfAnswers t fault c
+pub data IsFaultOfAnswers (t : DecisionTable) (fault : ProofFault) : Cursor → Type 0 where
+  this_answer : (c : Cursor) → ends_body c.rest ≡ false → IsFaultOfAnswer t c fault
+      → IsFaultOfAnswers t fault c
   later_answer : (c after : Cursor) (x : Answer) → ends_body c.rest ≡ false
       → IsAnswerText t c x after → IsFaultOfAnswers t fault after → IsFaultOfAnswers t fault c
 
 -- the fault of the block that begins here: of the line that names the session's line, of the lines
 -- of a body that its first word tells, of a line after them that no body goes on with, or of an
 -- answer
-pub data IsFaultOfBlock (t : DecisionTable) (c : Cursor) (fault : ReportFault) : Type 0 where
-  in_name : IsFaultInReport t (expected_number (codes "line")) c fault → IsFaultOfBlock t c fault
+pub data IsFaultOfBlock (t : DecisionTable) (c : Cursor) (fault : ProofFault) : Type 0 where
+  in_name : IsFaultOfLine t (expected_number (codes "line")) c fault → IsFaultOfBlock t c fault
   in_form : (body : Cursor) (form : BodyForm) → IsLine t (expected_number (codes "line")) c body
       → form_of (line_words body) ≡ Some form → IsFaultOfForm t form body fault
       → IsFaultOfBlock t c fault
@@ -84,7 +76,7 @@ pub data IsFaultOfBlock (t : DecisionTable) (c : Cursor) (fault : ReportFault) :
       → form_of (line_words body) ≡ None → IsFaultOfAnswers t fault body → IsFaultOfBlock t c fault
 
 -- the fault of the last line, or of the bytes after it
-pub data IsFaultOfEnd (t : DecisionTable) (c : Cursor) (fault : ReportFault) : Type 0 where
-  in_end : IsFaultInReport t (expected_number (codes "end")) c fault → IsFaultOfEnd t c fault
+pub data IsFaultOfEnd (t : DecisionTable) (c : Cursor) (fault : ProofFault) : Type 0 where
+  in_end : IsFaultOfLine t (expected_number (codes "end")) c fault → IsFaultOfEnd t c fault
   after_end : (after : Cursor) → IsLine t (expected_number (codes "end")) c after → after.rest ≢ []
       → fault ≡ BadLine after.place → IsFaultOfEnd t c fault

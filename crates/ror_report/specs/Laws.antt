@@ -6,7 +6,7 @@ use Rattle.ror_table.specs.Table.{DecisionTable, IsTable}
 use Rattle.ror_text.specs.Cursor.{Cursor}
 use Rattle.ror_report.specs.declared.block.Block.{Block}
 use Rattle.ror_report.specs.Text.{block_text, header_text, end_text, report_text, IsPrintableBlock}
-use Rattle.ror_report.specs.declared.read.ReportFault.{ReportFault}
+use Rattle.ror_proof.specs.declared.read.ProofFault.{ProofFault}
 use Rattle.ror_report.specs.Faults.{IsFaultOfBlock, IsFaultOfEnd}
 use Rattle.ror_report.specs.Reading.{ends_body, header_at, block_at, end_at}
 
@@ -55,9 +55,9 @@ ReportsAreUtf8 = (t : DecisionTable) (blocks : List Block) → IsTable t
 
 -- the fault that is given is that of the first faulty word of the first faulty line
 abbrev pub BlocksFailFirst : Type 0
-BlocksFailFirst = (t : DecisionTable) (c : Cursor) (fault : ReportFault) → IsTable t
+BlocksFailFirst = (t : DecisionTable) (c : Cursor) (fault : ProofFault) → IsTable t
     → (block_at t c ≡ Err fault) ↔ IsFaultOfBlock t c fault
 
 abbrev pub EndsFailFirst : Type 0
-EndsFailFirst = (t : DecisionTable) (c : Cursor) (fault : ReportFault)
+EndsFailFirst = (t : DecisionTable) (c : Cursor) (fault : ProofFault)
     → (end_at c ≡ Err fault) ↔ IsFaultOfEnd t c fault

@@ -1,6 +1,6 @@
 -- Reading a report piece by piece: its first line, a block and where it ends, its last line; or the
 -- first fault.
-use Rattle.std.specs.Prelude.{ℕ, ◌≤◌, zero, suc, Bool, not, ◌||◌, List, [], ◌∷◌, length, Option, Some, None, Result, Ok, Err, codes, nat_eq, ◌==◌, if◌then◌else◌}
+use Rattle.std.specs.Prelude.{ℕ, zero, suc, Bool, not, ◌||◌, List, [], ◌∷◌, length, Option, Some, None, Result, Ok, codes, nat_eq, ◌==◌, if◌then◌else◌}
 use Rattle.std.specs.List.{starts_with}
 use Rattle.ror_text.specs.Reading.{◌>>=◌, refuse}
 use Rattle.ror_table.specs.Table.{DecisionTable}
@@ -10,7 +10,7 @@ use Rattle.ror_proof.specs.Words.{after_word, name_at, no_more, small_number_at}
 use Rattle.ror_proof.specs.Reading.{answer_at, ended, kept_at, wide_line_of}
 use Rattle.ror_proof.specs.declared.answer.Answer.{Answer}
 use Rattle.ror_proof.specs.declared.read.ProofFault.{ProofFault}
-use Rattle.ror_proof.specs.declared.read.ProofFault.TheVariants as answers
+use Rattle.ror_proof.specs.declared.read.ProofFault.TheVariants as faults
 use Rattle.ror_report.specs.declared.block.Block.{Block}
 use Rattle.ror_report.specs.declared.block.Body.{Body}
 use Rattle.ror_report.specs.declared.block.Body.TheVariants.{Added, Withdrawn, Replaced, Undone, Repaired, RepairWide, Answers, Refused}
@@ -18,31 +18,8 @@ use Rattle.ror_report.specs.declared.names.BodyForm.{BodyForm}
 use Rattle.ror_report.specs.declared.names.BodyForm.TheVariants as bodies
 use Rattle.ror_report.specs.declared.names.LineForm.{LineForm}
 use Rattle.ror_report.specs.declared.names.LineForm.TheVariants as forms
-use Rattle.ror_report.specs.declared.read.ReportFault.{ReportFault}
-use Rattle.ror_report.specs.declared.read.ReportFault.TheVariants as faults
 use Rattle.ror_report.specs.Names.{form_word, body_word, body_forms, fault_word, line_faults}
 use Rattle.ror_report.specs.Text.{header_text}
-
--- the fault that an error names: none for want of memory
-abbrev pub report_fault : ReportFault → Option ReportFault
-report_fault faults.Memory = None
-report_fault fault = Some fault
-
--- the line of which an error speaks begins in a text of so many bytes, or at its end
-abbrev pub IsReportFaultWithin : ℕ → ReportFault → Type 0
-IsReportFaultWithin n (faults.BadLine at) = at ≤ n
-IsReportFaultWithin n (faults.BadNumber at) = at ≤ n
-IsReportFaultWithin n faults.Memory = Unit {0}
-
--- an answer's fault, as one of the report
-abbrev pub fault_of_answer : ProofFault → ReportFault
-fault_of_answer (answers.BadLine at) = faults.BadLine at
-fault_of_answer (answers.BadNumber at) = faults.BadNumber at
-fault_of_answer answers.Memory = faults.Memory
-
-abbrev pub read_in_report : {A : Type 0} → Result A ProofFault → Result A ReportFault
-read_in_report (Ok x) = Ok x
-read_in_report (Err fault) = Err (fault_of_answer fault)
 
 -- the place after the first line, where it is the one that a report begins with
 abbrev pub header_at : List ℕ → Option ℕ
@@ -57,8 +34,8 @@ number_words name place words = do
   Ok number.0
 
 -- the line of a name and a small number: the number, and where the next line begins
-abbrev pub numbered_line : List ℕ → Cursor → Result (ℕ × Cursor) ReportFault
-numbered_line name c = read_in_report (ended c (number_words name c.place (line_words c)))
+abbrev pub numbered_line : List ℕ → Cursor → Result (ℕ × Cursor) ProofFault
+numbered_line name c = ended c (number_words name c.place (line_words c))
 
 abbrev pub begins_block : List ℕ → Bool
 begins_block bytes = starts_with nat_eq bytes (codes "line ")
@@ -71,10 +48,10 @@ abbrev pub ends_body : List ℕ → Bool
 ends_body bytes = length bytes == 0 || begins_block bytes || begins_end bytes
 
 -- the answers of a body, and so many at most
-unfoldable pub body_answers : DecisionTable → ℕ → Cursor → Result (List Answer × Cursor) ReportFault
+unfoldable pub body_answers : DecisionTable → ℕ → Cursor → Result (List Answer × Cursor) ProofFault
 body_answers t zero c = Ok ([], c)
 body_answers t (suc most) c = if ends_body c.rest then Ok ([], c) else (do
-  first ← read_in_report (answer_at t c)
+  first ← answer_at t c
   others ← body_answers t most first.1
   Ok (first.0 ∷ others.0, others.1))
 
@@ -103,38 +80,38 @@ form_words form place words = do
   Ok body.0
 
 -- the line of a body of this form, and where the next line begins
-abbrev pub form_line : LineForm → Cursor → Result (Body × Cursor) ReportFault
-form_line form c = read_in_report (ended c (form_words form c.place (line_words c)))
+abbrev pub form_line : LineForm → Cursor → Result (Body × Cursor) ProofFault
+form_line form c = ended c (form_words form c.place (line_words c))
 
 -- the lines of a repair
-unfoldable pub repaired_lines : Cursor → Result (Body × Cursor) ReportFault
+unfoldable pub repaired_lines : Cursor → Result (Body × Cursor) ProofFault
 repaired_lines c = do
-  kept ← read_in_report (kept_at c)
+  kept ← kept_at c
   Ok (Repaired kept.0, kept.1)
 
 -- the line with the number of the statement at which a repair is too wide, and the wide line of its
 -- base system
-unfoldable pub repair_wide_lines : Cursor → Result (Body × Cursor) ReportFault
+unfoldable pub repair_wide_lines : Cursor → Result (Body × Cursor) ProofFault
 repair_wide_lines c = do
   number ← numbered_line (body_word bodies.RepairWide) c
-  note ← read_in_report (wide_line_of 0 number.1)
+  note ← wide_line_of 0 number.1
   Ok (RepairWide number.0 note.0, note.1)
 
 -- the lines of a body of this form, and where the next line begins
-abbrev pub form_lines : BodyForm → Cursor → Result (Body × Cursor) ReportFault
+abbrev pub form_lines : BodyForm → Cursor → Result (Body × Cursor) ProofFault
 form_lines (bodies.OneLine form) c = form_line form c
 form_lines bodies.Repaired c = repaired_lines c
 form_lines bodies.RepairWide c = repair_wide_lines c
 
 -- these, behind which the body ends
-unfoldable pub formed_at : BodyForm → Cursor → Result (Body × Cursor) ReportFault
+unfoldable pub formed_at : BodyForm → Cursor → Result (Body × Cursor) ProofFault
 formed_at form c = do
   body ← form_lines form c
   _ ← refuse (faults.BadLine body.1.place) (not (ends_body body.1.rest))
   Ok body
 
 -- all answers up to the body's end: an answer has a byte at least
-unfoldable pub answers_at : DecisionTable → Cursor → Result (Body × Cursor) ReportFault
+unfoldable pub answers_at : DecisionTable → Cursor → Result (Body × Cursor) ProofFault
 answers_at t c = do
   answers ← body_answers t (length c.rest) c
   Ok (Answers answers.0, answers.1)
@@ -145,23 +122,23 @@ form_of [] = None
 form_of (word ∷ words) = name_of body_word body_forms word
 
 -- a body of a form, or answers
-abbrev pub body_of : DecisionTable → Option BodyForm → Cursor → Result (Body × Cursor) ReportFault
+abbrev pub body_of : DecisionTable → Option BodyForm → Cursor → Result (Body × Cursor) ProofFault
 body_of t (Some form) c = formed_at form c
 body_of t None c = answers_at t c
 
 -- a body: the first word of its first line decides the form
-unfoldable pub body_at : DecisionTable → Cursor → Result (Body × Cursor) ReportFault
+unfoldable pub body_at : DecisionTable → Cursor → Result (Body × Cursor) ProofFault
 body_at t c = body_of t (form_of (line_words c)) c
 
 -- the line that names the session's line, and the body
-unfoldable pub block_at : DecisionTable → Cursor → Result (Block × Cursor) ReportFault
+unfoldable pub block_at : DecisionTable → Cursor → Result (Block × Cursor) ProofFault
 block_at t c = do
   line ← numbered_line (codes "line") c
   body ← body_at t line.1
   Ok (record { line = line.0; body = body.0 }, body.1)
 
 -- the line with the number of blocks, and nothing after it
-unfoldable pub end_at : Cursor → Result ℕ ReportFault
+unfoldable pub end_at : Cursor → Result ℕ ProofFault
 end_at c = do
   end ← numbered_line (codes "end") c
   _ ← refuse (faults.BadLine end.1.place) (not (length end.1.rest == 0))

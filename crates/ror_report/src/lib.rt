@@ -9,4 +9,4 @@ mod read;
 
 pub use block::{Block, Body, LineFault};
 pub use print::{header, print_block, print_end};
-pub use read::{ReportFault, begins_end, read_block, read_end, read_header};
+pub use read::{begins_end, read_block, read_end, read_header};

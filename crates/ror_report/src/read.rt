@@ -3,72 +3,21 @@
 ghost use Rattle.std.specs.Prelude.{◌≡◌, ◌≤◌, ◌<◌, ◌-◌, codes, drop, length, IfErr, IfOk, IfSome};
 ghost use Rattle.ror_text.specs.Reading.{Gives};
 ghost use Rattle.ror_text.specs.Cursor.{cursor_at, line_words};
-ghost use Rattle.ror_proof.specs.Reading.{ended, proof_fault, wide_line_of, IsProofFaultWithin};
+ghost use Rattle.ror_proof.specs.Reading.{proof_fault, IsProofFaultWithin};
 ghost use Rattle.ror_report.specs.Reading as reading;
-ghost use Rattle.ror_report.specs.Reading.{block_at, end_at, report_fault, header_at, IsReportFaultWithin};
+ghost use Rattle.ror_report.specs.Reading.{block_at, end_at, header_at};
 
 use crate::block::{Block, Body};
 use crate::names::{BODY_FORMS, BodyForm, LINE_FAULTS, LineForm};
 use crate::print::header;
 use ror_proof::names::{Name, named};
 use ror_proof::words::{after_word, name_at, no_more, small_number_at};
-use ror_proof::{Answer, ProofFault, WideText, read_answer, read_kept, read_wide};
+use ror_proof::{Answer, ProofFault, read_answer, read_kept, read_wide};
 use ror_table::Table;
 use ror_text::Items;
 use ror_text::reading::{need, refuse_if};
 use ror_text::spaced::{Words, line_at};
-use std::alloc::{AllocError, AllocFailed, Global};
-use thiserror::Error;
-
-/// Why no block was read; the place is the first byte of the faulty line.
-#[derive(Debug, Drop, Error)]
-pub enum ReportFault {
-    /// A wrong, empty, missing or extra word, an id that the table lacks, or no line feed.
-    #[error("bad line at byte {0}")]
-    BadLine(usize),
-    /// A word in a number's place that is no such number.
-    #[error("bad number in the line at byte {0}")]
-    BadNumber(usize),
-    #[error("out of memory")]
-    Memory,
-}
-
-impl From<AllocError> for ReportFault {
-    ghost use Rattle.std.specs.Prelude.{◌≡◌};
-    ghost use Rattle.ror_report.specs.declared.read.ReportFault.TheVariants.{Memory};
-
-    ghost from_gives = { λ _ e. e ≡ Memory };
-
-    fn from(_error: AllocError) -> ReportFault {
-        ReportFault::Memory
-    }
-}
-
-impl<T: Drop> From<AllocFailed<T>> for ReportFault {
-    ghost use Rattle.std.specs.Prelude.{◌≡◌};
-    ghost use Rattle.ror_report.specs.declared.read.ReportFault.TheVariants.{Memory};
-
-    ghost from_gives = { λ _ e. e ≡ Memory };
-
-    fn from(_error: AllocFailed<T>) -> ReportFault {
-        ReportFault::Memory
-    }
-}
-
-impl From<ProofFault> for ReportFault {
-    ghost use Rattle.std.specs.Prelude.{◌≡◌};
-    ghost use Rattle.ror_report.specs.Reading.{fault_of_answer};
-
-    ghost from_gives = { λ fault e. e ≡ fault_of_answer fault };
-
-    fn from(fault: ProofFault) -> ReportFault {
-        match fault {
-            ProofFault::BadLine(place) => ReportFault::BadLine(place),
-            ProofFault::BadNumber(place) => ReportFault::BadNumber(place),
-            ProofFault::Memory => ReportFault::Memory,
-        }
-    }
-}
+use std::alloc::Global;
 
 /// The place after a report's first line, or None where the bytes begin with another.
 #[tactic(auto, unfolding(crate::specs::Text::header_text))]
@@ -90,13 +39,13 @@ pub fn read_block(
     table: &Table,
     bytes: &[u8],
     from: usize,
-) -> Result<(Block, usize), ReportFault>
+) -> Result<(Block, usize), ProofFault>
     requires { from ≤ length bytes.now }
-    ensures exact { Gives (λ x. (x.0, cursor_at bytes.now x.1)) report_fault result
+    ensures exact { Gives (λ x. (x.0, cursor_at bytes.now x.1)) proof_fault result
         (block_at table.now (cursor_at bytes.now from)) }
     ensures onward { IfOk result (λ x. from < x.1) }
     ensures within { IfOk result (λ x. x.1 ≤ length bytes.now) }
-    ensures placed { IfErr result (IsReportFaultWithin (length bytes.now)) }
+    ensures placed { IfErr result (IsProofFaultWithin (length bytes.now)) }
 {
     let (line, next) = numbered_line(b"line", bytes, from)?;
     let (body, next) = body_at(alloc, table, bytes, next)?;
@@ -110,13 +59,13 @@ fn body_at(
     table: &Table,
     bytes: &[u8],
     from: usize,
-) -> Result<(Body, usize), ReportFault>
+) -> Result<(Body, usize), ProofFault>
     requires { from ≤ length bytes.now }
-    ensures exact { Gives (λ x. (x.0, cursor_at bytes.now x.1)) report_fault result
+    ensures exact { Gives (λ x. (x.0, cursor_at bytes.now x.1)) proof_fault result
         (reading.body_at table.now (cursor_at bytes.now from)) }
     ensures onward { IfOk result (λ x. from ≤ x.1) }
     ensures within { IfOk result (λ x. x.1 ≤ length bytes.now) }
-    ensures placed { IfErr result (IsReportFaultWithin (length bytes.now)) }
+    ensures placed { IfErr result (IsProofFaultWithin (length bytes.now)) }
 {
     match form_at(bytes, from) {
         Some(form) => formed_at(alloc, form, bytes, from),
@@ -141,16 +90,16 @@ fn formed_at(
     form: BodyForm,
     bytes: &[u8],
     from: usize,
-) -> Result<(Body, usize), ReportFault>
+) -> Result<(Body, usize), ProofFault>
     requires { from ≤ length bytes.now }
-    ensures exact { Gives (λ x. (x.0, cursor_at bytes.now x.1)) report_fault result
+    ensures exact { Gives (λ x. (x.0, cursor_at bytes.now x.1)) proof_fault result
         (reading.formed_at form (cursor_at bytes.now from)) }
     ensures onward { IfOk result (λ x. from ≤ x.1) }
     ensures within { IfOk result (λ x. x.1 ≤ length bytes.now) }
-    ensures placed { IfErr result (IsReportFaultWithin (length bytes.now)) }
+    ensures placed { IfErr result (IsProofFaultWithin (length bytes.now)) }
 {
     let (body, next) = form_lines(alloc, form, bytes, from)?;
-    refuse_if(!ends_body(bytes, next), ReportFault::BadLine(next))?;
+    refuse_if(!ends_body(bytes, next), ProofFault::BadLine(next))?;
     Ok((body, next))
 }
 
@@ -160,13 +109,13 @@ fn form_lines(
     form: BodyForm,
     bytes: &[u8],
     from: usize,
-) -> Result<(Body, usize), ReportFault>
+) -> Result<(Body, usize), ProofFault>
     requires { from ≤ length bytes.now }
-    ensures exact { Gives (λ x. (x.0, cursor_at bytes.now x.1)) report_fault result
+    ensures exact { Gives (λ x. (x.0, cursor_at bytes.now x.1)) proof_fault result
         (reading.form_lines form (cursor_at bytes.now from)) }
     ensures onward { IfOk result (λ x. from < x.1) }
     ensures within { IfOk result (λ x. x.1 ≤ length bytes.now) }
-    ensures placed { IfErr result (IsReportFaultWithin (length bytes.now)) }
+    ensures placed { IfErr result (IsProofFaultWithin (length bytes.now)) }
 {
     match form {
         BodyForm::OneLine(form) => form_line(form, bytes, from),
@@ -177,13 +126,13 @@ fn form_lines(
 
 /// The lines of a repair, and where the next line begins.
 #[tactic(auto, unfolding(crate::specs::Reading::repaired_lines))]
-fn repaired_lines(alloc: Global, bytes: &[u8], from: usize) -> Result<(Body, usize), ReportFault>
+fn repaired_lines(alloc: Global, bytes: &[u8], from: usize) -> Result<(Body, usize), ProofFault>
     requires { from ≤ length bytes.now }
-    ensures exact { Gives (λ x. (x.0, cursor_at bytes.now x.1)) report_fault result
+    ensures exact { Gives (λ x. (x.0, cursor_at bytes.now x.1)) proof_fault result
         (reading.repaired_lines (cursor_at bytes.now from)) }
     ensures onward { IfOk result (λ x. from < x.1) }
     ensures within { IfOk result (λ x. x.1 ≤ length bytes.now) }
-    ensures placed { IfErr result (IsReportFaultWithin (length bytes.now)) }
+    ensures placed { IfErr result (IsProofFaultWithin (length bytes.now)) }
 {
     let (kept, next) = read_kept(alloc, bytes, from)?;
     Ok((Body::Repaired(kept), next))
@@ -192,34 +141,17 @@ fn repaired_lines(alloc: Global, bytes: &[u8], from: usize) -> Result<(Body, usi
 /// The line with the number of the statement at which a repair is too wide, the wide line of its base
 /// system, and where the next line begins.
 #[tactic(auto, unfolding(crate::specs::Reading::repair_wide_lines))]
-fn repair_wide_lines(alloc: Global, bytes: &[u8], from: usize) -> Result<(Body, usize), ReportFault>
+fn repair_wide_lines(alloc: Global, bytes: &[u8], from: usize) -> Result<(Body, usize), ProofFault>
     requires { from ≤ length bytes.now }
-    ensures exact { Gives (λ x. (x.0, cursor_at bytes.now x.1)) report_fault result
+    ensures exact { Gives (λ x. (x.0, cursor_at bytes.now x.1)) proof_fault result
         (reading.repair_wide_lines (cursor_at bytes.now from)) }
     ensures onward { IfOk result (λ x. from < x.1) }
     ensures within { IfOk result (λ x. x.1 ≤ length bytes.now) }
-    ensures placed { IfErr result (IsReportFaultWithin (length bytes.now)) }
+    ensures placed { IfErr result (IsProofFaultWithin (length bytes.now)) }
 {
     let (number, next) = numbered_line(BodyForm::RepairWide.word(), bytes, from)?;
-    let (note, next) = base_wide_line(alloc, bytes, next)?;
+    let (note, next) = read_wide(alloc, 0, bytes, next)?;
     Ok((Body::RepairWide(number, note), next))
-}
-
-/// The wide line of a base system, and where the next line begins.
-fn base_wide_line(
-    alloc: Global,
-    bytes: &[u8],
-    from: usize,
-) -> Result<(WideText, usize), ReportFault>
-    requires { from ≤ length bytes.now }
-    ensures exact { Gives (λ x. (x.0, cursor_at bytes.now x.1)) report_fault result
-        (reading.read_in_report (wide_line_of 0 (cursor_at bytes.now from))) }
-    ensures onward { IfOk result (λ x. from < x.1) }
-    ensures within { IfOk result (λ x. x.1 ≤ length bytes.now) }
-    ensures placed { IfErr result (IsReportFaultWithin (length bytes.now)) }
-{
-    let (note, next) = read_wide(alloc, 0, bytes, from)?;
-    Ok((note, next))
 }
 
 /// All answers up to the body's end.
@@ -229,13 +161,13 @@ fn answers_at(
     table: &Table,
     bytes: &[u8],
     from: usize,
-) -> Result<(Body, usize), ReportFault>
+) -> Result<(Body, usize), ProofFault>
     requires { from ≤ length bytes.now }
-    ensures exact { Gives (λ x. (x.0, cursor_at bytes.now x.1)) report_fault result
+    ensures exact { Gives (λ x. (x.0, cursor_at bytes.now x.1)) proof_fault result
         (reading.answers_at table.now (cursor_at bytes.now from)) }
     ensures onward { IfOk result (λ x. from ≤ x.1) }
     ensures within { IfOk result (λ x. x.1 ≤ length bytes.now) }
-    ensures placed { IfErr result (IsReportFaultWithin (length bytes.now)) }
+    ensures placed { IfErr result (IsProofFaultWithin (length bytes.now)) }
 {
     let (answers, next) = body_answers(alloc, table, bytes, from)?;
     Ok((Body::Answers(Items::from(answers)), next))
@@ -244,13 +176,13 @@ fn answers_at(
 /// Reads the last line, from its first byte to the end of the bytes: the number of blocks that it
 /// gives.
 #[tactic(auto, unfolding(crate::specs::Reading::end_at))]
-pub fn read_end(bytes: &[u8], from: usize) -> Result<u32, ReportFault>
+pub fn read_end(bytes: &[u8], from: usize) -> Result<u32, ProofFault>
     requires { from ≤ length bytes.now }
-    ensures exact { Gives (λ n. n) report_fault result (end_at (cursor_at bytes.now from)) }
-    ensures placed { IfErr result (IsReportFaultWithin (length bytes.now)) }
+    ensures exact { Gives (λ n. n) proof_fault result (end_at (cursor_at bytes.now from)) }
+    ensures placed { IfErr result (IsProofFaultWithin (length bytes.now)) }
 {
     let (blocks, next) = numbered_line(b"end", bytes, from)?;
-    refuse_if(next < bytes.len(), ReportFault::BadLine(next))?;
+    refuse_if(next < bytes.len(), ProofFault::BadLine(next))?;
     Ok(blocks)
 }
 
@@ -277,13 +209,13 @@ fn body_answers(
     table: &Table,
     bytes: &[u8],
     from: usize,
-) -> Result<(Vec<Answer>, usize), ReportFault>
+) -> Result<(Vec<Answer>, usize), ProofFault>
     requires { from ≤ length bytes.now }
-    ensures exact { Gives (λ x. (x.0.items, cursor_at bytes.now x.1)) report_fault result
+    ensures exact { Gives (λ x. (x.0.items, cursor_at bytes.now x.1)) proof_fault result
         (reading.body_answers table.now (length bytes.now - from) (cursor_at bytes.now from)) }
     ensures onward { IfOk result (λ x. from ≤ x.1) }
     ensures within { IfOk result (λ x. x.1 ≤ length bytes.now) }
-    ensures placed { IfErr result (IsReportFaultWithin (length bytes.now)) }
+    ensures placed { IfErr result (IsProofFaultWithin (length bytes.now)) }
 {
     let mut answers = Vec::new(alloc);
     let mut next = from;
@@ -296,38 +228,11 @@ fn body_answers(
 }
 
 /// The number of a line of a name and a number, and where the next line begins.
-fn numbered_line(name: &[u8], bytes: &[u8], from: usize) -> Result<(u32, usize), ReportFault>
-    requires { from ≤ length bytes.now }
-    ensures exact { Gives (λ x. (x.0, cursor_at bytes.now x.1)) report_fault result
-        (reading.numbered_line name.now (cursor_at bytes.now from)) }
-    ensures onward { IfOk result (λ x. from < x.1) }
-    ensures within { IfOk result (λ x. x.1 ≤ length bytes.now) }
-    ensures placed { IfErr result (IsReportFaultWithin (length bytes.now)) }
-{
-    let (number, next) = number_after(name, bytes, from)?;
-    Ok((number, next))
-}
-
-/// The body of one line of this form, and where the next line begins.
-fn form_line(form: LineForm, bytes: &[u8], from: usize) -> Result<(Body, usize), ReportFault>
-    requires { from ≤ length bytes.now }
-    ensures exact { Gives (λ x. (x.0, cursor_at bytes.now x.1)) report_fault result
-        (reading.form_line form (cursor_at bytes.now from)) }
-    ensures onward { IfOk result (λ x. from < x.1) }
-    ensures within { IfOk result (λ x. x.1 ≤ length bytes.now) }
-    ensures placed { IfErr result (IsReportFaultWithin (length bytes.now)) }
-{
-    let (body, next) = body_after(form, bytes, from)?;
-    Ok((body, next))
-}
-
-/// The number that follows a name in a line of its own, and where the next line begins.
 #[tactic(auto, using(ror_proof::proofs::Places::placed_on), unfolding(crate::specs::Reading::number_words, ror_proof::specs::Reading::ended))]
-fn number_after(name: &[u8], bytes: &[u8], from: usize) -> Result<(u32, usize), ProofFault>
+fn numbered_line(name: &[u8], bytes: &[u8], from: usize) -> Result<(u32, usize), ProofFault>
     requires { from ≤ length bytes.now }
     ensures exact { Gives (λ x. (x.0, cursor_at bytes.now x.1)) proof_fault result
-        (ended (cursor_at bytes.now from)
-        (reading.number_words name.now from (line_words (cursor_at bytes.now from)))) }
+        (reading.numbered_line name.now (cursor_at bytes.now from)) }
     ensures onward { IfOk result (λ x. from < x.1) }
     ensures within { IfOk result (λ x. x.1 ≤ length bytes.now) }
     ensures placed { IfErr result (IsProofFaultWithin (length bytes.now)) }
@@ -340,13 +245,12 @@ fn number_after(name: &[u8], bytes: &[u8], from: usize) -> Result<(u32, usize), 
     Ok((number, next))
 }
 
-/// The body by the words of a line of its form, and where the next line begins.
+/// The body of one line of this form, and where the next line begins.
 #[tactic(auto, using(ror_proof::proofs::Places::placed_on), unfolding(crate::specs::Reading::form_words, ror_proof::specs::Reading::ended))]
-fn body_after(form: LineForm, bytes: &[u8], from: usize) -> Result<(Body, usize), ProofFault>
+fn form_line(form: LineForm, bytes: &[u8], from: usize) -> Result<(Body, usize), ProofFault>
     requires { from ≤ length bytes.now }
     ensures exact { Gives (λ x. (x.0, cursor_at bytes.now x.1)) proof_fault result
-        (ended (cursor_at bytes.now from)
-        (reading.form_words form from (line_words (cursor_at bytes.now from)))) }
+        (reading.form_line form (cursor_at bytes.now from)) }
     ensures onward { IfOk result (λ x. from < x.1) }
     ensures within { IfOk result (λ x. x.1 ≤ length bytes.now) }
     ensures placed { IfErr result (IsProofFaultWithin (length bytes.now)) }

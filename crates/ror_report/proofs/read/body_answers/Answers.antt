@@ -4,7 +4,7 @@ use Rattle.std.proofs.lemmas.List.{length_push}
 use Rattle.ror_text.specs.Cursor.{cursor_at}
 use Rattle.ror_proof.proofs.Loops.{with_front}
 use Rattle.ror_report.specs.Reading.{ends_body, body_answers}
-use Rattle.ror_report.proofs.Bodies.{answer_placed, answers_go_on, answers_exit, answers_end, goes_on_some}
+use Rattle.ror_report.proofs.Bodies.{answers_go_on, answers_exit, answers_end, goes_on_some}
 use Rattle.ror_report.proofs.read.body_answers.Goals as goal
 
 pub returns-in_err-answer-clause-exact : goal.returns-in_err-answer-clause-exact
@@ -17,11 +17,6 @@ returns-in_err-answer-clause-exact c =
     let is : most ≡ suc (most - 1) = omega (arith, length-drop next bytes, c.answers.invariant.room) in
     let p = err_from_is_err_and c.from_residual.result c.from_residual.ensures.1 in
     rw (p.1, p.2) (answers_exit c.args.table.now most (most - 1) c.answers.answers.items (cursor_at bytes next) c.in_err-answer.field-0.0 (body_answers c.args.table.now (length bytes - c.args.from) (cursor_at bytes c.args.from)) is more c.in_err-answer.ensures.exact c.answers.invariant.reads)
-
-pub returns-in_err-answer-clause-placed : goal.returns-in_err-answer-clause-placed
-returns-in_err-answer-clause-placed c =
-    let p = err_from_is_err_and c.from_residual.result c.from_residual.ensures.1 in
-    rw (p.1, p.2) (answer_placed (length c.args.bytes.now) c.in_err-answer.field-0.0 c.in_err-answer.ensures.placed)
 
 pub answers-preserved : goal.answers-preserved
 answers-preserved c =
