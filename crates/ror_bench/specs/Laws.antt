@@ -15,6 +15,7 @@ use Rattle.ror_bench.specs.Bench.{Workbench, IsLawfulBench}
 use Rattle.ror_bench.specs.Replays.{IsReplayedReport}
 use Rattle.ror_bench.specs.declared.report.Accepted.{Accepted}
 use Rattle.ror_bench.specs.declared.report.Rejection.{Rejection}
+use Rattle.ror_bench.specs.declared.generated.TheConstants.{MOST_GENERATED}
 use Rattle.ror_bench.specs.declared.names.TheConstants.{MOST_RELATED}
 use Rattle.ror_bench.specs.declared.report.TheConstants.{MOST_REPORT_BYTES}
 use Rattle.ror_bench.specs.declared.generated.Generated.{Generated}
@@ -61,9 +62,10 @@ OneRejection = (bench : Workbench) (lines : List Line) (bytes : List ℕ) (first
     → IsRejectedFor bench lines bytes first → IsRejectedFor bench lines bytes second
     → first ≡ second
 
--- what the limits are: of how many alternatives all pairs are asked of, and how long a report is
+-- what the limits are: of how many alternatives all pairs are asked of, how long a report is, and which numbers an input is
+-- generated from
 abbrev pub LimitsAre : Type 0
-LimitsAre = (MOST_RELATED ≡ 100) × (MOST_REPORT_BYTES ≡ 268435456)
+LimitsAre = (MOST_RELATED ≡ 100) × (MOST_REPORT_BYTES ≡ 268435456) × (MOST_GENERATED ≡ 999999999)
 
 -- ---- the generated input
 

@@ -15,6 +15,7 @@ use Rattle.ror_statement.specs.declared.question.Question.{Question}
 use Rattle.ror_statement.specs.declared.question.Conclusion.{Conclusion}
 use Rattle.ror_statement.specs.declared.question.Conclusion.TheVariants as conclusions
 use Rattle.ror_statement.specs.Questions.{kind_of, property_of}
+use Rattle.ror_statement.specs.declared.row_number.TheConstants.{MOST_STATEMENTS}
 use Rattle.ror_table.specs.Table.{DecisionTable}
 use Rattle.ror_value.specs.Over.{IsNamedIn, IsLawfulIn, IsAskedIn}
 use Rattle.ror_value.specs.Meaning.{Answers, IsConsistent, HoldsOfCompatible}
@@ -46,7 +47,7 @@ use Rattle.ror_check.specs.Steps.{IsAcceptedFor, AreUsable, systems_with, AreSho
 
 -- few extra rows, each of names of the table
 abbrev AreFewNamed : DecisionTable → List Comparison → Type 0
-AreFewNamed t cs = (length cs ≤ 200) × AllByRecursion (λ c. IsNamedIn t c.form) cs
+AreFewNamed t cs = (length cs ≤ MOST_STATEMENTS) × AllByRecursion (λ c. IsNamedIn t c.form) cs
 
 pub length-map' : {X Y : Type 0} (f : X → Y) (xs : List X) → length (map f xs) ≡ length xs
 length-map' f [] = refl
@@ -63,7 +64,7 @@ negations_named : (t : DecisionTable) (es : List Extra) → AllByRecursion (λ e
 negations_named t [] named = tt
 negations_named t (e ∷ es) named = ((omega arith, (turned-named t e.form named.0, tt)), negations_named t es named.1)
 
-few_named_for : (t : DecisionTable) (k : QuestionKind) (es : List Extra) → length es ≤ 200 → AllByRecursion (λ e. IsNamedIn t e.form) es → AllByRecursion (AreFewNamed t) (map (map comparison_of_extra) (systems_by k es))
+few_named_for : (t : DecisionTable) (k : QuestionKind) (es : List Extra) → length es ≤ MOST_STATEMENTS → AllByRecursion (λ e. IsNamedIn t e.form) es → AllByRecursion (AreFewNamed t) (map (map comparison_of_extra) (systems_by k es))
 few_named_for t Plain es few named = tt
 few_named_for t Any es few named = let e = length-map' comparison_of_extra es in ((omega (arith, e, few), (all-map (λ c. IsNamedIn t c.form) comparison_of_extra es).0 named), tt)
 few_named_for t Every es few named = negations_named t es named
@@ -203,12 +204,12 @@ all_shown side systems (p ∷ parts) kinds h =
 pub length-numbered : (count : ℕ) (parts : List Part) → map (λ p. p.at) parts ≡ range_with_len 1 count → length parts ≡ count
 length-numbered count parts e = sym (length-map' (λ (p : Part). p.at) parts) ∙ ap length e ∙ length-range_with_len 1 count
 
-pub few_by : (k : QuestionKind) (es : List Extra) → length es ≤ 200 → length (systems_by k es) ≤ 200
+pub few_by : (k : QuestionKind) (es : List Extra) → length es ≤ MOST_STATEMENTS → length (systems_by k es) ≤ MOST_STATEMENTS
 few_by Plain es few = omega arith
 few_by Any es few = omega arith
 few_by Every es few = omega (arith, length-map' (λ (e : Extra). negation_of e ∷ []) es, few)
 
-pub few_systems : (t : DecisionTable) (list : List Statement) (vs : List (SmallVec Extra)) (q : Question) → map extras_of vs ≡ systems_of_question list q → IsLawfulIn t list → length vs ≤ 200
+pub few_systems : (t : DecisionTable) (list : List Statement) (vs : List (SmallVec Extra)) (q : Question) → map extras_of vs ≡ systems_of_question list q → IsLawfulIn t list → length vs ≤ MOST_STATEMENTS
 few_systems t list vs q e lawful =
     let es = conditions_of list (property_of q) in
     let few = few_by (kind_of q) es (conditions_few t list (property_of q) lawful) in

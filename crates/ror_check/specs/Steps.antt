@@ -5,6 +5,7 @@ use Rattle.std.specs.List.{AllByRecursion}
 use Rattle.ror_statement.specs.declared.statement.Statement.{Statement}
 use Rattle.ror_statement.specs.declared.question.Question.{Question}
 use Rattle.ror_statement.specs.declared.question.Conclusion.{Conclusion}
+use Rattle.ror_statement.specs.declared.row_number.TheConstants.{MOST_STATEMENTS}
 use Rattle.ror_table.specs.Table.{DecisionTable}
 use Rattle.ror_system.specs.System.{LinearSystem}
 use Rattle.ror_value.specs.Over.{IsNamedIn}
@@ -37,7 +38,7 @@ pub record IsBaseOf (s : LinearSystem) (base : Base) : Type 0 where
 
 -- at most 200 extra rows, each with names of the table
 abbrev pub AreUsable : DecisionTable → SmallVec Extra → Type 0
-AreUsable t extras = (length extras.items ≤ 200) × AllByRecursion (λ e. IsNamedIn t e.form) extras.items
+AreUsable t extras = (length extras.items ≤ MOST_STATEMENTS) × AllByRecursion (λ e. IsNamedIn t e.form) extras.items
 
 -- the base with each of these extra rows
 abbrev pub systems_with : DecisionTable → LinearSystem → List (SmallVec Extra) → List LinearSystem

@@ -3,6 +3,7 @@
 ghost use Rattle.std.specs.Prelude.{◌≡◌, ◌≢◌, ℕ, [], ◌∷◌, ◌≤◌, ◌<◌, ◌+◌, ◌-◌, ◌^◌, ◌↔◌, length, map, true, false, IsTrue, OnOk, OnErr, IfErr, MatchOption};
 ghost use Rattle.std.specs.List.{AllByRecursion, range_with_len};
 ghost use Rattle.ror_text.specs.FirstFault.{IsRefusedBy};
+ghost use Rattle.ror_statement.specs.declared.row_number.TheConstants.{MOST_ROWS};
 ghost use Rattle.ror_table.specs.Table.{columns};
 ghost use Rattle.ror_value.specs.Over.{IsLawfulIn, IsAskedIn};
 ghost use Rattle.ror_check.specs.Proof.{IsWide, is_wide, IsWideOrProved, IsWideOrTrue, OfProof, verdict_with, IsProvedAnswer, IsTrueVerdict, Proves, AreNumbersFor, base_system};
@@ -281,7 +282,7 @@ fn check_parts<'a>(
 ) -> Result<(), CheckFault>
     requires base { IsBaseOf base.old.system.now base.old }
     requires columns { base.old.system.now.columns ≡ columns table.now }
-    requires rows { length base.old.system.now.weak + length base.old.system.now.strict ≤ 2000 }
+    requires rows { length base.old.system.now.weak + length base.old.system.now.strict ≤ MOST_ROWS }
     requires usable { AllByRecursion (AreUsable table.now) systems.now }
     requires numbers { NameSystems (length systems.now) parts.now }
     requires few { length parts.now < 2 ^ 32 - 1 }

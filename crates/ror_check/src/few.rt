@@ -2,6 +2,7 @@
 
 ghost use Rattle.std.specs.Prelude.{◌≡◌, ◌≤◌, ◌+◌, [], length, map, IfOk, IsTrue};
 ghost use Rattle.std.specs.List.{AllByRecursion};
+ghost use Rattle.ror_statement.specs.declared.row_number.TheConstants.{MOST_ROWS, MOST_STATEMENTS};
 ghost use Rattle.ror_table.specs.Table.{columns};
 ghost use Rattle.ror_value.specs.Over.{IsNamedIn};
 ghost use Rattle.ror_system.specs.Acceptance.{IsAcceptedSolution, AreAcceptedMultipliers};
@@ -28,8 +29,8 @@ pub(crate) fn is_shown_by_few<'a>(
 ) -> Result<bool, AllocError>
     requires base { IsBaseOf base.old.system.now base.old }
     requires columns { base.old.system.now.columns ≡ columns table.now }
-    requires rows { length base.old.system.now.weak + length base.old.system.now.strict ≤ 2000 }
-    requires few { length extras.now ≤ 200 }
+    requires rows { length base.old.system.now.weak + length base.old.system.now.strict ≤ MOST_ROWS }
+    requires few { length extras.now ≤ MOST_STATEMENTS }
     requires named { AllByRecursion (λ e. IsNamedIn table.now e.form) extras.now }
     ensures base { IsBaseOf base.old.system.now base.new }
     ensures shown { IfOk result (λ shown. IsTrue shown
@@ -56,7 +57,7 @@ fn holds_beside(
     extras: &[Extra],
     solution: &Solution,
 ) -> Result<bool, AllocError>
-    requires few { length extras.now ≤ 200 }
+    requires few { length extras.now ≤ MOST_STATEMENTS }
     requires named { AllByRecursion (λ e. IsNamedIn table.now e.form) extras.now }
     ensures { IfOk result (λ holds. IsTrue holds
         → IsAcceptedSolution (extended_by table.now (system_for table.now [] [])
@@ -76,8 +77,8 @@ fn refute_by_weighed(
     multipliers: &Multipliers,
 ) -> Result<bool, AllocError>
     requires columns { base.now.columns ≡ columns table.now }
-    requires rows { length base.now.weak + length base.now.strict ≤ 2000 }
-    requires few { length extras.now ≤ 200 }
+    requires rows { length base.now.weak + length base.now.strict ≤ MOST_ROWS }
+    requires few { length extras.now ≤ MOST_STATEMENTS }
     requires named { AllByRecursion (λ e. IsNamedIn table.now e.form) extras.now }
     ensures { IfOk result (λ refute. IsTrue refute
         → AreAcceptedMultipliers (extended_by table.now base.now

@@ -10,7 +10,7 @@ ghost use Rattle.ror_pivot.specs.Answers.{most_of};
 use crate::numbers::Numbers;
 use ror_pivot::{Bits, Outcome, SolveFault, solve_bits};
 use ror_system::steps::positive_total;
-use ror_system::{Row, System};
+use ror_system::{MOST_COLUMNS, MOST_SYSTEM_ROWS, Row, System};
 use std::alloc::Global;
 
 /// What the rows of a system are like, after the row of ones.
@@ -48,9 +48,9 @@ pub enum Found {
 /// 2,000 columns and 2,200 rows, nor where memory ran out.
 pub fn made_system(alloc: Global, plan: Plan) -> Option<System>
     ensures made { IfSome result (λ s. s ≡ system_of_plan plan) }
-    ensures limits { plan.rows ≡ 0 ⊎ (2200 < plan.rows ⊎ 2000 < plan.columns) → result ≡ None }
+    ensures limits { plan.rows ≡ 0 ⊎ (MOST_SYSTEM_ROWS < plan.rows ⊎ MOST_COLUMNS < plan.columns) → result ≡ None }
 {
-    if plan.rows == 0 || plan.rows > 2_200 || plan.columns > 2_000 {
+    if plan.rows == 0 || plan.rows > MOST_SYSTEM_ROWS || plan.columns > MOST_COLUMNS {
         return None;
     }
     let total = Row::from_vec(vec![in alloc; 1i128; plan.columns].ok()?);

@@ -7,6 +7,7 @@ use Rattle.ror_statement.specs.declared.comparison.Comparison.{Comparison}
 use Rattle.ror_statement.specs.declared.statement.Statement.{Statement}
 use Rattle.ror_statement.specs.declared.question.Question.{Question}
 use Rattle.ror_statement.specs.Questions.{kind_of, property_of}
+use Rattle.ror_statement.specs.declared.row_number.TheConstants.{MOST_STATEMENTS}
 use Rattle.ror_table.specs.Table.{DecisionTable, IsTable, columns}
 use Rattle.ror_system.specs.System.{LinearSystem, IsWellFormed}
 use Rattle.ror_value.specs.Over.{IsNamedIn, IsLawfulIn, IsAskedIn}
@@ -66,7 +67,7 @@ module _ (most : ℕ) (s : LinearSystem) (form : IsWellFormed s) where
 -- ---- of the systems of statements and questions
 
 module _ (t : DecisionTable) (list : List Statement) (table : IsTable t) (lawful : IsLawfulIn t list) where
-  pub well_formed : (extra : List Extra) → length extra ≤ 200 → AllByRecursion (λ e. IsNamedIn t e.form) extra → IsWellFormed (system_for t list (map comparison_of_extra extra))
+  pub well_formed : (extra : List Extra) → length extra ≤ MOST_STATEMENTS → AllByRecursion (λ e. IsNamedIn t e.form) extra → IsWellFormed (system_for t list (map comparison_of_extra extra))
   well_formed extra few named =
       let es = map comparison_of_extra extra in
       let are = extras_named t extra named in

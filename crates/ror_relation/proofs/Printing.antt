@@ -14,6 +14,7 @@ use Rattle.ror_statement.specs.declared.question.Conclusion.{Conclusion}
 use Rattle.ror_statement.specs.declared.question.Conclusion.TheVariants as conclusions
 use Rattle.ror_statement.specs.Names.{IsPropertyWithin}
 use Rattle.ror_statement.specs.Questions.{kind_of, property_of}
+use Rattle.ror_statement.specs.declared.row_number.TheConstants.{MOST_STATEMENTS}
 use Rattle.ror_table.specs.Table.{DecisionTable, IsTable}
 use Rattle.ror_system.specs.System.{LinearSystem, sum_limit, IsNarrow, IsWellFormed}
 use Rattle.ror_value.specs.Over.{IsLawfulIn, IsAskedIn}
@@ -93,7 +94,7 @@ pivot_small s p form within =
     let row = within.1 in
     record { column = omega arith; row = omega arith }
 
-pub note_printable : (most number : ℕ) (s : LinearSystem) (note : WideText) → number ≤ 200 → IsWellFormed s → HasNoteAt most s note → text.IsPrintableNote number note
+pub note_printable : (most number : ℕ) (s : LinearSystem) (note : WideText) → number ≤ MOST_STATEMENTS → IsWellFormed s → HasNoteAt most s note → text.IsPrintableNote number note
 note_printable most number s note few form noted =
     let inside = note_within most s form (pivots_of note.path) (place_of note.place) noted in
     let Inside : ℕ × ℕ → Type 0 = λ p. (p.0 < right_side_column (shape_of s)) × (p.1 < objective_row (shape_of s)) in
@@ -105,7 +106,7 @@ note_printable most number s note few form noted =
 
 -- ---- answers that are given
 
-parts_printable : (k : QuestionKind) (c : Conclusion) (systems : List LinearSystem) (parts : List Part) → length systems ≤ 200 → AllByRecursion (ShowsOfItsSystem (part_side k c) systems) parts → AllByRecursion (λ p. text.IsNarrowCertificate p.body) parts → AllByRecursion text.IsPrintablePart parts
+parts_printable : (k : QuestionKind) (c : Conclusion) (systems : List LinearSystem) (parts : List Part) → length systems ≤ MOST_STATEMENTS → AllByRecursion (ShowsOfItsSystem (part_side k c) systems) parts → AllByRecursion (λ p. text.IsNarrowCertificate p.body) parts → AllByRecursion text.IsPrintablePart parts
 parts_printable k c systems [] few shown narrow = tt
 parts_printable k c systems (p ∷ parts) few shown narrow =
     let counted = shown.0.counted in
@@ -121,7 +122,7 @@ words t (properties.InClass a h) table within =
     (within.0, omega arith)
 
 module _ (bits : Bits) (t : DecisionTable) (list : List Statement) (q : Question) (table : IsTable t) (lawful : IsLawfulIn t list) (asked : IsAskedIn t q) where
-  few_of_question : length (question_systems_of t list q) ≤ 200
+  few_of_question : length (question_systems_of t list q) ≤ MOST_STATEMENTS
   few_of_question = let few = few_systems t list q lawful in omega (arith, length-map (systems_of_question list q) (system_for t list))
 
   proof_printable : (c : Conclusion) (x : Proof) → Proves t list q c x → IsProofWithin (most_of bits) x → text.IsPrintableProof x

@@ -10,6 +10,7 @@ use Rattle.ror_text.proofs.Everywhere.{all-append, all-map, all_at}
 use Rattle.ror_text.proofs.ListLemmas.{range_more}
 use Rattle.ror_statement.specs.declared.question.Conclusion.{Conclusion}
 use Rattle.ror_statement.specs.declared.question.Conclusion.TheVariants as conclusions
+use Rattle.ror_statement.specs.declared.row_number.TheConstants.{MOST_STATEMENTS}
 use Rattle.ror_table.specs.Table.{DecisionTable}
 use Rattle.ror_system.specs.System.{LinearSystem, IsSolvable}
 use Rattle.ror_system.specs.declared.accept.Multipliers.{Multipliers}
@@ -41,7 +42,7 @@ system_here t base systems i extra within is =
     at_mapped f (y ∷ ys) (suc i) x there = at_mapped f ys i x there
 
 pub usable_here : (t : DecisionTable) (systems : List (SmallVec Extra)) (i : ℕ) (extra : SmallVec Extra) → AllByRecursion (AreUsable t) (map extras_of systems) → i < length systems → extra ≡ get_or systems i extra
-    → (length extra.items ≤ 200) × AllByRecursion (λ e. IsNamedIn t e.form) extra.items
+    → (length extra.items ≤ MOST_STATEMENTS) × AllByRecursion (λ e. IsNamedIn t e.form) extra.items
 usable_here t systems i extra all within is =
     let usable = all_at (λ e. AreUsable t (extras_of e)) systems i extra ((all-map (AreUsable t) extras_of systems).1 all) (slice_get_read systems (length systems) i extra refl within is) in
     let few = usable.0 in

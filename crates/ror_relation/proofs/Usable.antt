@@ -11,6 +11,7 @@ use Rattle.ror_statement.specs.declared.question.QuestionKind.{QuestionKind}
 use Rattle.ror_statement.specs.declared.question.QuestionKind.TheVariants.{Plain, Any, Every}
 use Rattle.ror_statement.specs.declared.question.Question.{Question}
 use Rattle.ror_statement.specs.Questions.{kind_of, property_of}
+use Rattle.ror_statement.specs.declared.row_number.TheConstants.{MOST_STATEMENTS}
 use Rattle.ror_table.specs.Table.{DecisionTable}
 use Rattle.ror_value.specs.Over.{IsNamedIn, IsLawfulIn, IsAskedIn}
 use Rattle.ror_rows.specs.declared.extra.Extra.{Extra}
@@ -19,7 +20,7 @@ use Rattle.ror_rows.proofs.Building.{turned-named}
 use Rattle.ror_rows.proofs.Deciding.{conditions_few, conditions_named}
 use Rattle.ror_relation.specs.Decisions.{AreUsable}
 
-usable_by : (t : DecisionTable) (k : QuestionKind) (es : List Extra) → length es ≤ 200 → AllByRecursion (λ e. IsNamedIn t e.form) es → AllByRecursion (AreUsable t) (map (map comparison_of_extra) (systems_by k es))
+usable_by : (t : DecisionTable) (k : QuestionKind) (es : List Extra) → length es ≤ MOST_STATEMENTS → AllByRecursion (λ e. IsNamedIn t e.form) es → AllByRecursion (AreUsable t) (map (map comparison_of_extra) (systems_by k es))
 usable_by t Plain es few named = tt
 usable_by t Any es few named = ((omega (arith, length-map es comparison_of_extra, few), (all-map (λ c. IsNamedIn t c.form) comparison_of_extra es).0 named), tt)
 usable_by t Every es few named = each es named
@@ -33,7 +34,7 @@ usable_by t Every es few named = each es named
 pub usable_systems : (t : DecisionTable) (list : List Statement) (q : Question) → IsLawfulIn t list → IsAskedIn t q → AllByRecursion (AreUsable t) (systems_of_question list q)
 usable_systems t list q lawful asked = usable_by t (kind_of q) (conditions_of list (property_of q)) (conditions_few t list (property_of q) lawful) (conditions_named t list (property_of q) lawful asked)
 
-pub few_systems : (t : DecisionTable) (list : List Statement) (q : Question) → IsLawfulIn t list → length (systems_of_question list q) ≤ 200
+pub few_systems : (t : DecisionTable) (list : List Statement) (q : Question) → IsLawfulIn t list → length (systems_of_question list q) ≤ MOST_STATEMENTS
 few_systems t list q lawful =
     let es = conditions_of list (property_of q) in
     let bound = few_by (kind_of q) es (conditions_few t list (property_of q) lawful) in
@@ -42,7 +43,7 @@ few_systems t list q lawful =
 pub usable : (t : DecisionTable) (list : List Statement) (q : Question) (systems : List (SmallVec Extra)) → IsLawfulIn t list → IsAskedIn t q → map extras_of systems ≡ systems_of_question list q → AllByRecursion (AreUsable t) (map extras_of systems)
 usable t list q systems lawful asked are = subst (λ (s : List (List Comparison)). AllByRecursion (AreUsable t) s) (sym are) (usable_systems t list q lawful asked)
 
-pub few : (t : DecisionTable) (list : List Statement) (q : Question) (systems : List (SmallVec Extra)) → IsLawfulIn t list → map extras_of systems ≡ systems_of_question list q → length systems ≤ 200
+pub few : (t : DecisionTable) (list : List Statement) (q : Question) (systems : List (SmallVec Extra)) → IsLawfulIn t list → map extras_of systems ≡ systems_of_question list q → length systems ≤ MOST_STATEMENTS
 few t list q systems lawful are =
     let bound = few_systems t list q lawful in
     omega (arith, length-map systems extras_of, ap length are, bound)

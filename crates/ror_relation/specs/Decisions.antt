@@ -8,6 +8,7 @@ use Rattle.ror_statement.specs.declared.question.QuestionKind.{QuestionKind}
 use Rattle.ror_statement.specs.declared.question.QuestionKind.TheVariants.{Any, Every}
 use Rattle.ror_statement.specs.declared.question.Conclusion.{Conclusion}
 use Rattle.ror_statement.specs.declared.question.Conclusion.TheVariants as conclusions
+use Rattle.ror_statement.specs.declared.row_number.TheConstants.{MOST_STATEMENTS}
 use Rattle.ror_table.specs.Table.{DecisionTable}
 use Rattle.ror_system.specs.System.{LinearSystem, IsSolvable}
 use Rattle.ror_value.specs.Over.{IsNamedIn}
@@ -104,4 +105,4 @@ pub record IsGivenVerdict (most : ℕ) (t : DecisionTable) (list : List Statemen
 
 -- at most 200 comparisons, each of what the table has
 abbrev pub AreUsable : DecisionTable → List Comparison → Type 0
-AreUsable t cs = (length cs ≤ 200) × AllByRecursion (λ c. IsNamedIn t c.form) cs
+AreUsable t cs = (length cs ≤ MOST_STATEMENTS) × AllByRecursion (λ c. IsNamedIn t c.form) cs

@@ -3,6 +3,7 @@
 ghost use Rattle.std.specs.Prelude.{◌≡◌, ◌≤◌, ◌+◌, length, map, IfOk};
 ghost use Rattle.std.specs.List.{AllByRecursion};
 ghost use Rattle.ror_pivot.specs.Answers.{most_of};
+ghost use Rattle.ror_statement.specs.declared.row_number.TheConstants.{MOST_ROWS, MOST_STATEMENTS};
 ghost use Rattle.ror_table.specs.Table.{columns};
 ghost use Rattle.ror_rows.specs.Rows.{extended_by, extras_of};
 ghost use Rattle.ror_relation.specs.Decisions.{AreUsable, IsSearch};
@@ -38,8 +39,8 @@ pub(crate) fn first_solvable(
     bits: Bits,
 ) -> Result<Search, AllocError>
     requires columns { base.now.columns ≡ columns table.now }
-    requires rows { length base.now.weak + length base.now.strict ≤ 2000 }
-    requires few { length systems.now ≤ 200 }
+    requires rows { length base.now.weak + length base.now.strict ≤ MOST_ROWS }
+    requires few { length systems.now ≤ MOST_STATEMENTS }
     requires usable { AllByRecursion (AreUsable table.now) (map extras_of systems.now) }
     ensures found { IfOk result (IsSearch (most_of bits)
         (map (extended_by table.now base.now) (map extras_of systems.now))) }

@@ -19,6 +19,7 @@ use Rattle.ror_statement.specs.Names.{IsComparedWithin, IsAssignedWithin}
 use Rattle.std.specs.Prelude.{Bool}
 use Rattle.std.proofs.lemmas.List.Sums.{sum_by-append}
 use Rattle.ror_statement.specs.RowNumbers.{rows_of, rows_number}
+use Rattle.ror_statement.specs.declared.row_number.TheConstants.{MOST_ROWS}
 use Rattle.ror_table.specs.Table.{DecisionTable, columns}
 use Rattle.ror_value.specs.Over.{IsNamedIn, IsValidIn, IsLawfulIn}
 use Rattle.ror_rows.specs.declared.extra.Extra.{Extra}
@@ -137,7 +138,7 @@ parts_strict_width t list n rows e valid is =
 
 pub parts_number : (t : DecisionTable) (list : List Statement) (weak strict : List (List ℤ)) → IsLawfulIn t list
     → weak ≡ weak_rows t (comparisons_of list) ++ [] → strict ≡ ones (columns t) ∷ (strict_rows t (comparisons_of list) ++ [])
-    → length weak + length strict ≤ 2000
+    → length weak + length strict ≤ MOST_ROWS
 parts_number t list weak strict lawful p q =
     let cs = comparisons_of list in
     let number = number_of_rows t cs in

@@ -15,6 +15,7 @@ use Rattle.ror_statement.specs.declared.question.Conclusion.TheVariants.{Yes}
 use Rattle.ror_statement.specs.Questions.{kind_of, property_of}
 use Rattle.ror_statement.specs.Names.{IsPropertyWithin, IsAssignmentWithin}
 use Rattle.ror_statement.specs.declared.statement.Assignment.{Assignment}
+use Rattle.ror_statement.specs.declared.row_number.TheConstants.{MOST_STATEMENTS}
 use Rattle.ror_table.specs.Table.{DecisionTable}
 use Rattle.ror_system.specs.System.{Solves, IsSolvable}
 use Rattle.ror_value.specs.Over.{IsNamedIn, IsLawfulIn, IsAskedIn}
@@ -69,7 +70,7 @@ conditions_named t list (property.AtLeast form) lawful within = (within, tt)
 conditions_named t list (property.InClass a h) lawful within =
     all-pieces (λ e. IsNamedIn t e.form) (class_conditions a h) (assignments_of list) (all-by (IsAssignmentWithin (length t.alternatives) t.classes) (λ x. AllByRecursion (λ e. IsNamedIn t e.form) (class_conditions a h x)) (assignments_of list) (λ x is. in_class_named t a h x within.0 is.alternative) (assignments_within t list lawful.each_valid))
 
-pub conditions_few : (t : DecisionTable) (list : List Statement) (p : Property) → IsLawfulIn t list → length (conditions_of list p) ≤ 200
+pub conditions_few : (t : DecisionTable) (list : List Statement) (p : Property) → IsLawfulIn t list → length (conditions_of list p) ≤ MOST_STATEMENTS
 conditions_few t list property.Compatible lawful = omega arith
 conditions_few t list (property.AtLeast form) lawful = omega arith
 conditions_few t list (property.InClass a h) lawful = let number = class_conditions_number a h list in let few = lawful.few in omega (arith, number, few)

@@ -7,7 +7,9 @@ use Rattle.ror_text.proofs.Everywhere.{all-append}
 use Rattle.ror_statement.specs.declared.comparison.Comparison.{Comparison}
 use Rattle.ror_statement.specs.declared.statement.Statement.{Statement}
 use Rattle.ror_statement.specs.Statements.{comparisons_of}
+use Rattle.ror_statement.specs.declared.row_number.TheConstants.{MOST_STATEMENTS, MOST_ROWS}
 use Rattle.ror_system.specs.System.{LinearSystem}
+use Rattle.ror_system.specs.declared.limits.TheConstants.{MOST_SYSTEM_ROWS}
 use Rattle.ror_table.specs.Table.{DecisionTable, columns}
 use Rattle.ror_value.specs.Over.{IsLawfulIn}
 use Rattle.ror_rows.specs.declared.extra.Extra.{Extra}
@@ -18,7 +20,7 @@ use Rattle.ror_rows.proofs.Building.{AreWide, weak_rows_width, strict_rows_width
 -- ---- the system of statements
 
 -- it has few rows
-pub base_few : (t : DecisionTable) (list : List Statement) (s : LinearSystem) → IsLawfulIn t list → s ≡ system_for t list [] → length s.weak + length s.strict ≤ 2000
+pub base_few : (t : DecisionTable) (list : List Statement) (s : LinearSystem) → IsLawfulIn t list → s ≡ system_for t list [] → length s.weak + length s.strict ≤ MOST_ROWS
 base_few t list s lawful is = parts_number t list s.weak s.strict lawful (ap (λ (z : LinearSystem). z.weak) is) (ap (λ (z : LinearSystem). z.strict) is)
 
 -- with extra comparisons it is the system of the statements and of those
@@ -34,8 +36,8 @@ extended_is t list cs s extended is e = e ∙ ap (λ (z : LinearSystem). extende
 pub copied_first : (w0 w1 w2 base more : List (List ℤ)) → w0 ≡ [] → w1 ≡ w0 ++ base → w2 ≡ w1 ++ more → w2 ≡ base ++ more
 copied_first w0 w1 w2 base more e0 e1 e2 = e2 ∙ ap (λ (xs : List (List ℤ)). xs ++ more) (e1 ∙ ap (λ (xs : List (List ℤ)). xs ++ base) e0)
 
-pub extended_number : (t : DecisionTable) (s : LinearSystem) (extra : List Extra) (weak strict : List (List ℤ)) → length s.weak + length s.strict ≤ 2000 → length extra ≤ 200
-    → weak ≡ s.weak ++ weak_rows t (map comparison_of_extra extra) → strict ≡ s.strict ++ strict_rows t (map comparison_of_extra extra) → length weak + length strict ≤ 2200
+pub extended_number : (t : DecisionTable) (s : LinearSystem) (extra : List Extra) (weak strict : List (List ℤ)) → length s.weak + length s.strict ≤ MOST_ROWS → length extra ≤ MOST_STATEMENTS
+    → weak ≡ s.weak ++ weak_rows t (map comparison_of_extra extra) → strict ≡ s.strict ++ strict_rows t (map comparison_of_extra extra) → length weak + length strict ≤ MOST_SYSTEM_ROWS
 extended_number t s extra weak strict rows few p q =
     let es = map comparison_of_extra extra in
     let number = number_of_rows t es in

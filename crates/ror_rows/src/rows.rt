@@ -4,6 +4,7 @@ ghost use Rattle.std.specs.Prelude.{◌≡◌, ◌≤◌, ◌+◌, ◌++◌, [],
 ghost use Rattle.std.specs.List.{AllByRecursion, flat_map};
 ghost use Rattle.ror_integers.specs.Vectors.{ones};
 ghost use Rattle.ror_statement.specs.Statements.{comparison_by, comparison_of, outranking, class_comparisons};
+ghost use Rattle.ror_statement.specs.declared.row_number.TheConstants.{MOST_ROWS, MOST_STATEMENTS};
 ghost use Rattle.ror_table.specs.Table.{columns};
 ghost use Rattle.ror_value.specs.Over.{IsNamedIn, IsValidIn, IsLawfulIn};
 ghost use Rattle.ror_rows.specs.Rows.{system_for, extended_by, comparison_of_extra, weak_rows, strict_rows};
@@ -22,7 +23,7 @@ use std::alloc::{AllocError, Global};
 pub fn system_of(alloc: Global, table: &Table, list: &[Statement]) -> Result<System, AllocError>
     requires { IsLawfulIn table.now list.now }
     ensures system { IfOk result (λ s. s ≡ system_for table.now list.now []) }
-    ensures few { IfOk result (λ s. length s.weak + length s.strict ≤ 2000) }
+    ensures few { IfOk result (λ s. length s.weak + length s.strict ≤ MOST_ROWS) }
 {
     let mut rows = Rows::new(alloc, table.columns())?;
     rows.push_statements(alloc, table, list)?;
@@ -41,8 +42,8 @@ pub fn with_extras(
     extra: &[Extra],
 ) -> Result<System, AllocError>
     requires columns { base.now.columns ≡ columns table.now }
-    requires rows { length base.now.weak + length base.now.strict ≤ 2000 }
-    requires few { length extra.now ≤ 200 }
+    requires rows { length base.now.weak + length base.now.strict ≤ MOST_ROWS }
+    requires few { length extra.now ≤ MOST_STATEMENTS }
     requires named { AllByRecursion (λ e. IsNamedIn table.now e.form) extra.now }
     ensures { IfOk result (λ s. s ≡ extended_by table.now base.now
         (map comparison_of_extra extra.now)) }

@@ -4,6 +4,7 @@ use Rattle.ror_session.specs.Faults.{IsFirstFaultOf}
 use Rattle.ror_session.specs.Grammar.{IsSessionText}
 use Rattle.ror_session.specs.Session.{session_of}
 use Rattle.ror_session.specs.Sound.{IsSound}
+use Rattle.ror_session.specs.declared.limits.TheConstants.{MOST_LINES, MOST_DESKS, MOST_DESK_NAME_BYTES}
 use Rattle.ror_session.specs.declared.session.Session.{Session}
 use Rattle.ror_session.specs.declared.session.SessionFault.{SessionFault}
 
@@ -21,3 +22,7 @@ GivesTheFirstFault = (bytes : List ℕ) (fault : SessionFault)
 abbrev pub IsSoundWhenRead : Type 0
 IsSoundWhenRead = (bytes : List ℕ) (session : Session)
     → session_of bytes ≡ Ok session → IsSound session
+
+-- what the limits of a session are
+abbrev pub LimitsAre : Type 0
+LimitsAre = (MOST_LINES ≡ 100000) × (MOST_DESKS ≡ 64) × (MOST_DESK_NAME_BYTES ≡ 64)

@@ -1,6 +1,6 @@
 //! Laws of the definitions, each the clause of a function that does nothing.
 
-ghost use Rattle.ror_session.specs.Laws.{ReadsTheGrammar, GivesTheFirstFault, IsSoundWhenRead};
+ghost use Rattle.ror_session.specs.Laws.{LimitsAre, ReadsTheGrammar, GivesTheFirstFault, IsSoundWhenRead};
 
 /// A text is read exactly where it is within the limits, UTF-8 and in the grammar, and as the
 /// session that its lines are.
@@ -18,4 +18,9 @@ pub fn the_first_fault_is_given()
 /// name in it has a blank or a control byte.
 pub fn what_is_read_is_sound()
     ensures { IsSoundWhenRead }
+{}
+
+/// A session has at most 100,000 lines and 64 desks, each of a name of at most 64 bytes.
+pub fn limits()
+    ensures { LimitsAre }
 {}

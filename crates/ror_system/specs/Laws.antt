@@ -1,6 +1,8 @@
 -- Laws of acceptance: no system has both certificates, a certificate is accepted where no test fails, and a first reason is one.
+-- And what the limits of a system are.
 use Rattle.std.specs.Prelude.{◌≡◌, List, ℤ, ◌↔◌}
 use Rattle.ror_text.specs.FirstFault.{IsFirst}
+use Rattle.ror_system.specs.declared.limits.TheConstants.{MOST_COLUMNS, MOST_SYSTEM_ROWS}
 use Rattle.ror_system.specs.declared.reject.Reject.{Reject}
 use Rattle.ror_system.specs.System.{LinearSystem, IsSolvable, Refutes}
 use Rattle.ror_system.specs.Acceptance.{IsAcceptedSolution, AreAcceptedMultipliers, FailsSolution, FailsMultipliers, IsEarlierTest}
@@ -24,3 +26,6 @@ pub record OneFirstReason : Type 0 where
   pub of_multipliers : (s : LinearSystem) (weak strict : List ℤ) (q r : Reject)
       → IsFirst (FailsMultipliers s weak strict) IsEarlierTest q
       → IsFirst (FailsMultipliers s weak strict) IsEarlierTest r → q ≡ r
+
+abbrev pub LimitsAre : Type 0
+LimitsAre = (MOST_COLUMNS ≡ 2000) × (MOST_SYSTEM_ROWS ≡ 2200)

@@ -3,6 +3,7 @@ use Rattle.std.specs.Prelude.{◌≡◌, ℕ, ◌+◌, ◌^◌, ◌<◌, ◌≤�
 use Rattle.std.specs.List.{AllByRecursion}
 use Rattle.ror_integers.specs.Vectors.{ones}
 use Rattle.ror_integers.specs.Motzkin as motzkin
+use Rattle.ror_system.specs.declared.limits.TheConstants.{MOST_COLUMNS, MOST_SYSTEM_ROWS}
 
 -- weak rows, each to be at least 0, and strict rows, each to be above 0, over so many columns
 pub record LinearSystem : Type 0 where
@@ -20,8 +21,8 @@ IsNarrow z = unsigned_abs z < sum_limit
 
 -- within the limits, with one entry for each column in each row, and first among the strict rows the row of ones
 pub record IsWellFormed (s : LinearSystem) : Type 0 where
-  pub columns_limit : s.columns ≤ 2000
-  pub rows_limit : length s.weak + length s.strict ≤ 2200
+  pub columns_limit : s.columns ≤ MOST_COLUMNS
+  pub rows_limit : length s.weak + length s.strict ≤ MOST_SYSTEM_ROWS
   pub weak_widths : AllByRecursion (λ row. length row ≡ s.columns) s.weak
   pub strict_widths : AllByRecursion (λ row. length row ≡ s.columns) s.strict
   pub total_row : slice_get s.strict 0 ≡ Some (ones s.columns)

@@ -21,6 +21,7 @@
 
 mod accept;
 pub mod laws;
+mod limits;
 mod reject;
 mod row;
 pub mod steps;
@@ -28,6 +29,7 @@ mod sum;
 mod system;
 
 pub use accept::{Multipliers, Solution, accept_multipliers, accept_solution};
+pub use limits::{MOST_COLUMNS, MOST_SYSTEM_ROWS};
 pub use reject::Reject;
 pub use row::Row;
 pub use system::System;

@@ -3,6 +3,7 @@
 ghost use Rattle.std.specs.Prelude.{◌≡◌, ◌<◌, ◌≤◌, ◌+◌, length, slice_get, Some};
 ghost use Rattle.std.specs.List.{AllByRecursion};
 ghost use Rattle.ror_integers.specs.Vectors.{ones};
+ghost use Rattle.ror_system.specs.declared.limits.TheConstants.{MOST_COLUMNS, MOST_SYSTEM_ROWS};
 ghost use Rattle.ror_system.specs.System.{LinearSystem, IsWellFormed};
 ghost use Rattle.ror_system.specs.Acceptance.{rows_of, row_at};
 
@@ -34,8 +35,8 @@ impl Model for System {
 impl System {
     /// The system of these rows. The first strict row, all ones, says that the total is positive.
     pub fn new(columns: usize, weak: Vec<Row>, strict: Vec<Row>) -> System
-        requires columns_limit { columns ≤ 2000 }
-        requires rows_limit { length weak.items + length strict.items ≤ 2200 }
+        requires columns_limit { columns ≤ MOST_COLUMNS }
+        requires rows_limit { length weak.items + length strict.items ≤ MOST_SYSTEM_ROWS }
         requires weak_widths { AllByRecursion (λ row. length row ≡ columns) weak.items }
         requires strict_widths { AllByRecursion (λ row. length row ≡ columns) strict.items }
         requires total_row { slice_get strict.items 0 ≡ Some (ones columns) }

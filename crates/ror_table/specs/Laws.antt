@@ -1,6 +1,7 @@
 -- The laws of plain tables that the crate claims.
 use Rattle.std.specs.Prelude.{◌≡◌, ◌↔◌, ℕ, List, Ok, Err}
 use Rattle.ror_table.specs.declared.fault.TableFault.{TableFault}
+use Rattle.ror_table.specs.declared.limits.TheConstants.{MOST_ALTERNATIVES, MOST_CRITERIA, MOST_STEPS, MOST_CLASSES}
 use Rattle.ror_table.specs.Table.{DecisionTable}
 use Rattle.ror_table.specs.Plain.{body_line, plain_table}
 use Rattle.ror_table.specs.Grammar.{LineWords, IsPlainText}
@@ -21,3 +22,8 @@ GivesTheFirstFault = (bytes : List ℕ) (fault : TableFault)
 abbrev pub LinesFailFirst : Type 0
 LinesFailFirst = (t : DecisionTable) (line : ℕ × LineWords) (fault : TableFault)
     → (body_line t line ≡ Err fault) ↔ ((fault.line ≡ line.0) × IsFirstOfLine t line.1 fault.kind)
+
+-- what the limits of a table are
+abbrev pub LimitsAre : Type 0
+LimitsAre = (MOST_ALTERNATIVES ≡ 200) × (MOST_CRITERIA ≡ 64) × (MOST_STEPS ≡ 2000)
+    × (MOST_CLASSES ≡ 100)

@@ -1,6 +1,6 @@
 //! Laws of the definitions, each the clause of a function that does nothing.
 
-ghost use Rattle.ror_table.specs.Laws.{ReadsTheGrammar, GivesTheFirstFault, LinesFailFirst};
+ghost use Rattle.ror_table.specs.Laws.{LimitsAre, ReadsTheGrammar, GivesTheFirstFault, LinesFailFirst};
 
 /// A plain table is read exactly where its bytes are in the grammar and within the limits, and as
 /// the table that the grammar gives.
@@ -17,4 +17,9 @@ pub fn the_first_fault_is_given()
 /// which is taken alone.
 pub fn lines_fail_first()
     ensures { LinesFailFirst }
+{}
+
+/// A table has at most 200 alternatives, 64 criteria, 2,000 steps of all criteria together, and 100 classes.
+pub fn limits()
+    ensures { LimitsAre }
 {}

@@ -1,6 +1,7 @@
 -- The laws of texts that the crate claims.
 use Rattle.std.specs.Prelude.{◌≡◌, ◌↔◌, ◌<◌, ◌^◌, ℕ, ℤ, true, List, ◌∷◌, ◌++◌, Some, unsigned_abs}
 use Rattle.std.specs.Fmt.{decimal, signed_decimal}
+use Rattle.ror_text.specs.declared.lines.TheConstants.{MOST_TEXT_BYTES}
 use Rattle.ror_text.specs.declared.numbers.TheConstants.{NUMBER_LIMIT}
 use Rattle.ror_text.specs.Numbers.{number_of, small_number_of}
 use Rattle.ror_text.specs.SpacedLines.{split_line, spaced_words, join_words, is_word, are_words}
@@ -35,3 +36,7 @@ LinesEndAtTheirEnd = (ws : List (List ℕ)) (rest : List ℕ) → are_words ws �
 abbrev pub CutLinesGiveTheBytes : Type 0
 CutLinesGiveTheBytes = (bytes line rest : List ℕ) → split_line bytes ≡ Some (line, rest)
     → bytes ≡ line ++ 10 ∷ rest
+
+-- what the limits of texts and of a report's numbers are
+abbrev pub LimitsAre : Type 0
+LimitsAre = (MOST_TEXT_BYTES ≡ 16777216) × (NUMBER_LIMIT ≡ 2 ^ 127)

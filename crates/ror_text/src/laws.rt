@@ -1,7 +1,7 @@
 //! Laws of the definitions, each the clause of a function that does nothing.
 
 ghost use Rattle.std.specs.Prelude.{◌≡◌, ◌↔◌, List, Result, Err};
-ghost use Rattle.ror_text.specs.Laws.{NumbersHaveOneText, SmallNumbersHaveOneText, NumbersAreWords, JoinedWordsAreCutAgain, CutWordsAreJoinedAgain, LinesEndAtTheirEnd, CutLinesGiveTheBytes};
+ghost use Rattle.ror_text.specs.Laws.{LimitsAre, NumbersHaveOneText, SmallNumbersHaveOneText, NumbersAreWords, JoinedWordsAreCutAgain, CutWordsAreJoinedAgain, LinesEndAtTheirEnd, CutLinesGiveTheBytes};
 ghost use Rattle.ror_text.specs.Reading.{read_all, IsFirstFault};
 
 /// What is written as a report number is read again, and only its one text is read as it.
@@ -29,4 +29,9 @@ pub fn first_fault<State, Line, Fault>()
     ensures { (step : State → Line → Result State Fault) (state : State) (lines : List Line)
         (fault : Fault)
         → (read_all step state lines ≡ Err fault) ↔ IsFirstFault step state lines fault }
+{}
+
+/// The text of a table or a session has at most 16,777,216 bytes, and a report's numbers are below 2^127.
+pub fn limits()
+    ensures { LimitsAre }
 {}

@@ -9,7 +9,7 @@ new-requires-2-clause-rows_limit c =
     let plan = c.args.plan in
     let inserted = rw (← c.in_ok-ok-2.ensures.variant) at c.insert.ensures.items in
     let some = c.if-plan-eq0.false in
-    let most = c.if-plan-gt2200.false in
+    let most = c.if-plan-gt-MOST_SYSTEM_ROWS.false in
     omega (arith, ap (λ (rows : List (List ℤ)). length rows) inserted, ap (λ (rows : List (List ℤ)). length rows) c.in_ok-strict.ensures, length-made_rows plan.kind plan.columns plan.number (plan.rows - 1), c.new.ensures.len)
 
 pub new-requires-2-clause-strict_widths : goal.new-requires-2-clause-strict_widths

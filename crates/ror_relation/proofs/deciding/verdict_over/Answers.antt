@@ -3,6 +3,7 @@ use Rattle.std.specs.List.{AllByRecursion}
 use Rattle.smallvec.specs.SmallVec.{SmallVec}
 use Rattle.ror_pivot.specs.Answers.{most_of}
 use Rattle.ror_statement.specs.declared.question.Conclusion.TheVariants as conclusions
+use Rattle.ror_statement.specs.declared.row_number.TheConstants.{MOST_STATEMENTS}
 use Rattle.ror_system.specs.System.{LinearSystem}
 use Rattle.ror_proof.specs.declared.answer.Certificate.TheVariants as certificates
 use Rattle.ror_rows.specs.declared.extra.Extra.{Extra}
@@ -21,7 +22,7 @@ first_solvable-requires-clause-rows c = base_few c.args.table.now c.args.list.no
 
 pub first_solvable-requires-clause-few : goal.first_solvable-requires-clause-few
 first_solvable-requires-clause-few c =
-    subst (λ (systems : List (SmallVec Extra)). length systems ≤ 200) (sym c.as_slice.ensures.value) (few c.args.table.now c.args.list.now c.args.question.now c.in_ok-systems.systems.items c.requires.lawful c.in_ok-systems.ensures)
+    subst (λ (systems : List (SmallVec Extra)). length systems ≤ MOST_STATEMENTS) (sym c.as_slice.ensures.value) (few c.args.table.now c.args.list.now c.args.question.now c.in_ok-systems.systems.items c.requires.lawful c.in_ok-systems.ensures)
 
 pub first_solvable-requires-clause-usable : goal.first_solvable-requires-clause-usable
 first_solvable-requires-clause-usable c =
