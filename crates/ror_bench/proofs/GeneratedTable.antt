@@ -206,25 +206,10 @@ is_generated seed = refl
 pub generated_is_table : (seed : ℕ) → IsTable (generated_table seed)
 generated_is_table seed = subst IsTable (is_generated seed) (is_table seed)
 
--- ---- a draft takes what it is given
-
-not_le : (m n : ℕ) → n < m → nat_le m n ≡ false
-not_le m n less = grind (arith, nat_tests)
+-- ---- the draft is whole
 
 not_lt : (m n : ℕ) → n ≤ m → nat_lt m n ≡ false
 not_lt m n less = grind (arith, nat_tests)
-
-pub takes_criterion : (t : DecisionTable) (id : List ℕ) (direction : Direction) → IsId id → has_id (criterion_ids t) id ≡ false → length t.criteria < 64 → with_criterion BadId RepeatedId (TooMany Criteria) t id direction ≡ Ok (add_criterion t id direction)
-unfolding with_criterion
-takes_criterion t id direction valid free room =
-    let few : nat_le 64 (length t.criteria) ≡ false = not_le 64 (length t.criteria) room in
-    rw (valid, free, few) refl
-
-pub takes_alternative : (t : DecisionTable) (id : List ℕ) (performances : List ℤ) → IsId id → has_id (alternative_ids t) id ≡ false → length t.alternatives < 200 → with_alternative BadId RepeatedId (TooMany Alternatives) t id performances ≡ Ok (add_alternative t id performances)
-unfolding with_alternative
-takes_alternative t id performances valid free room =
-    let few : nat_le 200 (length t.alternatives) ≡ false = not_le 200 (length t.alternatives) room in
-    rw (valid, free, few) refl
 
 pub finishes : (seed : ℕ) → finished Empty (TooMany Steps) (table_before seed 24) ≡ Ok (table_before seed 24)
 unfolding finished

@@ -1,12 +1,9 @@
 //! A table and a session over it that a number generates: something to try the whole of the desks on.
 
-ghost use Rattle.std.specs.Prelude.{◌≡◌, [], ◌∷◌, ◌++◌, ◌+◌, ◌<◌, ◌≤◌, ◌^◌, false, length, All, unsigned_abs, OnOk, IfOk};
+ghost use Rattle.std.specs.Prelude.{◌≡◌, [], ◌∷◌, ◌++◌, ◌+◌, ◌<◌, ◌≤◌, ◌^◌, length, unsigned_abs, OnOk, IfOk};
 ghost use Rattle.std.specs.String.{string_bytes};
-ghost use Rattle.ror_text.specs.Ids.{IsId};
-ghost use Rattle.ror_table.specs.Draft.{has_id, add_criterion, add_alternative};
-ghost use Rattle.ror_table.specs.Table.{IsTable, performance_at, criterion_ids, alternative_ids};
+ghost use Rattle.ror_table.specs.Table.{IsTable, performance_at};
 ghost use Rattle.ror_table.specs.declared.fault.DraftFault.TheVariants.{Memory};
-ghost use Rattle.ror_table.specs.declared.limits.TheConstants.{MOST_ALTERNATIVES, MOST_CRITERIA};
 ghost use Rattle.ror_bench.specs.Generated as spec;
 ghost use Rattle.ror_bench.specs.Generated.{next_seed, seed_after, drawn_with, raise, hidden_value};
 
@@ -86,7 +83,7 @@ fn generated_table(alloc: Global, draws: &mut Draws) -> Result<Table, AllocError
     for a in 0..ALTERNATIVES {
         let id = generated_id(alloc, a as u8)?;
         let row = generated_row(alloc, draws, a)?;
-        put_alternative(&mut draft, id.as_str(), row.as_slice())?;
+        draft.put_alternative(id.as_str(), row.as_slice())?;
     }
     match draft.finish() {
         Ok(table) => Ok(table),
@@ -100,40 +97,11 @@ fn generated_criteria(alloc: Global) -> Result<Draft, AllocError>
         ≡ record { criteria = spec.generated_criteria; alternatives = []; classes = 0 }) }
 {
     let mut draft = Draft::new(alloc);
-    put_criterion(&mut draft, "k1", Direction::Max)?;
-    put_criterion(&mut draft, "k2", Direction::Min)?;
-    put_criterion(&mut draft, "k3", Direction::Max)?;
-    put_criterion(&mut draft, "k4", Direction::Min)?;
+    draft.put_criterion("k1", Direction::Max)?;
+    draft.put_criterion("k2", Direction::Min)?;
+    draft.put_criterion("k3", Direction::Max)?;
+    draft.put_criterion("k4", Direction::Min)?;
     Ok(draft)
-}
-
-/// Adds a criterion with a valid id that is free, for which there is room.
-fn put_criterion(draft: &mut Draft, id: &str, direction: Direction) -> Result<(), AllocError>
-    requires first { draft.old.alternatives ≡ [] }
-    requires valid { IsId id.now }
-    requires free { has_id (criterion_ids draft.old) id.now ≡ false }
-    requires room { length draft.old.criteria < MOST_CRITERIA }
-    ensures { OnOk result (draft.new ≡ add_criterion draft.old id.now direction) }
-{
-    match draft.criterion(id, direction) {
-        Ok(()) => Ok(()),
-        Err(fault) => Err(out_of_memory(&fault)),
-    }
-}
-
-/// Adds an alternative with a valid id that is free, for which there is room.
-fn put_alternative(draft: &mut Draft, id: &str, row: &[i64]) -> Result<(), AllocError>
-    requires width { length row.now ≡ length draft.old.criteria }
-    requires bounded { All (λ p. unsigned_abs p < 10 ^ 18) row.now }
-    requires valid { IsId id.now }
-    requires free { has_id (alternative_ids draft.old) id.now ≡ false }
-    requires room { length draft.old.alternatives < MOST_ALTERNATIVES }
-    ensures { OnOk result (draft.new ≡ add_alternative draft.old id.now row.now) }
-{
-    match draft.alternative(id, row) {
-        Ok(()) => Ok(()),
-        Err(fault) => Err(out_of_memory(&fault)),
-    }
 }
 
 /// Want of memory: a draft has no other fault where it is given what it takes.

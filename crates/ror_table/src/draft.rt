@@ -102,7 +102,8 @@ impl Draft {
         Ok(())
     }
 
-    pub(crate) fn put_criterion(&mut self, id: &str, direction: Direction) -> Result<(), AllocError>
+    /// Adds a criterion with a valid id that is free, for which there is room: only memory can be lacking.
+    pub fn put_criterion(&mut self, id: &str, direction: Direction) -> Result<(), AllocError>
         requires first { self.old.alternatives ≡ [] }
         requires valid { IsId id.now }
         requires absent { has_id (criterion_ids self.old) id.now ≡ false }
@@ -115,11 +116,8 @@ impl Draft {
         Ok(())
     }
 
-    pub(crate) fn put_alternative(
-        &mut self,
-        id: &str,
-        performances: &[i64],
-    ) -> Result<(), AllocError>
+    /// Adds an alternative with a valid id that is free, for which there is room: only memory can be lacking.
+    pub fn put_alternative(&mut self, id: &str, performances: &[i64]) -> Result<(), AllocError>
         requires width { length performances.now ≡ length self.old.criteria }
         requires bounded { All (λ p. unsigned_abs p < 10 ^ 18) performances.now }
         requires valid { IsId id.now }

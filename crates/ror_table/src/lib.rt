@@ -39,5 +39,5 @@ pub use direction::Direction;
 pub use draft::Draft;
 pub use fault::{DraftFault, Kind, TableError, TableFault, TableKind, What};
 pub use limits::{MOST_ALTERNATIVES, MOST_CLASSES, MOST_CRITERIA, MOST_STEPS};
-pub use plain::read_plain;
+pub use plain::{read_plain, whole_table};
 pub use table::Table;

@@ -227,9 +227,9 @@ fn read_lines(alloc: Global, draft: &mut Draft, first: u32, bytes: &[u8]) -> Res
     Ok(())
 }
 
-/// A table of all lines.
+/// The table of a draft that a file's text gave. A draft that lacks something, or has too many steps, is a fault of no line.
 #[tactic(auto, unfolding(crate::specs::Draft::finished))]
-fn whole_table(draft: Draft) -> Result<Table, TableError>
+pub fn whole_table(draft: Draft) -> Result<Table, TableError>
     ensures exact { Gives (λ t. t) table_fault result
         (finished (at_line 0 Empty) (at_line 0 (TooMany Steps)) draft) }
     ensures table { IfOk result IsTable }

@@ -1,21 +1,15 @@
 -- The table of what is kept, place by place.
-use Rattle.std.proofs.Common.{◌≡◌, ◌≢◌, ℕ, suc, ◌+◌, ◌-◌, ◌<◌, false, List, [], ◌∷◌, ◌++◌, length, Result, Ok, Err, ℤ, refl, sym, ap, ◌∙◌, arith, subst, append-nil, append_assoc}
+use Rattle.std.proofs.Common.{◌≡◌, ℕ, suc, ◌+◌, ◌-◌, ◌<◌, List, [], ◌∷◌, ◌++◌, length, Result, Err, ℤ, refl, sym, ap, ◌∙◌, arith, subst, append-nil, append_assoc}
 use Rattle.std.specs.Prelude.{IfSome, slice_index_or}
 use Rattle.std.specs.List.{range_with_len, enumerate_from}
-use Rattle.std.proofs.lemmas.Bool.{lt-leb}
 use Rattle.std.proofs.lemmas.List.{length-map, map_push}
-use Rattle.ror_text.specs.Ids.{IsId}
 use Rattle.ror_text.specs.Reading.{◌>>=◌, read_all}
 use Rattle.ror_text.proofs.ReadingLemmas.{gives_exit}
 use Rattle.ror_table.specs.declared.direction.Direction.{Direction}
 use Rattle.ror_table.specs.declared.direction.Direction.TheVariants.{Max}
-use Rattle.ror_table.specs.declared.limits.TheConstants.{MOST_ALTERNATIVES, MOST_CRITERIA}
-use Rattle.ror_table.specs.declared.fault.DraftFault.{DraftFault}
-use Rattle.ror_table.specs.declared.fault.DraftFault.TheVariants.{BadId, RepeatedId, TooMany, Empty, Memory}
 use Rattle.ror_table.specs.declared.fault.TableError.{TableError}
 use Rattle.ror_table.specs.declared.fault.TableFault.{TableFault}
-use Rattle.ror_table.specs.Draft.{draft_fault, empty_table, has_id, add_criterion, add_alternative, with_criterion}
-use Rattle.ror_table.specs.Draft as table
+use Rattle.ror_table.specs.Draft.{empty_table, add_criterion, add_alternative}
 use Rattle.ror_table.specs.Plain.{table_fault}
 use Rattle.ror_table.specs.Table.{DecisionTable, criterion_ids, alternative_ids}
 use Rattle.ror_xmcda.specs.declared.criteria.Criteria.{Criteria}
@@ -62,23 +56,3 @@ length-criteria_table c = sym (length-map (criteria_table c).criteria (λ c. c.i
 pub alternatives-criteria_table : (c : Criteria) → (criteria_table c).alternatives ≡ []
 unfolding criteria_table
 alternatives-criteria_table c = alternatives-with_criteria c.directions empty_table 0 c.ids.kept
-
--- ---- what a draft doesn't refuse
-
-pub criterion_fits : {F : Type 0} (no_id repeated full : F) (t : DecisionTable) (id : List ℕ) (direction : Direction) → IsId id → has_id (criterion_ids t) id ≡ false → length t.criteria < MOST_CRITERIA
-    → with_criterion no_id repeated full t id direction ≡ Ok (add_criterion t id direction)
-unfolding with_criterion
-criterion_fits no_id repeated full t id direction valid absent room = rw (valid, absent, lt-leb MOST_CRITERIA (length t.criteria) room) refl
-
-pub alternative_fits : {F : Type 0} (no_id repeated full : F) (t : DecisionTable) (id : List ℕ) (performances : List ℤ) → IsId id → has_id (alternative_ids t) id ≡ false → length t.alternatives < MOST_ALTERNATIVES
-    → table.with_alternative no_id repeated full t id performances ≡ Ok (add_alternative t id performances)
-unfolding table.with_alternative
-alternative_fits no_id repeated full t id performances valid absent room = rw (valid, absent, lt-leb MOST_ALTERNATIVES (length t.alternatives) room) refl
-
--- then nothing but memory can lack
-pub never_refused : (r : Result DecisionTable DraftFault) (t : DecisionTable) (fault : DraftFault) → r ≡ Ok t → (fault ≢ Memory) → IfSome (draft_fault fault) (λ f. r ≡ Err f) → ⊥
-never_refused r t Memory e other h = other refl
-never_refused r t BadId e other h = absurd (let c : ◌≡◌ {A = Result DecisionTable DraftFault} (Ok t) (Err BadId) = sym e ∙ h in cc)
-never_refused r t RepeatedId e other h = absurd (let c : ◌≡◌ {A = Result DecisionTable DraftFault} (Ok t) (Err RepeatedId) = sym e ∙ h in cc)
-never_refused r t (TooMany what) e other h = absurd (let c : ◌≡◌ {A = Result DecisionTable DraftFault} (Ok t) (Err (TooMany what)) = sym e ∙ h in cc)
-never_refused r t Empty e other h = absurd (let c : ◌≡◌ {A = Result DecisionTable DraftFault} (Ok t) (Err Empty) = sym e ∙ h in cc)

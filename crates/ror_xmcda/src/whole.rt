@@ -5,12 +5,10 @@ ghost use Rattle.std.specs.List.{enumerate_from};
 ghost use Rattle.std.specs.String.{string_bytes};
 ghost use Rattle.ror_text.specs.Ids.{IsId};
 ghost use Rattle.ror_text.specs.Reading.{Gives, read_all};
-ghost use Rattle.ror_table.specs.declared.fault.TableKind.TheVariants.{Empty, TooMany};
-ghost use Rattle.ror_table.specs.declared.fault.What.TheVariants.{Steps};
-ghost use Rattle.ror_table.specs.declared.limits.TheConstants.{MOST_ALTERNATIVES, MOST_CLASSES, MOST_CRITERIA};
-ghost use Rattle.ror_table.specs.Draft.{has_id, add_criterion, add_alternative, finished};
-ghost use Rattle.ror_table.specs.Plain.{table_fault, at_line};
-ghost use Rattle.ror_table.specs.Table.{IsTable, criterion_ids, alternative_ids};
+ghost use Rattle.ror_table.specs.declared.limits.TheConstants.{MOST_ALTERNATIVES, MOST_CLASSES};
+ghost use Rattle.ror_table.specs.Draft.{has_id};
+ghost use Rattle.ror_table.specs.Plain.{table_fault};
+ghost use Rattle.ror_table.specs.Table.{IsTable, alternative_ids};
 ghost use Rattle.ror_xmcda.specs.Criteria.{AreCriteria};
 ghost use Rattle.ror_xmcda.specs.Roster.{AreIds};
 ghost use Rattle.ror_xmcda.specs.Whole as spec;
@@ -19,44 +17,9 @@ use crate::criteria::Criteria;
 use crate::fault::fault;
 use crate::performances::Given;
 use crate::roster::Ids;
-use ror_table::{Direction, Draft, DraftFault, Table, TableError, TableKind};
+use ror_table::{Draft, Table, TableError, TableKind, whole_table};
 use ror_text::reading::{need, refuse_if};
 use std::alloc::{AllocError, Global};
-
-/// Adds a criterion with a valid id that is free, for which there is room.
-fn put_criterion(draft: &mut Draft, id: &str, direction: Direction) -> Result<(), AllocError>
-    requires first { draft.old.alternatives ≡ [] }
-    requires valid { IsId id.now }
-    requires absent { has_id (criterion_ids draft.old) id.now ≡ false }
-    requires room { length draft.old.criteria < MOST_CRITERIA }
-    ensures { OnOk result (draft.new ≡ add_criterion draft.old id.now direction) }
-{
-    match draft.criterion(id, direction) {
-        Ok(()) => Ok(()),
-        Err(fault) => match fault {
-            DraftFault::Memory => Err(AllocError),
-            _ => unreachable!(),
-        },
-    }
-}
-
-/// Adds an alternative with a valid id that is free, for which there is room.
-fn put_alternative(draft: &mut Draft, id: &str, row: &[i64]) -> Result<(), AllocError>
-    requires width { length row.now ≡ length draft.old.criteria }
-    requires bounded { All (λ p. unsigned_abs p < 10 ^ 18) row.now }
-    requires valid { IsId id.now }
-    requires absent { has_id (alternative_ids draft.old) id.now ≡ false }
-    requires room { length draft.old.alternatives < MOST_ALTERNATIVES }
-    ensures { OnOk result (draft.new ≡ add_alternative draft.old id.now row.now) }
-{
-    match draft.alternative(id, row) {
-        Ok(()) => Ok(()),
-        Err(fault) => match fault {
-            DraftFault::Memory => Err(AllocError),
-            _ => unreachable!(),
-        },
-    }
-}
 
 /// A draft of the criteria.
 #[tactic(auto, unfolding(crate::specs::Whole::criteria_table))]
@@ -68,7 +31,7 @@ fn criteria_table(alloc: Global, criteria: &Criteria) -> Result<Draft, AllocErro
     let ids = criteria.ids.kept.as_slice();
     let mut draft = Draft::new(alloc);
     for (k, id) in ids.iter().enumerate() {
-        put_criterion(&mut draft, id.as_str(), directions[k])?;
+        draft.put_criterion(id.as_str(), directions[k])?;
     }
     Ok(draft)
 }
@@ -122,7 +85,7 @@ fn with_alternative(
     ensures ids { OnOk result (alternative_ids draft.new ≡ alternative_ids draft.old ++ id.now ∷ []) }
 {
     let row = row_of(alloc, given, criteria, a)?;
-    put_alternative(draft, id, &row)?;
+    draft.put_alternative(id, &row)?;
     Ok(())
 }
 
@@ -143,24 +106,6 @@ fn with_alternatives(
         with_alternative(alloc, given, criteria, draft, a, id.as_str())?;
     }
     Ok(())
-}
-
-/// The table of a draft.
-#[tactic(auto, unfolding(ror_table::specs::Draft::finished))]
-fn finished(draft: Draft) -> Result<Table, TableError>
-    ensures exact { Gives (λ t. t) table_fault result
-        (finished (at_line 0 Empty) (at_line 0 (TooMany Steps)) draft) }
-    ensures table { IfOk result IsTable }
-{
-    match draft.finish() {
-        Ok(table) => Ok(table),
-        Err(refusal) => match refusal {
-            DraftFault::Empty => Err(fault(TableKind::Empty, 0)),
-            DraftFault::TooMany(what) => Err(fault(TableKind::TooMany(what), 0)),
-            DraftFault::Memory => Err(TableError::Memory),
-            _ => unreachable!(),
-        },
-    }
 }
 
 /// The table of what is kept.
@@ -187,5 +132,5 @@ pub(crate) fn table_of(
     let mut draft = criteria_table(alloc, criteria)?;
     draft.classes(classes);
     with_alternatives(alloc, given, count, &mut draft, alternatives.as_slice())?;
-    finished(draft)
+    whole_table(draft)
 }
