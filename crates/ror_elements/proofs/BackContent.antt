@@ -131,9 +131,9 @@ start_first line top below byte bytes root is a b first n =
 
 -- ---- behind `<`
 
-name_of : (line : ℕ) (top : Open) (below : List Open) (bytes : List ℕ) (root : Tree) → InEndName [] line top below bytes root → Content line top below (60 ∷ 47 ∷ bytes) root
-name_of line top [] bytes root n = absurd n.later.later
-name_of line top (around ∷ outer) bytes root n =
+end_name_of : (line : ℕ) (top : Open) (below : List Open) (bytes : List ℕ) (root : Tree) → InEndName [] line top below bytes root → Content line top below (60 ∷ 47 ∷ bytes) root
+end_name_of line top [] bytes root n = absurd n.later.later
+end_name_of line top (around ∷ outer) bytes root n =
     let s = n.later in
     let end = 60 ∷ 47 ∷ n.more ++ (s.space ++ 62 ∷ []) in (
       [],
@@ -167,7 +167,7 @@ begin_tag_back r byte bytes root a b h start =
 end_tag_back : (r : Reader) (byte : ℕ) (bytes : List ℕ) (root : Tree) → byte ≡ 47 → Back (line_after r.line byte) bytes root (begin_end_tag (record r { mode = modes.Markup })) → Content r.line r.top r.below (60 ∷ byte ∷ bytes) root
 end_tag_back r byte bytes root is h =
     let inside = back_refuse (line_after r.line byte) bytes root _ (is_outside r) _ h in
-    subst (λ b. Content r.line r.top r.below (60 ∷ b ∷ bytes) root) (sym is) (name_of r.line r.top r.below bytes root (subst (λ b. InEndName [] (line_after r.line b) r.top r.below bytes root) is inside.1))
+    subst (λ b. Content r.line r.top r.below (60 ∷ b ∷ bytes) root) (sym is) (end_name_of r.line r.top r.below bytes root (subst (λ b. InEndName [] (line_after r.line b) r.top r.below bytes root) is inside.1))
 
 pub in_markup_back : (r : Reader) (byte : ℕ) (bytes : List ℕ) (root : Tree) → Back (line_after r.line byte) bytes root (in_markup (record r { mode = modes.Markup }) byte) → r.start ≡ r.line → Content r.line r.top r.below (60 ∷ byte ∷ bytes) root
 unfolding in_markup

@@ -13,12 +13,12 @@ use Rattle.ror_elements.specs.declared.mode.Seen.{Seen}
 use Rattle.ror_elements.specs.declared.open.Open.{Open}
 use Rattle.ror_elements.specs.declared.reader.Reader.{Reader}
 use Rattle.ror_elements.specs.declared.reader.Tag.{Tag}
-use Rattle.ror_elements.specs.Grammar.{IsSpace, IsValue, IsAttribute, Attribute, Names, IsEndTag, IsContent, IsElement, IsAround, tree_name}
+use Rattle.ror_elements.specs.Grammar.{IsSpace, IsValue, IsAttribute, Attribute, Names, IsEndTag, IsContent, IsElement, IsAround}
 use Rattle.ror_elements.specs.Marks.{is_name_byte, local_name}
 use Rattle.ror_elements.specs.Mode.{quote_byte, is_ended_by, seen_after, opening_text}
 use Rattle.ror_elements.specs.Open.{is_none, last_of}
 use Rattle.ror_elements.specs.Tags.{root_name}
-use Rattle.ror_elements.specs.Tree.{Tree}
+use Rattle.ror_elements.specs.Tree.{Tree, name_of}
 use Rattle.ror_elements.proofs.ElementRuns.{opened_as, named_tag}
 use Rattle.ror_elements.proofs.Grown.{grown, place_of}
 use Rattle.ror_elements.proofs.PlainReader.{around_closed}
@@ -35,7 +35,7 @@ pub record BeforeRoot (line : ℕ) (bytes : List ℕ) (root : Tree) : Type 0 whe
   pub split : bytes ≡ before ++ (element ++ after)
   pub is_before : IsAround before
   pub is_root : IsElement 0 (Some []) (line_at line before) element (root ∷ [])
-  pub is_named : tree_name root ≡ root_name
+  pub is_named : name_of root ≡ root_name
   pub is_after : IsAround after
 
 -- outside, behind the root

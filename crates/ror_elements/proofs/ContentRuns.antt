@@ -8,11 +8,11 @@ use Rattle.ror_elements.specs.declared.mode.Mode.TheVariants as modes
 use Rattle.ror_elements.specs.declared.open.Open.{Open}
 use Rattle.ror_elements.specs.declared.reader.Reader.{Reader}
 use Rattle.ror_elements.specs.Elements.{line_after}
-use Rattle.ror_elements.specs.Grammar.{Place, place_in, kept_at, IsContent, IsPart, IsElement, line_behind, tree_name, IsAround}
+use Rattle.ror_elements.specs.Grammar.{Place, place_in, kept_at, IsContent, IsPart, IsElement, line_behind, IsAround}
 use Rattle.ror_elements.specs.Marks.{is_white, local_name, trimmed}
 use Rattle.ror_elements.specs.Reader.{in_content, outside}
 use Rattle.ror_elements.specs.Tags.{root_name}
-use Rattle.ror_elements.specs.Tree.{Tree, node, none, trees_of}
+use Rattle.ror_elements.specs.Tree.{Tree, node, none, trees_of, name_of}
 use Rattle.ror_elements.proofs.Grown.{grown, place_of, grown_place, grown_name, grown_twice, grown_text, grown_nothing, opened_place, closed_in, closed_empty}
 use Rattle.ror_elements.proofs.PlainReader.{plain, run}
 use Rattle.ror_elements.proofs.Runs.{line_at, line_at-append, line_at-is, at, run_step, Goes, apart, with_text, passed_over-goes, section-goes}
@@ -23,14 +23,14 @@ use Rattle.ror_elements.proofs.ElementRuns.{MayOpen, opened_as, start_tag-goes, 
 
 -- the element with no other around it is the first, and it is kept by its name
 abbrev pub AsRoot : Open → List Open → List Tree → Type 0
-AsRoot top [] kept = (root : Tree) × (top.children ≡ []) × (kept ≡ root ∷ []) × (tree_name root ≡ root_name)
+AsRoot top [] kept = (root : Tree) × (top.children ≡ []) × (kept ≡ root ∷ []) × (name_of root ≡ root_name)
 AsRoot top (around ∷ outer) kept = Unit {0}
 
-root_named : (place : Place) (t root : Tree) → kept_at place t ≡ root ∷ [] → tree_name t ≡ tree_name root
+root_named : (place : Place) (t root : Tree) → kept_at place t ≡ root ∷ [] → name_of t ≡ name_of root
 root_named None t root e = absurd cc
-root_named (Some path) t root e = let same : t ≡ root = cc in ap tree_name same
+root_named (Some path) t root e = let same : t ≡ root = cc in ap name_of same
 
-may_open : (top : Open) (below : List Open) (place : Place) (name : List ℕ) (t : Tree) → length below < 64 → tree_name t ≡ local_name name → AsRoot top below (kept_at place t) → MayOpen top below name
+may_open : (top : Open) (below : List Open) (place : Place) (name : List ℕ) (t : Tree) → length below < 64 → name_of t ≡ local_name name → AsRoot top below (kept_at place t) → MayOpen top below name
 may_open top (around ∷ outer) place name t few e root = record { few = few; first = refl; form = refl }
 may_open top [] place name t few e root = record {
   few = few;

@@ -2,12 +2,12 @@
 use Rattle.std.proofs.Common.{◌≡◌, ℕ, ◌+◌, ◌<◌, Bool, true, false, List, [], ◌∷◌, ◌++◌, append_assoc, length, Option, Some, refl, sym, ap, subst, ◌∙◌, arith, inl, inr}
 use Rattle.std.specs.Prelude.{◌⊎◌}
 use Rattle.ror_elements.specs.declared.open.Open.{Open}
-use Rattle.ror_elements.specs.Grammar.{IsPassedOver, IsStartTag, IsEmptyTag, IsEndTag, Place, place_in, kept_at, IsContent, IsPart, IsElement, IsAround, line_behind, tree_name}
+use Rattle.ror_elements.specs.Grammar.{IsPassedOver, IsStartTag, IsEmptyTag, IsEndTag, Place, place_in, kept_at, IsContent, IsPart, IsElement, IsAround, line_behind}
 use Rattle.ror_elements.specs.Kept.{is_kept}
 use Rattle.ror_elements.specs.Marks.{is_white, local_name}
 use Rattle.ror_elements.specs.Open.{last_of}
 use Rattle.ror_elements.specs.Tags.{root_name}
-use Rattle.ror_elements.specs.Tree.{Tree}
+use Rattle.ror_elements.specs.Tree.{Tree, name_of}
 use Rattle.ror_elements.proofs.Behind.{BeforeRoot, BehindRoot, Content}
 use Rattle.ror_elements.proofs.ElementRuns.{opened_as}
 use Rattle.ror_elements.proofs.Grown.{grown, place_of, grown_place, grown_name, grown_twice, grown_nothing, opened_place, closed_in, closed_empty}
@@ -87,7 +87,7 @@ root_kept : (name : List ℕ) (tree : Tree) → local_name name ≡ root_name �
 unfolding is_kept
 root_kept name tree e = rw e refl
 
-pub prepend_element : (line : ℕ) (top : Open) (below : List Open) (first rest name : List ℕ) (tree root : Tree) → tree_name tree ≡ local_name name → Here top below name
+pub prepend_element : (line : ℕ) (top : Open) (below : List Open) (first rest name : List ℕ) (tree root : Tree) → name_of tree ≡ local_name name → Here top below name
     → IsElement (length below) (place_of top) line first (kept_at (place_in (place_of top) (local_name name)) tree)
     → Content (line_at line first) (grown top [] (kept_at (place_in (place_of top) (local_name name)) tree)) below rest root → Content line top below (first ++ rest) root
 prepend_element line top (around ∷ outer) first rest name tree root named here e h =
@@ -114,7 +114,7 @@ prepend_element line top [] first rest name tree root named here e h = λ place.
             split = refl;
             is_before = IsAround.nothing;
             is_root = subst (λ (t : Tree). IsElement 0 (Some []) line first (t ∷ [])) same is;
-            is_named = sym (ap tree_name same) ∙ named ∙ here.1;
+            is_named = sym (ap name_of same) ∙ named ∙ here.1;
             is_after = b.is_after;
           },
         )

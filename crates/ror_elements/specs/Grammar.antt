@@ -13,7 +13,7 @@ use Rattle.ror_elements.specs.Marks.{is_white, is_control, is_name_byte, local_n
 use Rattle.ror_elements.specs.Mode.{quote_byte}
 use Rattle.ror_elements.specs.References.{digit_value, digits_number}
 use Rattle.ror_elements.specs.Tags.{root_name, id_name}
-use Rattle.ror_elements.specs.Tree.{Tree, node, none, trees_of}
+use Rattle.ror_elements.specs.Tree.{Tree, node, none, trees_of, name_of}
 
 -- ---- white space, names and lines
 
@@ -239,9 +239,6 @@ pub data IsAround : List ℕ → Type 0 where
   white : (byte : ℕ) (rest : List ℕ) → is_white byte ≡ true → IsAround rest → IsAround (byte ∷ rest)
   passed_over : (first rest : List ℕ) → IsPassedOver first → IsAround rest → IsAround (first ++ rest)
 
-abbrev pub tree_name : Tree → List ℕ
-tree_name (node name id text line inside) = name
-
 -- A document in UTF-8, with this root: behind a byte order mark, if there is one, stand white space, comments and
 -- instructions, the root, and such again. No byte is a control byte, no other encoding is declared, and the root's
 -- local name is `XMCDA`
@@ -255,7 +252,7 @@ pub record IsDocument (bytes : List ℕ) (root : Tree) : Type 0 where
   pub whole : without_mark bytes ≡ before ++ (element ++ after)
   pub is_before : IsAround before
   pub is_root : IsElement 0 (Some []) (line_behind 1 before) element (root ∷ [])
-  pub is_named : tree_name root ≡ root_name
+  pub is_named : name_of root ≡ root_name
   pub is_after : IsAround after
 
 -- the bytes are no document

@@ -2,7 +2,7 @@
 use Rattle.std.specs.Prelude.{ℕ, Bool, ◌&&◌, ◌||◌, List, [], ◌∷◌, ◌++◌}
 use Rattle.std.specs.List.{list_any}
 use Rattle.std.specs.Str.{bytes_eq}
-use Rattle.ror_elements.specs.declared.kept.TheConstants.{KEPT}
+use Rattle.ror_elements.specs.declared.kept_elements.TheConstants.{KEPT}
 
 -- a row with this parent and this child is that of the child with this local name of an element
 -- with this path

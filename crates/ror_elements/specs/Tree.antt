@@ -13,6 +13,9 @@ mutual
     none : Trees
     also : Tree → Trees → Trees
 
+abbrev pub name_of : Tree → List ℕ
+name_of (node name id text line inside) = name
+
 abbrev pub trees_of : List Tree → Trees
 trees_of [] = none
 trees_of (t ∷ ts) = also t (trees_of ts)

@@ -3,7 +3,7 @@
 //!
 //! [`read_elements`] gives the root of a text as an [`Element`], or the first fault as an
 //! [`ElementFault`]. Of the elements inside the root it gives those that stand in the one table of
-//! `src/kept.rt`; all others are read by the same rules and dropped. What the elements mean is not
+//! `src/kept_elements.rt`; all others are read by the same rules and dropped. What the elements mean is not
 //! asked here.
 //!
 //! A text is read byte by byte, in one pass and without recursion. What is known after each byte is
@@ -22,7 +22,7 @@
 mod bytes;
 mod declaration;
 mod element;
-mod kept;
+mod kept_elements;
 pub mod laws;
 mod limits;
 mod marks;
@@ -35,4 +35,5 @@ mod tag;
 
 pub use element::{Element, ElementError, ElementFault, ElementKind};
 pub use limits::MOST_DEPTH;
-pub use reading::read_elements;
+pub use marks::is_white;
+pub use reading::{read_elements, without_mark};

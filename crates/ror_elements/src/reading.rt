@@ -88,7 +88,7 @@ impl Reader {
 
 /// The bytes behind a byte order mark, if they begin with one.
 #[tactic(auto, unfolding(crate::specs::Elements::without_mark))]
-fn without_mark(bytes: &[u8]) -> &[u8]
+pub fn without_mark(bytes: &[u8]) -> &[u8]
     ensures rest { result.now ≡ spec.without_mark bytes.now }
     ensures shorter { length result.now ≤ length bytes.now }
 {

@@ -7,7 +7,7 @@ ghost use Rattle.ror_elements.specs.Tags as spec;
 
 use crate::bytes::Bytes;
 use crate::element::{ElementError, ElementKind};
-use crate::kept::is_kept;
+use crate::kept_elements::is_kept;
 use crate::limits::MOST_DEPTH;
 use crate::marks::{is_name_byte, is_white, local_name};
 use crate::mode::{Home, Mode, Quote, quote_of};

@@ -13,13 +13,13 @@ use Rattle.ror_text.proofs.ReadingLemmas.{bind_ok, need_ok}
 use Rattle.ror_statement.specs.declared.statement.Statement.{Statement}
 use Rattle.ror_table.specs.declared.fault.TableFault.{TableFault}
 use Rattle.ror_table.specs.Table.{DecisionTable, place_of, alternative_ids, alternative_named}
-use Rattle.ror_elements.specs.Tree.{Tree}
+use Rattle.ror_elements.specs.Tree.{Tree, name_of}
 use Rattle.ror_xmcda.specs.declared.affectations.Assigned.{Assigned}
 use Rattle.ror_xmcda.specs.declared.affectations.Classes.{Classes}
 use Rattle.ror_xmcda.specs.declared.categories.Categories.{Categories}
 use Rattle.ror_xmcda.specs.declared.roster.Roster.{Roster}
 use Rattle.ror_xmcda.specs.declared.stated.Stated.{Stated}
-use Rattle.ror_xmcda.specs.Nodes.{id_of, name_of, text_of, line_of, is_named, inside, first_named}
+use Rattle.ror_xmcda.specs.Nodes.{id_of, text_of, line_of, is_named, inside, first_named}
 use Rattle.ror_xmcda.specs.Listing.{standing_at}
 use Rattle.ror_xmcda.specs.Categories.{comes_before, class_of}
 use Rattle.ror_xmcda.specs.Ends.{Ends, ends_by, ends_of, is_turned, both, is_either}

@@ -22,11 +22,11 @@ use Rattle.ror_table.proofs.GrammarLemmas.{read_plain_text}
 use Rattle.ror_table.proofs.IndexLemmas.{IsTable-from_tests}
 use Rattle.ror_value.specs.declared.input.Input.{Input}
 use Rattle.ror_elements.specs.Elements.{elements_of}
-use Rattle.ror_elements.specs.Tree.{Tree}
+use Rattle.ror_elements.specs.Tree.{Tree, name_of}
 use Rattle.ror_xmcda.specs.declared.content.Listed.{Listed}
 use Rattle.ror_xmcda.specs.declared.criteria.Criteria.{Criteria}
 use Rattle.ror_xmcda.specs.declared.roster.Roster.{Roster}
-use Rattle.ror_xmcda.specs.Nodes.{name_of, text_of, first_named}
+use Rattle.ror_xmcda.specs.Nodes.{text_of, first_named}
 use Rattle.ror_xmcda.specs.Roster.{AreIds}
 use Rattle.ror_xmcda.specs.Listing.{standing_in}
 use Rattle.ror_xmcda.specs.Numbers.{real_with, real_of, number_at, quotient, rational, number_of, is_zeros}

@@ -2,10 +2,7 @@
 use Rattle.std.specs.Prelude.{ℕ, Bool, List, [], ◌∷◌, Option, None, Some, filter, find}
 use Rattle.std.specs.List.{flat_map}
 use Rattle.std.specs.Str.{bytes_eq}
-use Rattle.ror_elements.specs.Tree.{Tree, node, Trees, none, also}
-
-abbrev pub name_of : Tree → List ℕ
-name_of (node name id text line inside) = name
+use Rattle.ror_elements.specs.Tree.{Tree, node, Trees, none, also, name_of}
 
 abbrev pub id_of : Tree → Option (List ℕ)
 id_of (node name id text line inside) = id

@@ -10,8 +10,8 @@ use Rattle.ror_table.specs.declared.fault.Kind.TheVariants as unsupported
 use Rattle.ror_table.specs.declared.fault.TableFault.{TableFault}
 use Rattle.ror_table.specs.declared.fault.TableKind.TheVariants.{BadNumber, Unsupported}
 use Rattle.ror_table.specs.Plain.{at_line}
-use Rattle.ror_elements.specs.Tree.{Tree}
-use Rattle.ror_xmcda.specs.Nodes.{name_of, text_of, line_of, first_named}
+use Rattle.ror_elements.specs.Tree.{Tree, name_of}
+use Rattle.ror_xmcda.specs.Nodes.{text_of, line_of, first_named}
 
 -- one or more zeros
 abbrev pub is_zeros : List ℕ → Bool

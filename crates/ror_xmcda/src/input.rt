@@ -13,7 +13,7 @@ ghost use Rattle.ror_xmcda.specs.Input as spec;
 
 use crate::content::content;
 use crate::fault::fault;
-use ror_elements::{Element, ElementError, ElementKind, read_elements};
+use ror_elements::{Element, ElementError, ElementKind, is_white, read_elements, without_mark};
 use ror_table::{Kind, TableError, TableKind, What, read_plain};
 use ror_text::Items;
 use ror_text::lines::MOST_TEXT_BYTES;
@@ -47,24 +47,6 @@ fn root_of(alloc: Global, bytes: &[u8]) -> Result<Element, TableError>
         Ok(root) => Ok(root),
         Err(ElementError::Bad(bad)) => Err(fault(table_kind(bad.kind), bad.line)),
         Err(ElementError::Memory) => Err(TableError::Memory),
-    }
-}
-
-/// White space: a space, a tab, a line feed or a carriage return.
-fn is_white(byte: u8) -> bool
-    ensures { result ≡ marks.is_white byte }
-{
-    byte == b' ' || byte == b'\t' || byte == b'\n' || byte == b'\r'
-}
-
-/// The bytes behind a byte order mark, if they begin with one.
-#[tactic(auto, unfolding(ror_elements::specs::Elements::without_mark))]
-fn without_mark(bytes: &[u8]) -> &[u8]
-    ensures { result.now ≡ elements.without_mark bytes.now }
-{
-    match bytes {
-        [0xEF, 0xBB, 0xBF, rest @ ..] => rest,
-        _ => bytes,
     }
 }
 
