@@ -56,7 +56,7 @@ pub fn check_repair(
         return Err(RepairCheckFault::WrongKind);
     }
     let kept = check_dropped(alloc, table, standing, dropped)?;
-    check_base(alloc, table, kept.as_slice(), &x.base)
+    check_base_of(alloc, table, kept.as_slice(), &x.base)
 }
 
 /// Whether the numbers of the dropped statements are numbers of standing ones, each once, in increasing order.
@@ -140,7 +140,7 @@ fn check_refutation(
 }
 
 /// Checks the base for the system of these statements.
-fn check_base(
+fn check_base_of(
     alloc: Global,
     table: &Table,
     list: &[Statement],

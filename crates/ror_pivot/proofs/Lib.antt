@@ -31,7 +31,7 @@ pub mod NeverStops
 pub mod LexicographicRows
 pub mod Rise
 pub mod NextSteps
-pub mod Bases
+pub mod BasisLists
 pub mod PathEnds
 pub mod SomeAnswer
 pub mod FirstWideNote

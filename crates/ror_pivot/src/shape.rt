@@ -83,6 +83,6 @@ impl Shape {
         requires { IsSmall self }
         ensures { result ≡ objective_row self }
     {
-        self.weak + self.strict + 1
+        self.slack_count()
     }
 }

@@ -6,7 +6,7 @@ ghost use Rattle.ror_pivot.specs.Answers.{most_of};
 ghost use Rattle.ror_relation.specs.Wide.{IsNoteBelow};
 ghost use Rattle.ror_relation.specs.Decisions.{IsDecision, IsSaidOf};
 
-use crate::wide::wide_text;
+use crate::wide::note_text;
 use ror_pivot::{Bits, Outcome, SolveFault, solve_counted};
 use ror_proof::WideText;
 use ror_system::{Multipliers, Solution, System};
@@ -60,7 +60,7 @@ fn decision_of(alloc: Global, outcome: Result<Outcome, SolveFault>) -> Result<De
     match outcome {
         Ok(Outcome::Feasible(solution)) => Ok(Decision::Solvable(solution)),
         Ok(Outcome::Infeasible(multipliers)) => Ok(Decision::NotSolvable(multipliers)),
-        Err(SolveFault::Wide(note)) => Ok(Decision::TooWide(wide_text(alloc, &note)?)),
+        Err(SolveFault::Wide(note)) => Ok(Decision::TooWide(note_text(alloc, &note)?)),
         Err(SolveFault::Memory) => Err(AllocError),
     }
 }

@@ -10,7 +10,7 @@ use ror_text::Items;
 use std::alloc::{AllocError, Global};
 
 /// The note with its numbers as those of an answer.
-pub(crate) fn wide_text(alloc: Global, note: &WideNote) -> Result<WideText, AllocError>
+pub(crate) fn note_text(alloc: Global, note: &WideNote) -> Result<WideText, AllocError>
     requires pivots { AllByRecursion (λ p. (p.0 < 2 ^ 32) × (p.1 < 2 ^ 32)) note.now.path }
     requires place { IsPlaceBelow (2 ^ 32) note.now.place }
     ensures pivots { IfOk result (λ text. pivots_of text.path ≡ note.now.path) }

@@ -23,27 +23,27 @@ returns-in_err-kept-clause-refused c =
 pub returns-in_err-kept-clause-not_proved : goal.returns-in_err-kept-clause-not_proved
 returns-in_err-kept-clause-not_proved c = repair_not_proved c.args.table.now c.args.standing.now c.args.x.now c.from_residual.result (returns-in_err-kept-clause-refused c)
 
-pub check_base-requires : goal.check_base-requires
-check_base-requires c =
+pub check_base_of-requires : goal.check_base_of-requires
+check_base_of-requires c =
     let is = c.as_slice.ensures.value ∙ c.in_ok-kept.ensures.kept in
     subst (IsLawfulIn c.args.table.now) (sym is) (kept_lawful c.args.table.now (numbers_of c.as_slice-dropped.result.now) c.args.standing.now c.requires.lawful)
 
-answered : (c : goal.After-drop-kept) → IsAnsweredBy c.args.table.now c.args.standing.now c.args.x.now c.check_base.result
+answered : (c : goal.After-drop-kept) → IsAnsweredBy c.args.table.now c.args.standing.now c.args.x.now c.check_base_of.result
 answered c =
     let list = c.args.standing.now in
     let x = c.args.x.now in
     let numbers : AreNumbersIn list (numbers_of c.as_slice-dropped.result.now) = search rules in
     let kind : IsBaseKind (kept_of (numbers_of c.as_slice-dropped.result.now) list) x.base = search rules in
-    base_answers c.args.table.now list x c.as_slice-dropped.result.now c.as_slice.result.now c.check_base.result c.as_slice-dropped.ensures (c.as_slice.ensures.value ∙ c.in_ok-kept.ensures.kept) numbers kind c.in_ok-kept.ensures.refuted c.check_base.ensures.ok c.check_base.ensures.err
+    base_answers c.args.table.now list x c.as_slice-dropped.result.now c.as_slice.result.now c.check_base_of.result c.as_slice-dropped.ensures (c.as_slice.ensures.value ∙ c.in_ok-kept.ensures.kept) numbers kind c.in_ok-kept.ensures.refuted c.check_base_of.ensures.ok c.check_base_of.ensures.err
 
 pub returns-clause-accepted : goal.returns-clause-accepted
 returns-clause-accepted c = (answered c).accepted
 
 pub returns-clause-true_repair : goal.returns-clause-true_repair
-returns-clause-true_repair c = true_where_proved c.args.table.now c.args.standing.now c.args.x.now c.check_base.result c.requires.lawful (answered c).accepted
+returns-clause-true_repair c = true_where_proved c.args.table.now c.args.standing.now c.args.x.now c.check_base_of.result c.requires.lawful (answered c).accepted
 
 pub returns-clause-not_proved : goal.returns-clause-not_proved
-returns-clause-not_proved c = repair_not_proved c.args.table.now c.args.standing.now c.args.x.now c.check_base.result (answered c).refused
+returns-clause-not_proved c = repair_not_proved c.args.table.now c.args.standing.now c.args.x.now c.check_base_of.result (answered c).refused
 
 pub returns-clause-refused : goal.returns-clause-refused
 returns-clause-refused c = (answered c).refused
