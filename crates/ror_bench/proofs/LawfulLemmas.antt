@@ -20,7 +20,8 @@ use Rattle.ror_report.specs.declared.block.Body.{Body}
 use Rattle.ror_report.specs.declared.block.Body.TheVariants as bodies
 use Rattle.ror_report.specs.declared.block.LineFault.{LineFault}
 use Rattle.ror_report.specs.declared.block.LineFault.TheVariants as faults
-use Rattle.ror_history.specs.History.{Revision, addition, withdrawal, replacement, Revisions, revised, standing, statements_of, numbers, added_numbers, next_number, with_numbers_from, with_revision}
+use Rattle.ror_history.specs.History.{Revision, addition, withdrawal, replacement, Revisions, revised, standing, statements_of, added_numbers, next_number, with_numbers_from, with_revision}
+use Rattle.ror_statement.specs.Statements.{numbers_in}
 use Rattle.ror_history.proofs.TurnLemmas.{standing-more, next_number-more, one_more, withdrawn_stays, replaced_stays}
 use Rattle.ror_history.proofs.RowLemmas.{row_count-filter, length-filter_le}
 use Rattle.ror_bench.specs.Allowed.{Allowing}
@@ -155,8 +156,8 @@ undone_number r = elim (front_and_last r.surviving) [
       (subst (λ (l : List Revision). next_number (first_revisions r l) ≤ next_number r) (sym same) (omega arith))
   | inr last ↦
       let front : List Revision = take (length r.surviving - 1) r.surviving in
-      let more : next_number (first_revisions r (front ++ last.0 ∷ [])) ≡ 1 + fold max (fold max 0 (numbers (with_numbers_from 1 r.opening) ++ added_numbers front)) (added_numbers (last.0 ∷ [])) = next_number-more r.opening front last.0 in
-      let rises = fold_rises (fold max 0 (numbers (with_numbers_from 1 r.opening) ++ added_numbers front)) (added_numbers (last.0 ∷ [])) in
+      let more : next_number (first_revisions r (front ++ last.0 ∷ [])) ≡ 1 + fold max (fold max 0 (numbers_in (with_numbers_from 1 r.opening) ++ added_numbers front)) (added_numbers (last.0 ∷ [])) = next_number-more r.opening front last.0 in
+      let rises = fold_rises (fold max 0 (numbers_in (with_numbers_from 1 r.opening) ++ added_numbers front)) (added_numbers (last.0 ∷ [])) in
       let whole : next_number r ≡ next_number (first_revisions r (front ++ last.0 ∷ [])) = ap (λ (l : List Revision). next_number (first_revisions r l)) last.1 in
       omega (arith, more, rises, whole)
 ]

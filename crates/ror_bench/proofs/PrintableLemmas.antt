@@ -39,7 +39,8 @@ use Rattle.ror_report.specs.declared.block.Body.TheVariants as bodies
 use Rattle.ror_report.specs.declared.block.LineFault.TheVariants as faults
 use Rattle.ror_report.specs.Printing.{HasValidQuestion, HasNarrowVerdict, HasNarrowRepair}
 use Rattle.ror_report.specs.Text.{answers_of, IsPrintableBody}
-use Rattle.ror_history.specs.History.{Revision, addition, withdrawal, replacement, Revisions, revised, standing, statements_of, numbers, added_numbers, next_number, with_numbers_from}
+use Rattle.ror_history.specs.History.{Revision, addition, withdrawal, replacement, Revisions, revised, standing, statements_of, added_numbers, next_number, with_numbers_from}
+use Rattle.ror_statement.specs.Statements.{numbers_in}
 use Rattle.ror_history.specs.Faults.{Stands}
 use Rattle.ror_history.proofs.HistoryLemmas.{greatest}
 use Rattle.ror_history.proofs.RisingLemmas.{numbers-added, numbers-replaced, Rise-opening}
@@ -50,33 +51,33 @@ use Rattle.ror_bench.proofs.RepairLemmas.{contained, dropped_stand}
 
 -- ---- what stands has a number below the next
 
-numbers_kept : (P : ℕ → Type 0) (p : Numbered → Bool) (list : List Numbered) → AllByRecursion P (numbers list) → AllByRecursion P (numbers (filter p list))
+numbers_kept : (P : ℕ → Type 0) (p : Numbered → Bool) (list : List Numbered) → AllByRecursion P (numbers_in list) → AllByRecursion P (numbers_in (filter p list))
 numbers_kept P p [] all = tt
 numbers_kept P p (x ∷ xs) all = by (p x) (numbers_kept P p xs all.1)
   where
-    by : (keeps : Bool) → AllByRecursion P (numbers (filter p xs)) → AllByRecursion P (numbers (cond keeps (x ∷ filter p xs) (filter p xs)))
+    by : (keeps : Bool) → AllByRecursion P (numbers_in (filter p xs)) → AllByRecursion P (numbers_in (cond keeps (x ∷ filter p xs) (filter p xs)))
     by true rest = (all.0, rest)
     by false rest = rest
 
-numbers_after : (list : List Numbered) (most : ℕ) (rest : List Revision) → AllByRecursion (λ n. n ≤ most) (numbers list) → AllByRecursion (λ n. n ≤ fold max most (added_numbers rest)) (numbers (fold revised list rest))
+numbers_after : (list : List Numbered) (most : ℕ) (rest : List Revision) → AllByRecursion (λ n. n ≤ most) (numbers_in list) → AllByRecursion (λ n. n ≤ fold max most (added_numbers rest)) (numbers_in (fold revised list rest))
 numbers_after list most [] all = all
 numbers_after list most (addition n s ∷ rest) all =
     let IsBelow : ℕ → Type 0 = λ m. m ≤ max most n in
     let here : n ≤ max most n = omega arith in
-    let so_far = all-by (λ (m : ℕ). m ≤ most) IsBelow (numbers list) (λ m below. omega arith) all in
-    numbers_after (revised list (addition n s)) (max most n) rest (subst (AllByRecursion IsBelow) (sym (numbers-added list n s)) (all-append IsBelow (numbers list) (n ∷ []) so_far (here, tt)))
+    let so_far = all-by (λ (m : ℕ). m ≤ most) IsBelow (numbers_in list) (λ m below. omega arith) all in
+    numbers_after (revised list (addition n s)) (max most n) rest (subst (AllByRecursion IsBelow) (sym (numbers-added list n s)) (all-append IsBelow (numbers_in list) (n ∷ []) so_far (here, tt)))
 numbers_after list most (withdrawal ns ∷ rest) all = numbers_after (revised list (withdrawal ns)) most rest (numbers_kept (λ n. n ≤ most) _ list all)
 numbers_after list most (replacement n s ∷ rest) all = numbers_after (revised list (replacement n s)) most rest (subst (AllByRecursion (λ m. m ≤ most)) (sym (numbers-replaced list n s)) all)
 
 stands_below : (r : Revisions) (n : ℕ) → Stands r n → n < next_number r
 stands_below r n stands =
-    let first = numbers (with_numbers_from 1 r.opening) in
+    let first = numbers_in (with_numbers_from 1 r.opening) in
     let most = fold max 0 first in
     let added = added_numbers r.surviving in
     let count : most ≡ 0 + length r.opening = greatest 0 r.opening in
     let opening = all-by (λ (m : ℕ). m < 1 + length r.opening) (λ (m : ℕ). m ≤ most) first (λ m below. omega arith) (recursion_from_All (λ m. m < 1 + length r.opening) first (Rise-opening r.opening).below) in
-    let all = All-from_recursion (λ m. m ≤ fold max most added) (numbers (standing r)) (numbers_after (with_numbers_from 1 r.opening) most r.surviving opening) in
-    let here : get_or (numbers (standing r)) stands.0 n ≤ fold max most added = all stands.0 n stands.1 in
+    let all = All-from_recursion (λ m. m ≤ fold max most added) (numbers_in (standing r)) (numbers_after (with_numbers_from 1 r.opening) most r.surviving opening) in
+    let here : get_or (numbers_in (standing r)) stands.0 n ≤ fold max most added = all stands.0 n stands.1 in
     let is = stands.2 in
     let whole : fold max 0 (first ++ added) ≡ fold max most added = fold-append max 0 first added in
     omega arith
@@ -102,17 +103,17 @@ module _ (bits : Bits) (t : DecisionTable) (r : Revisions) (table : IsTable t) (
   ]
 
   -- a number that stands
-  member_below : (n : ℕ) → is_member nat_eq (numbers (standing r)) n ≡ true → n < 2 ^ 32 - 1
-  member_below n among = let below = stands_below r n (contained (numbers (standing r)) n among) in omega arith
+  member_below : (n : ℕ) → is_member nat_eq (numbers_in (standing r)) n ≡ true → n < 2 ^ 32 - 1
+  member_below n among = let below = stands_below r n (contained (numbers_in (standing r)) n among) in omega arith
 
   few_dropped : (ds : List Dropped) → AreNumbersIn (standing r) (numbers_of ds) → length ds < 2 ^ 32
   few_dropped ds h =
       let can = dropped_stand r (numbers_of ds) h in
-      let below = all-by (λ n. is_member nat_eq (numbers (standing r)) n ≡ true) (λ n. n < 2 ^ 32 - 1) (numbers_of ds) member_below h.each_stands in
+      let below = all-by (λ n. is_member nat_eq (numbers_in (standing r)) n ≡ true) (λ n. n < 2 ^ 32 - 1) (numbers_of ds) member_below h.each_stands in
       let few = length-le_below (numbers_of ds) (2 ^ 32 - 1) can.once (All-from_recursion (λ n. n < 2 ^ 32 - 1) (numbers_of ds) below) in
       omega (arith, few, length-numbers_of ds)
 
-  dropped_printable : (ds : List Dropped) → AllByRecursion (λ n. is_member nat_eq (numbers (standing r)) n ≡ true) (numbers_of ds) → AllByRecursion (IsDroppedWithin (most_of bits)) ds → AllByRecursion IsPrintableDropped ds
+  dropped_printable : (ds : List Dropped) → AllByRecursion (λ n. is_member nat_eq (numbers_in (standing r)) n ≡ true) (numbers_of ds) → AllByRecursion (IsDroppedWithin (most_of bits)) ds → AllByRecursion IsPrintableDropped ds
   dropped_printable [] stand narrow = tt
   dropped_printable (d ∷ ds) stand narrow = (record { number = (let below = member_below d.number stand.0 in omega arith); narrow = certificate bits (certificates.Multipliers d.proof) narrow.0 }, dropped_printable ds stand.1 narrow.1)
 

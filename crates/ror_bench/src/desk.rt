@@ -26,7 +26,7 @@ use ror_relation::decide_each_warm;
 use ror_repair::{RepairFault, repair_counted};
 use ror_report::{Body, LineFault};
 use ror_session::{Asked, Command, Named};
-use ror_statement::{Numbered, Question, Statement};
+use ror_statement::{Question, Statement, statements_in};
 use ror_table::Table;
 use ror_text::Items;
 use ror_warm::Engine;
@@ -250,18 +250,7 @@ fn statements_at(alloc: Global, history: &History) -> Result<Vec<Statement>, All
     ensures { IfOk result (λ list. list.items ≡ statements_of history.now.state) }
 {
     let standing = history.standing()?;
-    statements(alloc, standing.as_slice())
-}
-
-/// The statements without their numbers.
-fn statements(alloc: Global, standing: &[Numbered]) -> Result<Vec<Statement>, AllocError>
-    ensures { IfOk result (λ list. list.items ≡ map (λ x. x.statement) standing.now) }
-{
-    let mut list = Vec::new(alloc);
-    for numbered in standing {
-        list.push(numbered.statement)?;
-    }
-    Ok(list)
+    statements_in(alloc, standing.as_slice())
 }
 
 // ---- the check of a block

@@ -21,7 +21,8 @@ use Rattle.ror_check.specs.declared.fault.RepairCheckFault.TheVariants as faults
 use Rattle.ror_check.specs.Proof.{base_system}
 use Rattle.ror_check.specs.Faults.{IsRejectedFor}
 use Rattle.ror_check.specs.Steps.{IsAcceptedFor}
-use Rattle.ror_check.specs.Repair.{AreRefuted, statements_in, AreNumbersIn, kept_of, kept_with, IsRepair, numbers_of, IsBaseKind, IsProvedRepair}
+use Rattle.ror_statement.specs.Statements.{statements_in}
+use Rattle.ror_check.specs.Repair.{AreRefuted, AreNumbersIn, kept_of, kept_with, IsRepair, numbers_of, IsBaseKind, IsProvedRepair}
 use Rattle.ror_check.specs.RepairFaults.{FailsDropped, FailsRepair, IsRefutationRejected, repair_stage, repair_place, IsEarlierRepairFault}
 use Rattle.ror_check.specs.RepairSteps.{RefusesDropped, RefusesBaseOf}
 use Rattle.ror_check.proofs.Repairs.{proved_is_repair}

@@ -19,7 +19,8 @@ use Rattle.ror_proof.specs.declared.kept.Dropped.{Dropped}
 use Rattle.ror_check.specs.declared.fault.RepairCheckFault.{RepairCheckFault}
 use Rattle.ror_check.specs.declared.fault.RepairCheckFault.TheVariants as faults
 use Rattle.ror_check.specs.Proof.{base_system}
-use Rattle.ror_check.specs.Repair.{AreRefuted, numbers_in, statements_in, AreNumbersIn, is_among, kept_of, kept_with, numbers_of, RefutesDropped, IsBaseKind}
+use Rattle.ror_statement.specs.Statements.{numbers_in, statements_in}
+use Rattle.ror_check.specs.Repair.{AreRefuted, AreNumbersIn, is_among, kept_of, kept_with, numbers_of, RefutesDropped, IsBaseKind}
 use Rattle.ror_check.specs.RepairFaults.{FailsDropped}
 use Rattle.ror_check.specs.RepairSteps.{AreRefutedBefore, RefusesOne, RefusesDropped}
 use Rattle.ror_check.proofs.Checking.{some_same}

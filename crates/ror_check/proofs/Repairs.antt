@@ -19,7 +19,8 @@ use Rattle.ror_proof.specs.declared.kept.Dropped.{Dropped}
 use Rattle.ror_proof.specs.declared.kept.Kept.{Kept}
 use Rattle.ror_check.specs.Proof.{base_system}
 use Rattle.ror_check.specs.Steps.{IsAcceptedFor}
-use Rattle.ror_check.specs.Repair.{numbers_in, statements_in, AreNumbersIn, is_among, kept_of, kept_with, IsRepair, numbers_of, IsBaseKind, IsProvedRepair}
+use Rattle.ror_statement.specs.Statements.{numbers_in, statements_in}
+use Rattle.ror_check.specs.Repair.{AreNumbersIn, is_among, kept_of, kept_with, IsRepair, numbers_of, IsBaseKind, IsProvedRepair}
 use Rattle.ror_check.specs.Laws.{IsMaximalRepair}
 use Rattle.ror_check.proofs.Numbers.{member-here, at-member, rises, AreIn, own_members, same_members}
 

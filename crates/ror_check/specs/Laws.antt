@@ -12,7 +12,8 @@ use Rattle.ror_check.specs.declared.fault.CheckFault.{CheckFault}
 use Rattle.ror_check.specs.Proof.{IsProvedAnswer, IsTrueVerdict}
 use Rattle.ror_check.specs.Faults.{FailsAnswer}
 use Rattle.ror_check.specs.declared.fault.RepairCheckFault.{RepairCheckFault}
-use Rattle.ror_check.specs.Repair.{statements_in, is_among, kept_of, IsRepair, numbers_of, IsProvedRepair}
+use Rattle.ror_statement.specs.Statements.{statements_in}
+use Rattle.ror_check.specs.Repair.{is_among, kept_of, IsRepair, numbers_of, IsProvedRepair}
 use Rattle.ror_check.specs.RepairFaults.{FailsRepair}
 
 abbrev pub ProofsAreTrue : Type 0

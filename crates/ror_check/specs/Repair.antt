@@ -5,6 +5,7 @@ use Rattle.std.specs.List.Sorted.{IsStrictlyIncreasing}
 use Rattle.std.specs.Set.{is_member}
 use Rattle.ror_statement.specs.declared.statement.Statement.{Statement}
 use Rattle.ror_statement.specs.declared.statement.Numbered.{Numbered}
+use Rattle.ror_statement.specs.Statements.{numbers_in, statements_in}
 use Rattle.ror_table.specs.Table.{DecisionTable}
 use Rattle.ror_value.specs.Meaning.{IsConsistent, IsContradictory}
 use Rattle.ror_system.specs.Acceptance.{AreAcceptedMultipliers}
@@ -14,12 +15,6 @@ use Rattle.ror_proof.specs.declared.kept.Dropped.{Dropped}
 use Rattle.ror_proof.specs.declared.kept.Kept.{Kept}
 use Rattle.ror_check.specs.Proof.{base_system}
 use Rattle.ror_check.specs.Steps.{IsAcceptedFor}
-
-abbrev pub numbers_in : List Numbered → List ℕ
-numbers_in list = map (λ x. x.number) list
-
-abbrev pub statements_in : List Numbered → List Statement
-statements_in list = map (λ x. x.statement) list
 
 -- the numbers are some of those in the list, each once, in increasing order
 pub record AreNumbersIn (list : List Numbered) (ns : List ℕ) : Type 0 where

@@ -12,7 +12,8 @@ use Rattle.ror_check.specs.declared.fault.RepairCheckFault.{RepairCheckFault}
 use Rattle.ror_check.specs.declared.fault.RepairCheckFault.TheVariants as faults
 use Rattle.ror_check.specs.Proof.{base_system}
 use Rattle.ror_check.specs.Faults.{IsRejectedFor}
-use Rattle.ror_check.specs.Repair.{AreNumbersIn, IsBaseKind, kept_of, kept_with, numbers_of, statements_in}
+use Rattle.ror_statement.specs.Statements.{statements_in}
+use Rattle.ror_check.specs.Repair.{AreNumbersIn, IsBaseKind, kept_of, kept_with, numbers_of}
 
 -- the first reason for which the multipliers of a dropped statement are not accepted
 abbrev pub IsRefutationRejected : DecisionTable → List Statement → Dropped → Reject → Type 0

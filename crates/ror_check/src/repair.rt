@@ -4,7 +4,8 @@ ghost use Rattle.std.specs.Prelude.{◌≡◌, ◌≢◌, ◌↔◌, map, IsTrue
 ghost use Rattle.std.specs.List.Sorted.{IsStrictlyIncreasing};
 ghost use Rattle.ror_text.specs.FirstFault.{IsRefusedBy};
 ghost use Rattle.ror_value.specs.Over.{IsLawfulIn};
-ghost use Rattle.ror_check.specs.Repair.{AreRefuted, numbers_in, statements_in, AreNumbersIn, kept_of, IsRepair, numbers_of, RefutesDropped, IsBaseKind, IsProvedRepair};
+ghost use Rattle.ror_statement.specs.Statements.{numbers_in, statements_in};
+ghost use Rattle.ror_check.specs.Repair.{AreRefuted, AreNumbersIn, kept_of, IsRepair, numbers_of, RefutesDropped, IsBaseKind, IsProvedRepair};
 ghost use Rattle.ror_check.specs.RepairFaults.{FailsRepair, IsEarlierRepairFault};
 ghost use Rattle.ror_check.specs.RepairSteps.{RefusesBaseOf, RefusesDropped, RefusesOne};
 ghost use Rattle.ror_check.specs.Steps.{IsAcceptedFor};

@@ -3,7 +3,8 @@ use Rattle.std.proofs.Common.{◌≡◌, ℕ, ◌+◌, suc, max, List, [], ◌�
 use Rattle.std.specs.List.{fold}
 use Rattle.ror_statement.specs.declared.statement.Statement.{Statement}
 use Rattle.ror_statement.specs.declared.statement.Numbered.{Numbered}
-use Rattle.ror_history.specs.History.{with_numbers_from, numbers}
+use Rattle.ror_history.specs.History.{with_numbers_from}
+use Rattle.ror_statement.specs.Statements.{numbers_in}
 
 abbrev pub statement_of : Numbered → Statement
 statement_of x = x.statement
@@ -23,9 +24,9 @@ with_numbers_from-append n (x ∷ xs) ys =
     ap (λ more. record { number = n; statement = x } ∷ more) (with_numbers_from-append (suc n) xs ys ∙ ap (λ k. with_numbers_from (suc n) xs ++ with_numbers_from k ys) e)
 
 -- the greatest of numbers that go on by one from m
-pub greatest : (m : ℕ) (ss : List Statement) → fold max m (numbers (with_numbers_from (suc m) ss)) ≡ m + length ss
+pub greatest : (m : ℕ) (ss : List Statement) → fold max m (numbers_in (with_numbers_from (suc m) ss)) ≡ m + length ss
 greatest m [] = omega arith
 greatest m (s ∷ ss) =
     let e : max m (suc m) ≡ suc m = omega arith in
     let f : suc m + length ss ≡ m + suc (length ss) = omega arith in
-    ap (λ k. fold max k (numbers (with_numbers_from (suc (suc m)) ss))) e ∙ greatest (suc m) ss ∙ f
+    ap (λ k. fold max k (numbers_in (with_numbers_from (suc (suc m)) ss))) e ∙ greatest (suc m) ss ∙ f

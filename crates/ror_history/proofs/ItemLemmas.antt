@@ -13,7 +13,8 @@ use Rattle.ror_statement.specs.declared.statement.Numbered.{Numbered}
 use Rattle.ror_chain.specs.Chain.{ChainState, without, IsChain, linked_items, pushed, unlinked, relinked, with_item, CanRelink, CanRelinkAll, all_relinked}
 use Rattle.ror_chain.proofs.OrderLemmas.{Apart-cut, without-cut, reverse-cons}
 use Rattle.ror_chain.proofs.ChainLemmas.{relink_cut, IsChain-relinked}
-use Rattle.ror_history.specs.History.{withdrawal, replacement, revised, with_numbers_from, numbers}
+use Rattle.ror_history.specs.History.{withdrawal, replacement, revised, with_numbers_from}
+use Rattle.ror_statement.specs.Statements.{numbers_in}
 
 abbrev pub nowhere : Numbered
 nowhere = record { number = 0; statement = Prefer 0 0 }
@@ -45,11 +46,11 @@ linked-is items (n ∷ order) within =
     let here = slice_get-get_or items n nowhere (All-head (λ k. k < length items) n order within) in
     rw here (ap (λ xs. get_or items n nowhere ∷ xs) (linked-is items order (All-tail (λ k. k < length items) n order within)))
 
-pub numbers-is : (items : List Numbered) (order : List ℕ) → AreNumbered items → Within items order → numbers (items_at items order) ≡ map suc order
+pub numbers-is : (items : List Numbered) (order : List ℕ) → AreNumbered items → Within items order → numbers_in (items_at items order) ≡ map suc order
 numbers-is items [] h within = refl
 numbers-is items (n ∷ order) h within =
     let here = h n (All-head (λ k. k < length items) n order within) in
-    ap (λ m. m ∷ numbers (items_at items order)) here ∙ ap (λ ms. suc n ∷ ms) (numbers-is items order h (All-tail (λ k. k < length items) n order within))
+    ap (λ m. m ∷ numbers_in (items_at items order)) here ∙ ap (λ ms. suc n ∷ ms) (numbers-is items order h (All-tail (λ k. k < length items) n order within))
 
 -- ---- which numbers stand
 

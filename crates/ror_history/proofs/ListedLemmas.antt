@@ -10,7 +10,8 @@ use Rattle.ror_statement.specs.declared.statement.Numbered.{Numbered}
 use Rattle.ror_chain.specs.Chain.{ChainState, IsLinked, IsChain, linked_items, pushed}
 use Rattle.ror_chain.proofs.OrderLemmas.{Absent, Apart, Apart-from_distinct, distinct_from_Apart, Apart-cut, Apart-insert, absent_not_contained, Absent-from_not}
 use Rattle.ror_chain.proofs.ChainLemmas.{IsChain-pushed}
-use Rattle.ror_history.specs.History.{with_numbers_from, numbers}
+use Rattle.ror_history.specs.History.{with_numbers_from}
+use Rattle.ror_statement.specs.Statements.{numbers_in}
 use Rattle.ror_history.specs.Faults.{AreEachOnce}
 use Rattle.ror_history.specs.Inverses.{IsSound, IsOpened}
 use Rattle.ror_history.proofs.ItemLemmas.{Contains-suc, Contains-from_suc, zero_not_contained, linked-pushed}
@@ -18,11 +19,11 @@ use Rattle.ror_history.proofs.RevisionLemmas.{numbers-linked}
 
 -- ---- one number
 
-pub zero_not_found : (s : ChainState Numbered) (number : ℕ) → IsSound s → (1 ≤ number → ⊥) → Contains (numbers (linked_items s)) number → ⊥
+pub zero_not_found : (s : ChainState Numbered) (number : ℕ) → IsSound s → (1 ≤ number → ⊥) → Contains (numbers_in (linked_items s)) number → ⊥
 zero_not_found s zero h small k = zero_not_contained s.order (subst (λ ms. Contains ms zero) (numbers-linked s h) k)
 zero_not_found s (suc n) h small k = small (omega arith)
 
-pub not_found : (s : ChainState Numbered) (number node : ℕ) → IsSound s → 1 ≤ number → node ≡ number - 1 → (IsLinked s node → ⊥) → Contains (numbers (linked_items s)) number → ⊥
+pub not_found : (s : ChainState Numbered) (number node : ℕ) → IsSound s → 1 ≤ number → node ≡ number - 1 → (IsLinked s node → ⊥) → Contains (numbers_in (linked_items s)) number → ⊥
 not_found s number node h some e not_linked k =
     let same : number ≡ suc node = omega arith in
     not_linked (Contains-from_suc s.order node (subst (λ m. Contains (map suc s.order) m) same (subst (λ ms. Contains ms number) (numbers-linked s h) k)))

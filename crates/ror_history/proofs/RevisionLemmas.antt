@@ -16,7 +16,8 @@ use Rattle.ror_chain.proofs.OrderLemmas.{Absent, Apart, Apart-from_distinct, dis
 use Rattle.ror_chain.proofs.ChainLemmas.{same_state, linked_cut, IsChain-pushed, IsChain-unlinked, IsChain-with_item, restores_one, restores_all}
 use Rattle.ror_history.specs.declared.inverse.Inverse.{Inverse}
 use Rattle.ror_history.specs.declared.inverse.Inverse.TheVariants.{Pop, Relink, RelinkAll, Set}
-use Rattle.ror_history.specs.History.{Revision, addition, withdrawal, replacement, Revisions, HistoryView, revised, with_numbers_from, numbers, added_numbers, standing, statements_of, next_number, with_revision}
+use Rattle.ror_history.specs.History.{Revision, addition, withdrawal, replacement, Revisions, HistoryView, revised, with_numbers_from, added_numbers, standing, statements_of, next_number, with_revision}
+use Rattle.ror_statement.specs.Statements.{numbers_in}
 use Rattle.ror_history.specs.Faults.{Stands, AreEachOnce, CanBeWithdrawn}
 use Rattle.ror_history.specs.Inverses.{taken_back, CanTakeBack, statement_at, revision_of, revisions_of, IsSound, IsHeld, IsOpened}
 use Rattle.ror_history.proofs.HistoryLemmas.{statement_of, with_numbers_from-length, with_numbers_from-statements, with_numbers_from-append}
@@ -45,8 +46,8 @@ holds_next s xs r h = ap next_number (sym h.is) ∙ next_number-is s xs h.held
 pub holds_nodes : (s : ChainState Numbered) (xs : List Inverse) (r : Revisions) → Holds s xs r → length s.items ≡ length r.opening + length (added_numbers r.surviving)
 holds_nodes s xs r h = nodes-count s xs h.held ∙ ap (λ (q : Revisions). length q.opening + length (added_numbers q.surviving)) h.is
 
-pub holds_rising : (s : ChainState Numbered) (xs : List Inverse) (r : Revisions) → Holds s xs r → IsStrictlyIncreasing (numbers (standing r))
-holds_rising s xs r h = subst (λ (q : Revisions). IsStrictlyIncreasing (numbers (standing q))) h.is (numbers_rise (revisions_of s xs) (in_turn s xs h.held)).rising
+pub holds_rising : (s : ChainState Numbered) (xs : List Inverse) (r : Revisions) → Holds s xs r → IsStrictlyIncreasing (numbers_in (standing r))
+holds_rising s xs r h = subst (λ (q : Revisions). IsStrictlyIncreasing (numbers_in (standing q))) h.is (numbers_rise (revisions_of s xs) (in_turn s xs h.held)).rising
 
 -- ---- what is linked
 
@@ -63,16 +64,16 @@ holds_few s xs r h =
 pub holds_rows : (s : ChainState Numbered) (xs : List Inverse) (r : Revisions) → Holds s xs r → row_count (statements_of r) ≤ MOST_ROWS
 holds_rows s xs r h = subst (λ list. row_count (map statement_of list) ≤ MOST_ROWS) (sym (holds_standing s xs r h)) (sound s xs r h).rows
 
-pub numbers-linked : (s : ChainState Numbered) → IsSound s → numbers (linked_items s) ≡ map suc s.order
-numbers-linked s h = ap numbers (linked-is s.items s.order h.chain.there) ∙ numbers-is s.items s.order (numbered_each s.items h.numbered) h.chain.there
+pub numbers-linked : (s : ChainState Numbered) → IsSound s → numbers_in (linked_items s) ≡ map suc s.order
+numbers-linked s h = ap numbers_in (linked-is s.items s.order h.chain.there) ∙ numbers-is s.items s.order (numbered_each s.items h.numbered) h.chain.there
 
 pub holds_stands : (s : ChainState Numbered) (xs : List Inverse) (r : Revisions) (n number : ℕ) → Holds s xs r → IsLinked s n → number ≡ suc n → Stands r number
 holds_stands s xs r n number h k e =
-    let ns : numbers (standing r) ≡ map suc s.order = ap numbers (holds_standing s xs r h) ∙ numbers-linked s (sound s xs r h) in
-    subst (λ m. Contains (numbers (standing r)) m) (sym e) (subst (λ ms. Contains ms (suc n)) (sym ns) (Contains-suc s.order n k))
+    let ns : numbers_in (standing r) ≡ map suc s.order = ap numbers_in (holds_standing s xs r h) ∙ numbers-linked s (sound s xs r h) in
+    subst (λ m. Contains (numbers_in (standing r)) m) (sym e) (subst (λ ms. Contains ms (suc n)) (sym ns) (Contains-suc s.order n k))
 
-pub holds_stands_not : (s : ChainState Numbered) (xs : List Inverse) (r : Revisions) (number : ℕ) → Holds s xs r → (Contains (numbers (linked_items s)) number → ⊥) → ¬ (Stands r number)
-holds_stands_not s xs r number h not_linked k = not_linked (subst (λ list. Contains (numbers list) number) (holds_standing s xs r h) k)
+pub holds_stands_not : (s : ChainState Numbered) (xs : List Inverse) (r : Revisions) (number : ℕ) → Holds s xs r → (Contains (numbers_in (linked_items s)) number → ⊥) → ¬ (Stands r number)
+holds_stands_not s xs r number h not_linked k = not_linked (subst (λ list. Contains (numbers_in list) number) (holds_standing s xs r h) k)
 
 -- ---- each change keeps it sound
 
@@ -248,11 +249,11 @@ each_once s xs r ns ms h linked once numbered =
 pub one_once : (s : ChainState Numbered) (xs : List Inverse) (r : Revisions) (n number : ℕ) → Holds s xs r → IsLinked s n → number ≡ suc n → CanBeWithdrawn r (number ∷ [])
 one_once s xs r n number h k e = each_once s xs r (n ∷ []) (number ∷ []) h (All-cons (IsLinked s) n [] k (All-nil (IsLinked s))) (distinct_from_Apart (n ∷ []) (tt, tt)) (ap (λ m. m ∷ []) (sym e))
 
-pub not_one_once : (s : ChainState Numbered) (xs : List Inverse) (r : Revisions) (number : ℕ) → Holds s xs r → (Contains (numbers (linked_items s)) number → ⊥) → ¬ (CanBeWithdrawn r (number ∷ []))
+pub not_one_once : (s : ChainState Numbered) (xs : List Inverse) (r : Revisions) (number : ℕ) → Holds s xs r → (Contains (numbers_in (linked_items s)) number → ⊥) → ¬ (CanBeWithdrawn r (number ∷ []))
 not_one_once s xs r number h not_linked k = holds_stands_not s xs r number h not_linked (All-head (Stands r) number [] k.among)
 
-pub not_withdrawn : (s : ChainState Numbered) (xs : List Inverse) (r : Revisions) (ns : List ℕ) → Holds s xs r → (AreEachOnce (numbers (linked_items s)) ns → ⊥) → ¬ (CanBeWithdrawn r ns)
-not_withdrawn s xs r ns h not_linked k = not_linked (subst (λ list. AreEachOnce (numbers list) ns) (holds_standing s xs r h) k)
+pub not_withdrawn : (s : ChainState Numbered) (xs : List Inverse) (r : Revisions) (ns : List ℕ) → Holds s xs r → (AreEachOnce (numbers_in (linked_items s)) ns → ⊥) → ¬ (CanBeWithdrawn r ns)
+not_withdrawn s xs r ns h not_linked k = not_linked (subst (λ list. AreEachOnce (numbers_in list) ns) (holds_standing s xs r h) k)
 
 -- ---- which statement may be replaced
 

@@ -9,7 +9,8 @@ use Rattle.std.proofs.lemmas.List.Elements.{All-filter}
 use Rattle.std.proofs.lemmas.List.Kept.{IsStrictlyIncreasing-filter}
 use Rattle.ror_statement.specs.declared.statement.Statement.{Statement}
 use Rattle.ror_statement.specs.declared.statement.Numbered.{Numbered}
-use Rattle.ror_history.specs.History.{addition, replacement, revised, with_numbers_from, numbers}
+use Rattle.ror_history.specs.History.{addition, replacement, revised, with_numbers_from}
+use Rattle.ror_statement.specs.Statements.{numbers_in}
 
 -- the numbers rise, and all are below the bound
 pub record Rise (ns : List ℕ) (bound : ℕ) : Type 0 where
@@ -53,31 +54,31 @@ Rise-filter p ns bound h = record { rising = IsStrictlyIncreasing-filter p ns h.
 
 -- ---- each revision
 
-pub numbers-added : (list : List Numbered) (n : ℕ) (s : Statement) → numbers (revised list (addition n s)) ≡ numbers list ++ n ∷ []
+pub numbers-added : (list : List Numbered) (n : ℕ) (s : Statement) → numbers_in (revised list (addition n s)) ≡ numbers_in list ++ n ∷ []
 numbers-added list n s = map-append (λ (x : Numbered). x.number) list (record { number = n; statement = s } ∷ [])
 
-pub numbers-kept : (p : ℕ → Bool) (list : List Numbered) → numbers (filter (λ x. p x.number) list) ≡ filter p (numbers list)
+pub numbers-kept : (p : ℕ → Bool) (list : List Numbered) → numbers_in (filter (λ x. p x.number) list) ≡ filter p (numbers_in list)
 numbers-kept p [] = refl
 numbers-kept p (x ∷ list) = elim (cases_Bool (p x.number)) [
   | inl yes_ ↦ rw (yes_) (ap (λ more. x.number ∷ more) (numbers-kept p list))
   | inr no_ ↦ rw (no_) (numbers-kept p list)
 ]
 
-pub numbers-replaced : (list : List Numbered) (n : ℕ) (s : Statement) → numbers (revised list (replacement n s)) ≡ numbers list
+pub numbers-replaced : (list : List Numbered) (n : ℕ) (s : Statement) → numbers_in (revised list (replacement n s)) ≡ numbers_in list
 numbers-replaced [] n s = refl
 numbers-replaced (x ∷ list) n s = elim (cases_Bool (x.number == n)) [
-  | inl same ↦ let e : n ≡ x.number = sym (eqb-true x.number n same) in rw same (ap (λ more. n ∷ more) (numbers-replaced list n s) ∙ ap (λ k. k ∷ numbers list) e)
+  | inl same ↦ let e : n ≡ x.number = sym (eqb-true x.number n same) in rw same (ap (λ more. n ∷ more) (numbers-replaced list n s) ∙ ap (λ k. k ∷ numbers_in list) e)
   | inr other ↦ rw other (ap (λ more. x.number ∷ more) (numbers-replaced list n s))
 ]
 
 -- ---- the opening list
 
-pub Rise-numbered : (ns : List ℕ) (n : ℕ) (ss : List Statement) → Rise ns n → Rise (ns ++ numbers (with_numbers_from n ss)) (n + length ss)
+pub Rise-numbered : (ns : List ℕ) (n : ℕ) (ss : List Statement) → Rise ns n → Rise (ns ++ numbers_in (with_numbers_from n ss)) (n + length ss)
 Rise-numbered ns n [] h = let e : n ≡ n + 0 = omega arith in rw append-nil (subst (Rise ns) e h)
 Rise-numbered ns n (s ∷ ss) h =
     let e : suc n + length ss ≡ n + suc (length ss) = omega arith in
     let more = Rise-numbered (ns ++ n ∷ []) (suc n) ss (Rise-more ns n h) in
-    subst (Rise (ns ++ n ∷ numbers (with_numbers_from (suc n) ss))) e (subst (λ xs. Rise xs (suc n + length ss)) (append_assoc ns (n ∷ []) (numbers (with_numbers_from (suc n) ss))) more)
+    subst (Rise (ns ++ n ∷ numbers_in (with_numbers_from (suc n) ss))) e (subst (λ xs. Rise xs (suc n + length ss)) (append_assoc ns (n ∷ []) (numbers_in (with_numbers_from (suc n) ss))) more)
 
-pub Rise-opening : (opening : List Statement) → Rise (numbers (with_numbers_from 1 opening)) (1 + length opening)
+pub Rise-opening : (opening : List Statement) → Rise (numbers_in (with_numbers_from 1 opening)) (1 + length opening)
 Rise-opening opening = Rise-numbered [] 1 opening (Rise-none 1)

@@ -7,7 +7,8 @@ use Rattle.ror_statement.specs.declared.statement.Statement.{Statement}
 use Rattle.ror_statement.specs.RowNumbers.{row_count}
 use Rattle.ror_history.specs.declared.history.HistoryFault.{HistoryFault}
 use Rattle.ror_history.specs.declared.history.HistoryFault.TheVariants as faults
-use Rattle.ror_history.specs.History.{Revisions, replacement, standing, statements_of, numbers, with_revision}
+use Rattle.ror_history.specs.History.{Revisions, replacement, standing, statements_of, with_revision}
+use Rattle.ror_statement.specs.Statements.{numbers_in}
 
 -- ---- a statement that is to be added
 
@@ -25,7 +26,7 @@ pub record CanBeAdded (r : Revisions) (s : Statement) : Type 0 where
 -- ---- a statement that is to be replaced
 
 abbrev pub Stands : Revisions → ℕ → Type 0
-Stands r n = Contains (numbers (standing r)) n
+Stands r n = Contains (numbers_in (standing r)) n
 
 abbrev pub FailsReplacement : Revisions → ℕ → Statement → HistoryFault → Type 0
 FailsReplacement r n s faults.NoSuchStatement = ¬ (Stands r n)
@@ -44,7 +45,7 @@ pub record AreEachOnce (those these : List ℕ) : Type 0 where
   pub once : IsDistinct nat_eq these
 
 abbrev pub CanBeWithdrawn : Revisions → List ℕ → Type 0
-CanBeWithdrawn r ns = AreEachOnce (numbers (standing r)) ns
+CanBeWithdrawn r ns = AreEachOnce (numbers_in (standing r)) ns
 
 abbrev pub FailsWithdrawal : Revisions → List ℕ → HistoryFault → Type 0
 FailsWithdrawal r ns faults.NoSuchStatement = ¬ (CanBeWithdrawn r ns)

@@ -4,6 +4,7 @@ use Rattle.std.specs.List.{filter, fold}
 use Rattle.std.specs.Set.{is_member}
 use Rattle.ror_statement.specs.declared.statement.Statement.{Statement}
 use Rattle.ror_statement.specs.declared.statement.Numbered.{Numbered}
+use Rattle.ror_statement.specs.Statements.{numbers_in, statements_in}
 
 -- what a judge does to the list: a statement gets a number, numbered statements are withdrawn, or one is replaced
 pub data Revision : Type 0 where
@@ -37,10 +38,7 @@ abbrev pub standing : Revisions → List Numbered
 standing r = fold revised (with_numbers_from 1 r.opening) r.surviving
 
 abbrev pub statements_of : Revisions → List Statement
-statements_of r = map (λ x. x.statement) (standing r)
-
-abbrev pub numbers : List Numbered → List ℕ
-numbers list = map (λ x. x.number) list
+statements_of r = statements_in (standing r)
 
 -- the numbers that surviving additions gave
 abbrev pub added_numbers : List Revision → List ℕ
@@ -53,7 +51,7 @@ added_numbers (replacement n s ∷ more) = added_numbers more
 -- there is none
 abbrev pub next_number : Revisions → ℕ
 next_number r =
-    1 + fold max 0 (numbers (with_numbers_from 1 r.opening) ++ added_numbers r.surviving)
+    1 + fold max 0 (numbers_in (with_numbers_from 1 r.opening) ++ added_numbers r.surviving)
 
 -- the revisions with one more
 abbrev pub with_revision : Revisions → Revision → Revisions

@@ -5,7 +5,8 @@ use Rattle.std.specs.List.Sorted.{IsStrictlyIncreasing}
 use Rattle.ror_text.specs.FirstFault.{IsFirst}
 use Rattle.ror_statement.specs.declared.statement.Statement.{Statement}
 use Rattle.ror_history.specs.declared.history.HistoryFault.{HistoryFault}
-use Rattle.ror_history.specs.History.{Revision, addition, withdrawal, replacement, Revisions, standing, numbers, next_number, with_revision}
+use Rattle.ror_history.specs.History.{Revision, addition, withdrawal, replacement, Revisions, standing, next_number, with_revision}
+use Rattle.ror_statement.specs.Statements.{numbers_in}
 use Rattle.ror_history.specs.Faults.{CanBeAdded, FailsAddition, IsEarlierFault}
 
 -- an added statement stands last, with its number, after all that stood
@@ -22,9 +23,9 @@ AreNumberedInTurn r = (before : List Revision) (n : ℕ) (s : Statement) (after 
 
 -- then, whatever was withdrawn or replaced, the numbers of the standing list rise, and all are below the next number
 pub record NumbersRise : Type 0 where
-  pub rising : (r : Revisions) → AreNumberedInTurn r → IsStrictlyIncreasing (numbers (standing r))
+  pub rising : (r : Revisions) → AreNumberedInTurn r → IsStrictlyIncreasing (numbers_in (standing r))
   pub below_next : (r : Revisions) → AreNumberedInTurn r
-      → All (λ n. n < next_number r) (numbers (standing r))
+      → All (λ n. n < next_number r) (numbers_in (standing r))
 
 -- a history that begins is numbered in turn, and stays so as statements get the next number; that is at first one past the
 -- opening list, then one more with each addition, and stays with each other revision

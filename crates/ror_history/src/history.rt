@@ -5,15 +5,16 @@ ghost use Rattle.std.specs.List.Sorted.{IsStrictlyIncreasing};
 ghost use Rattle.ror_text.specs.FirstFault.{IsRefusedBy};
 ghost use Rattle.ror_statement.specs.RowNumbers.{row_count};
 ghost use Rattle.ror_chain.specs.Chain.{linked_items};
-ghost use Rattle.ror_history.specs.History.{Revision, addition, withdrawal, replacement, with_revision, with_numbers_from, next_number, added_numbers, numbers, standing, statements_of};
+ghost use Rattle.ror_history.specs.History.{Revision, addition, withdrawal, replacement, with_revision, with_numbers_from, next_number, added_numbers, standing, statements_of};
+ghost use Rattle.ror_statement.specs.Statements.{numbers_in};
 ghost use Rattle.ror_history.specs.Faults.{CanBeAdded, FailsAddition, CanBeReplaced, FailsReplacement, CanBeWithdrawn, FailsWithdrawal, FailsUndo, IsEarlierFault};
 ghost use Rattle.ror_history.specs.Inverses.{IsOpened};
 ghost use Rattle.ror_history.specs.declared.history.HistoryFault.TheVariants.{Memory};
 
 use crate::inverse::{Inverse, take_back, unlink_all};
-use crate::listed::{find, find_all, listed, replaced, statements};
+use crate::listed::{find, find_all, listed, replaced};
 use ror_chain::Chain;
-use ror_statement::{MOST_ROWS, MOST_STATEMENTS, Numbered, Statement, row_count};
+use ror_statement::{MOST_ROWS, MOST_STATEMENTS, Numbered, Statement, row_count, statements_in};
 use std::alloc::{AllocError, AllocFailed, Global};
 use std::marker::Model;
 use thiserror::Error;
@@ -113,7 +114,7 @@ impl History {
         if list.len() >= MOST_STATEMENTS {
             return Err(HistoryFault::TooManyStatements);
         }
-        let mut statements = statements(self.alloc, &list)?;
+        let mut statements = statements_in(self.alloc, &list)?;
         statements.push(s)?;
         if row_count(&statements) > MOST_ROWS {
             return Err(HistoryFault::TooManyRows);
@@ -249,7 +250,7 @@ impl History {
         ensures listed { IfOk result (λ list. list.items ≡ standing self.now.state) }
         ensures few { length (standing self.now.state) ≤ MOST_STATEMENTS }
         ensures rows { row_count (statements_of self.now.state) ≤ MOST_ROWS }
-        ensures rising { IsStrictlyIncreasing (numbers (standing self.now.state)) }
+        ensures rising { IsStrictlyIncreasing (numbers_in (standing self.now.state)) }
     {
         listed(self.alloc, &self.chain)
     }

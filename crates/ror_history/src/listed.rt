@@ -4,7 +4,7 @@ ghost use Rattle.std.specs.Prelude.{◌≡◌, ◌≢◌, ◌==◌, if◌then◌
 ghost use Rattle.std.specs.List.{All, Contains, IsDistinct};
 ghost use Rattle.ror_chain.specs.Chain.{IsLinked, linked_items};
 ghost use Rattle.ror_history.specs.Inverses.{IsSound};
-ghost use Rattle.ror_history.specs.History.{numbers};
+ghost use Rattle.ror_statement.specs.Statements.{numbers_in};
 ghost use Rattle.ror_history.specs.declared.history.HistoryFault.TheVariants.{Memory, NoSuchStatement};
 ghost use Rattle.ror_history.specs.Faults.{AreEachOnce};
 
@@ -31,7 +31,7 @@ pub fn listed(alloc: Global, chain: &Chain<Numbered>) -> Result<Vec<Numbered>, A
 pub fn find(chain: &Chain<Numbered>, number: u32) -> Option<usize>
     requires { IsSound chain.now.state }
     ensures { MatchOption result
-        (Contains (numbers (linked_items chain.now.state)) number → ⊥)
+        (Contains (numbers_in (linked_items chain.now.state)) number → ⊥)
         (λ node. (number ≡ suc node) × IsLinked chain.now.state node) }
 {
     let node = (number as usize).checked_sub(1)?;
@@ -53,7 +53,7 @@ pub fn find_all(
     ensures linked { IfOk result (λ nodes. All (IsLinked chain.now.state) nodes.items) }
     ensures once { IfOk result (λ nodes. IsDistinct nat_eq nodes.items) }
     ensures refused { IfErr result (λ e. e ≢ HistoryFault.Memory → (e ≡ HistoryFault.NoSuchStatement)
-        × (AreEachOnce (numbers (linked_items chain.now.state)) list.now → ⊥)) }
+        × (AreEachOnce (numbers_in (linked_items chain.now.state)) list.now → ⊥)) }
 {
     let mut nodes = Vec::new(alloc);
     for number in list {
@@ -66,13 +66,6 @@ pub fn find_all(
         nodes.push(node)?;
     }
     Ok(nodes)
-}
-
-/// The statements without their numbers.
-pub fn statements(alloc: Global, list: &[Numbered]) -> Result<Vec<Statement>, AllocError>
-    ensures { IfOk result (λ statements. statements.items ≡ map (λ x. x.statement) list.now) }
-{
-    list.iter().map(|x| x.statement).collect(alloc)
 }
 
 /// The statements without their numbers, another one in the place of the one with a number.

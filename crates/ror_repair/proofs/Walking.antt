@@ -23,7 +23,8 @@ use Rattle.ror_proof.specs.declared.answer.Certificate.TheVariants as certificat
 use Rattle.ror_proof.specs.declared.answer.WideText.{WideText}
 use Rattle.ror_proof.specs.declared.kept.Dropped.{Dropped}
 use Rattle.ror_check.specs.Proof.{base_system, base_side, Shows}
-use Rattle.ror_check.specs.Repair.{numbers_in, statements_in, is_among, kept_of, kept_with, numbers_of, RefutesDropped, AreRefuted, IsBaseKind}
+use Rattle.ror_statement.specs.Statements.{numbers_in, statements_in}
+use Rattle.ror_check.specs.Repair.{is_among, kept_of, kept_with, numbers_of, RefutesDropped, AreRefuted, IsBaseKind}
 use Rattle.ror_check.specs.Steps.{IsAcceptedFor}
 use Rattle.ror_check.proofs.Numbers.{member-here, member-later, member-cases, Rises, rises, increases, rises-places}
 use Rattle.ror_check.proofs.Repairs.{proved_is_repair, with_lawful}

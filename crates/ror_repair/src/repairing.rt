@@ -7,7 +7,8 @@ ghost use Rattle.ror_statement.specs.declared.question.Conclusion.TheVariants.{Y
 ghost use Rattle.ror_pivot.specs.Answers.{most_of};
 ghost use Rattle.ror_value.specs.Over.{IsLawfulIn};
 ghost use Rattle.ror_check.specs.Proof.{base_side, Shows};
-ghost use Rattle.ror_check.specs.Repair.{numbers_in, statements_in, numbers_of, IsRepair, IsProvedRepair};
+ghost use Rattle.ror_statement.specs.Statements.{numbers_in, statements_in};
+ghost use Rattle.ror_check.specs.Repair.{numbers_of, IsRepair, IsProvedRepair};
 ghost use Rattle.ror_repair.specs.Repairs.{IsKeptWithin, IsBaseAt, IsFaultOf};
 
 use crate::fault::RepairFault;

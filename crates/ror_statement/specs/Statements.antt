@@ -1,5 +1,5 @@
 -- What statements say: the comparisons that each makes, and those that a list makes.
-use Rattle.std.specs.Prelude.{Bool, nat_lt, if◌then◌else◌, List, [], ◌∷◌, ◌++◌, Option, Some, None, option_to_list}
+use Rattle.std.specs.Prelude.{ℕ, Bool, nat_lt, if◌then◌else◌, List, [], ◌∷◌, ◌++◌, map, Option, Some, None, option_to_list}
 use Rattle.std.specs.List.{flat_map}
 use Rattle.ror_statement.specs.declared.comparison.Relation.{Relation}
 use Rattle.ror_statement.specs.declared.comparison.Relation.TheVariants as relations
@@ -7,6 +7,7 @@ use Rattle.ror_statement.specs.declared.comparison.Form.{Form}
 use Rattle.ror_statement.specs.declared.comparison.Form.TheVariants.{Value, Strength}
 use Rattle.ror_statement.specs.declared.comparison.Comparison.{Comparison}
 use Rattle.ror_statement.specs.declared.statement.Assignment.{Assignment}
+use Rattle.ror_statement.specs.declared.statement.Numbered.{Numbered}
 use Rattle.ror_statement.specs.declared.statement.Statement.{Statement}
 use Rattle.ror_statement.specs.declared.statement.Statement.TheVariants.{Prefer, AtLeast, Same, Stronger, AsStrong, EqualStrength, Class}
 
@@ -47,3 +48,11 @@ class_comparisons list = flat_map (λ r. flat_map (outranking r) list) list
 -- all that a list says: the comparisons of its statements in order, then those of its class statements
 abbrev pub comparisons_of : List Statement → List Comparison
 comparisons_of list = flat_map (λ s. option_to_list (comparison_of s)) list ++ class_comparisons list
+
+-- ---- numbered statements
+
+abbrev pub numbers_in : List Numbered → List ℕ
+numbers_in list = map (λ x. x.number) list
+
+abbrev pub statements_in : List Numbered → List Statement
+statements_in list = map (λ x. x.statement) list

@@ -17,4 +17,4 @@ pub use comparison::{Comparison, Form, Pair, Relation, Scope};
 pub use names::{valid, valid_question};
 pub use question::{Conclusion, Property, Question, QuestionKind, kind_of};
 pub use row_number::{MOST_ROWS, MOST_STATEMENTS, row_count};
-pub use statement::{Assignment, Numbered, Statement};
+pub use statement::{Assignment, Numbered, Statement, statements_in};

@@ -1,8 +1,10 @@
 //! Statements and their numbers.
 
-ghost use Rattle.std.specs.Prelude.{◌≡◌};
+ghost use Rattle.std.specs.Prelude.{◌≡◌, IfOk};
+ghost use Rattle.ror_statement.specs.Statements.{statements_in};
 
 use crate::comparison::{Comparison, Form, Pair, Relation, Scope};
+use std::alloc::{AllocError, Global};
 
 /// A judge's statement on alternatives and criteria, named by their places in the table, from 0.
 ///
@@ -87,4 +89,11 @@ impl Assignment {
     {
         other.highest < self.lowest
     }
+}
+
+/// The statements without their numbers.
+pub fn statements_in(alloc: Global, list: &[Numbered]) -> Result<Vec<Statement>, AllocError>
+    ensures { IfOk result (λ statements. statements.items ≡ statements_in list.now) }
+{
+    list.iter().map(|x| x.statement).collect(alloc)
 }

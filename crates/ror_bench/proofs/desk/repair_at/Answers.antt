@@ -1,7 +1,8 @@
 use Rattle.std.proofs.Common.{◌≡◌, List, sym, subst, ◌∙◌}
 use Rattle.ror_statement.specs.declared.statement.Numbered.{Numbered}
 use Rattle.ror_value.specs.Over.{IsLawfulIn}
-use Rattle.ror_check.specs.Repair.{statements_in, numbers_of, IsRepair, IsProvedRepair}
+use Rattle.ror_statement.specs.Statements.{statements_in}
+use Rattle.ror_check.specs.Repair.{numbers_of, IsRepair, IsProvedRepair}
 use Rattle.ror_history.specs.History.{standing}
 use Rattle.ror_bench.proofs.LawfulLemmas.{lawful_now}
 use Rattle.ror_bench.proofs.desk.repair_at.Goals as goal
