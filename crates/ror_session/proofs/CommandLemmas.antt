@@ -6,7 +6,8 @@ use Rattle.std.proofs.lemmas.Bool.{cases_Bool, eqb-true}
 use Rattle.ror_text.specs.Numbers.{count_of}
 use Rattle.ror_text.specs.Reading.{◌>>=◌, refuse, need}
 use Rattle.ror_text.proofs.ReadingLemmas.{bind_ok, need_ok}
-use Rattle.ror_session.specs.Grammar.{LineWords, word_at, on_criterion, strength_words, SpellsStatement, SpellsQuestion, WritesCount, Spells}
+use Rattle.ror_text.specs.Lines.{word_at}
+use Rattle.ror_session.specs.Grammar.{LineWords, on_criterion, strength_words, SpellsStatement, SpellsQuestion, WritesCount, Spells}
 use Rattle.ror_session.specs.Command.{pair_at, two_names, criterion_of, two_pairs, statement_of, necessary_question, possible_question, question_of, count_at, class_statement, name_and_class, classes_question, withdrawal, replacement, command_of}
 use Rattle.ror_session.specs.declared.command.NameAndClass.{NameAndClass}
 use Rattle.ror_session.specs.declared.command.TwoPairs.{TwoPairs}

@@ -1,15 +1,10 @@
 -- Words of UTF-8, and the rest of a list of words.
-use Rattle.std.proofs.Common.{◌≡◌, ℕ, zero, suc, ◌-◌, ◌≤◌, Bool, true, false, not, eqb, List, [], ◌∷◌, length, get_or, map, take, drop, refl, sym, ap, subst, ◌∙◌, arith, length-drop}
+use Rattle.std.proofs.Common.{◌≡◌, ℕ, zero, suc, ◌-◌, ◌≤◌, Bool, true, eqb, List, [], ◌∷◌, length, get_or, map, take, drop, refl, sym, ap, subst, ◌∙◌, arith, length-drop}
 use Rattle.std.proofs.lemmas.Bool.{eqb-true}
 use Rattle.std.proofs.lemmas.List.{drop-map}
 use Rattle.std.specs.List.{AllByRecursion}
 use Rattle.std.specs.Str.{IsUtf8}
-use Rattle.std.proofs.lemmas.Str.{IsUtf8-drop, IsUtf8-nil, IsCharBoundary-after_ascii}
-
-pub all_at : {X : Type 0} (P : X → Type 0) (xs : List X) (i : ℕ) (d : X) → AllByRecursion P xs → P d → P (get_or xs i d)
-all_at P [] i d h other = other
-all_at P (x ∷ xs) zero d h other = h.0
-all_at P (x ∷ xs) (suc i) d h other = all_at P xs i d h.1 other
+use Rattle.std.proofs.lemmas.Str.{IsUtf8-drop, IsCharBoundary-after_ascii}
 
 pub all_dropped : {X : Type 0} (P : X → Type 0) (n : ℕ) (xs : List X) → AllByRecursion P xs → AllByRecursion P (drop n xs)
 all_dropped P zero xs h = h
@@ -28,10 +23,6 @@ take_rest n xs = let fits : length (drop n xs) ≤ length xs - n = simp length-d
 
 pub map_rest : {X Y : Type 0} (f : X → Y) (n : ℕ) (xs : List X) → map f (take (length xs - n) (drop n xs)) ≡ drop n (map f xs)
 map_rest f n xs = ap (map f) (take_rest n xs) ∙ sym (drop-map f n xs)
-
--- a word of words of UTF-8
-pub utf8_word : (ws : List (List ℕ)) (i : ℕ) (word : List ℕ) → AllByRecursion IsUtf8 ws → word ≡ get_or ws i [] → IsUtf8 word
-utf8_word ws i word utf8 is = subst IsUtf8 (sym is) (all_at IsUtf8 ws i [] utf8 IsUtf8-nil)
 
 utf8_name : (word : List ℕ) → IsUtf8 word → get_or word 0 0 ≡ 64 → IsUtf8 (drop 1 word)
 utf8_name [] utf8 sign = absurd cc

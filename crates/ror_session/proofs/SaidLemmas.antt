@@ -3,7 +3,7 @@ use Rattle.std.proofs.Common.{◌≡◌, ◌≢◌, ℕ, ◌+◌, ◌≤◌, Boo
 use Rattle.std.specs.Prelude.{nat_lt}
 use Rattle.std.specs.List.{AllByRecursion, list_any}
 use Rattle.std.proofs.lemmas.Bool.{cases_Bool, ltb-false, le-ltb, eqb-true, eq-eqb, ne_eqb}
-use Rattle.ror_text.specs.Lines.{is_control, has_control}
+use Rattle.ror_text.specs.Lines.{is_control, has_control, word_at}
 use Rattle.ror_text.specs.Reading.{◌>>=◌, refuse}
 use Rattle.ror_text.proofs.ReadingLemmas.{bind_ok, refuse_ok}
 use Rattle.ror_session.specs.declared.limits.TheConstants.{MOST_DESK_NAME_BYTES}
@@ -14,7 +14,7 @@ use Rattle.ror_session.specs.declared.session.Command.{Command}
 use Rattle.ror_session.specs.declared.session.Command.TheVariants.{State, Withdraw, Replace, Repair, Undo, Ask}
 use Rattle.ror_session.specs.declared.session.SessionFault.{SessionFault}
 use Rattle.ror_session.specs.declared.session.SessionFault.TheVariants.{BadLine}
-use Rattle.ror_session.specs.Grammar.{LineWords, word_at, SpellsStatement, Spells, desk_words, IsClean, Says, IsWellFormed}
+use Rattle.ror_session.specs.Grammar.{LineWords, SpellsStatement, Spells, desk_words, IsClean, Says, IsWellFormed}
 use Rattle.ror_session.specs.Command.{command_of}
 use Rattle.ror_session.specs.Session.{has_desk_word, desk_of, command_words, said_of}
 use Rattle.ror_session.proofs.CommandLemmas.{command_of-sound, command_of-again, IsBadAt, bad_bind, bad_refuse, command_of-bad}

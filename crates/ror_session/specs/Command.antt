@@ -3,7 +3,8 @@ use Rattle.std.specs.Prelude.{ℕ, ◌+◌, not, ◌==◌, List, length, drop, c
 use Rattle.std.specs.Str.{bytes_eq}
 use Rattle.ror_text.specs.Numbers.{count_of}
 use Rattle.ror_text.specs.Reading.{◌>>=◌, refuse, need}
-use Rattle.ror_session.specs.Grammar.{LineWords, word_at}
+use Rattle.ror_text.specs.Lines.{word_at}
+use Rattle.ror_session.specs.Grammar.{LineWords}
 use Rattle.ror_session.specs.declared.command.NameAndClass.{NameAndClass}
 use Rattle.ror_session.specs.declared.command.TwoPairs.{TwoPairs}
 use Rattle.ror_session.specs.declared.session.NamedPair.{NamedPair}

@@ -1,5 +1,5 @@
 -- The grammar of a session: which words write which line, and which lines are which session.
-use Rattle.std.specs.Prelude.{◌≡◌, ◌≢◌, ℕ, ◌≤◌, List, [], ◌∷◌, ◌++◌, length, map, codes, slice_index_or, Option, Some, None}
+use Rattle.std.specs.Prelude.{◌≡◌, ◌≢◌, ℕ, ◌≤◌, List, [], ◌∷◌, ◌++◌, length, map, codes, Option, Some, None}
 use Rattle.std.specs.List.{AllByRecursion, AllZip}
 use Rattle.std.specs.Str.{IsUtf8}
 use Rattle.ror_text.specs.declared.lines.TheConstants.{MOST_TEXT_BYTES}
@@ -21,10 +21,6 @@ use Rattle.ror_session.specs.Desks.{first_appearances, place_of}
 -- a line is its words
 abbrev pub LineWords : Type 0
 LineWords = List (List ℕ)
-
--- a line's word, from 0; past the last word it is empty
-abbrev pub word_at : LineWords → ℕ → List ℕ
-word_at ws i = slice_index_or ws i []
 
 -- `on Q`, where a criterion is named
 abbrev pub on_criterion : Option (List ℕ) → LineWords

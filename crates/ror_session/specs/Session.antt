@@ -2,10 +2,10 @@
 use Rattle.std.specs.Prelude.{ℕ, ◌+◌, Bool, not, List, [], ◌∷◌, ◌++◌, length, drop, slice_index, position, Option, Some, None, Result, Ok, nat_lt, nat_le, ◌==◌, if◌then◌else◌}
 use Rattle.std.specs.Str.{bytes_eq, is_utf8}
 use Rattle.ror_text.specs.declared.lines.TheConstants.{MOST_TEXT_BYTES}
-use Rattle.ror_text.specs.Lines.{numbered_lines, line_count, has_control}
+use Rattle.ror_text.specs.Lines.{numbered_lines, line_count, has_control, word_at}
 use Rattle.ror_text.specs.Reading.{◌>>=◌, refuse, read_all}
 use Rattle.ror_session.specs.Command.{command_of}
-use Rattle.ror_session.specs.Grammar.{LineWords, word_at}
+use Rattle.ror_session.specs.Grammar.{LineWords}
 use Rattle.ror_session.specs.declared.limits.TheConstants.{MOST_DESKS, MOST_DESK_NAME_BYTES, MOST_LINES}
 use Rattle.ror_session.specs.declared.reading.Draft.{Draft}
 use Rattle.ror_session.specs.declared.reading.Said.{Said}

@@ -4,27 +4,15 @@ ghost use Rattle.std.specs.Prelude.{◌≡◌, ◌<◌, ◌^◌, map, drop, IfOk
 ghost use Rattle.std.specs.List.{AllByRecursion};
 ghost use Rattle.std.specs.Str.{IsUtf8};
 ghost use Rattle.ror_text.specs.Reading.{Gives};
-ghost use Rattle.ror_session.specs.Grammar as grammar;
 ghost use Rattle.ror_session.specs.Command.{session_fault};
 ghost use Rattle.ror_session.specs.Command as spec;
 
 use crate::session::{Asked, Command, Named, NamedPair, SessionFault};
 use ror_text::Text;
+use ror_text::lines::word_at;
 use ror_text::numbers::read_count;
 use ror_text::reading::{need, refuse_if};
 use std::alloc::{AllocError, Global};
-
-/// A word of a line, from 0; empty past the last one.
-pub(crate) fn word_at<'a>(words: &[&'a [u8]], i: usize) -> &'a [u8]
-    requires utf8 { AllByRecursion IsUtf8 (map (λ word. word.now) words.now) }
-    ensures word { result.now ≡ grammar.word_at (map (λ word. word.now) words.now) i }
-    ensures utf8 { IsUtf8 result.now }
-{
-    match words.get(i) {
-        Some(word) => word,
-        None => &[],
-    }
-}
 
 /// The words after the first few.
 pub(crate) fn words_after<'a, 'b>(words: &'b [&'a [u8]], count: usize) -> &'b [&'a [u8]]

@@ -12,10 +12,10 @@ ghost use Rattle.ror_session.specs.Session as spec;
 ghost use Rattle.ror_session.specs.Session.{contents, add_line, empty_session, session_of};
 ghost use Rattle.ror_session.specs.Sound.{IsSound};
 
-use crate::command::{read_command, text_of, word_at, words_after};
+use crate::command::{read_command, text_of, words_after};
 use crate::limits::{MOST_DESK_NAME_BYTES, MOST_DESKS, MOST_LINES};
 use crate::session::{Command, Line, Session, SessionFault};
-use ror_text::lines::{MOST_TEXT_BYTES, has_control, is_utf8, line_count, next_line};
+use ror_text::lines::{MOST_TEXT_BYTES, has_control, is_utf8, line_count, next_line, word_at};
 use ror_text::reading::refuse_if;
 use ror_text::{Items, Text};
 use std::alloc::Global;

@@ -9,7 +9,7 @@ use Rattle.std.proofs.lemmas.List.Folds.{list_any_none}
 use Rattle.std.proofs.lemmas.Str.{IsUtf8-from_is_utf8}
 use Rattle.ror_text.specs.declared.lines.TheConstants.{MOST_TEXT_BYTES}
 use Rattle.ror_text.specs.Ids.{IsId}
-use Rattle.ror_text.specs.Lines.{numbered_lines, bad_utf8_line}
+use Rattle.ror_text.specs.Lines.{numbered_lines, bad_utf8_line, word_at}
 use Rattle.ror_text.specs.Reading.{◌>>=◌, refuse, read_all}
 use Rattle.ror_text.proofs.ReadingLemmas.{bind_ok, read_all-append}
 use Rattle.ror_table.specs.declared.fault.TableFault.{TableFault}
@@ -20,7 +20,7 @@ use Rattle.ror_table.specs.Draft.{IsDraft, empty_table, has_id, finished}
 use Rattle.ror_table.specs.Plain.{at_line, is_head, is_past_criteria, body_line, after_head, plain_table}
 use Rattle.ror_table.specs.declared.limits.TheConstants.{MOST_ALTERNATIVES, MOST_CLASSES, MOST_CRITERIA, MOST_STEPS}
 use Rattle.ror_table.specs.LineFaults.{IsEarly}
-use Rattle.ror_table.specs.Grammar.{word_at, LineWords, criterion_words, WritesClasses, WritesAlternative, WritesTable, IsPlainText}
+use Rattle.ror_table.specs.Grammar.{LineWords, criterion_words, WritesClasses, WritesAlternative, WritesTable, IsPlainText}
 use Rattle.ror_table.specs.Faults.{HasRead}
 use Rattle.ror_table.proofs.DraftLemmas.{table, IsDraft-add_criterion, IsDraft-add_alternative}
 use Rattle.ror_table.proofs.IndexLemmas.{IsTable-from_tests}

@@ -7,7 +7,7 @@ use Rattle.std.proofs.lemmas.Bool.{cases_order, ltb-true, ltb-false, le-ltb, leb
 use Rattle.std.proofs.lemmas.Map.Made.{is_member-Decides}
 use Rattle.std.proofs.lemmas.Slice.Eq.{bytes_eq-Decides}
 use Rattle.ror_text.specs.Ids.{is_id}
-use Rattle.ror_text.specs.Lines.{has_control}
+use Rattle.ror_text.specs.Lines.{has_control, word_at}
 use Rattle.ror_text.specs.Numbers.{count_of}
 use Rattle.ror_text.specs.Reading.{◌>>=◌, refuse, need}
 use Rattle.ror_table.specs.declared.direction.Direction.{Direction}
@@ -20,7 +20,7 @@ use Rattle.ror_table.specs.declared.limits.TheConstants.{MOST_ALTERNATIVES, MOST
 use Rattle.ror_table.specs.Table.{DecisionTable, criterion_ids, alternative_ids}
 use Rattle.ror_table.specs.Draft.{has_id, add_criterion, add_alternative, with_criterion}
 use Rattle.ror_table.specs.Plain.{at_line, direction_of, performances_of, is_past_criteria, criterion_line, classes_line, alternative_line, known_line, body_line}
-use Rattle.ror_table.specs.Grammar.{LineWords, word_at}
+use Rattle.ror_table.specs.Grammar.{LineWords}
 use Rattle.ror_table.specs.LineFaults.{IsNamed, IsEarly, IsCriterionLine, IsClassesLine, IsAlternativeLine, HasForm, ArePerformances, FailsLine, line_stage, IsFirstOfLine}
 use Rattle.ror_table.proofs.GrammarLemmas.{is_early}
 use Rattle.ror_table.proofs.LineSteps.{Adds, body_line_adds, is_word, two_words, three_words, two_and_more, direction_of_word, direction_of-direction_word, are_written, written_are, length-written, after_refuse}

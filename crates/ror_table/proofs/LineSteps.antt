@@ -1,5 +1,5 @@
 -- What one more line adds to a table, in the words of the grammar, and that reading a line is adding it.
-use Rattle.std.proofs.Common.{◌≡◌, ℕ, ◌+◌, ◌<◌, ◌≤◌, Bool, true, false, not, cond, eqb, ltb, leb, ◌&&◌, ◌||◌, List, [], ◌∷◌, length, drop, Option, Some, None, Result, Ok, Err, ℤ, pos, zero, suc, All, refl, sym, ap, subst, ◌∙◌, arith}
+use Rattle.std.proofs.Common.{◌≡◌, ℕ, ◌+◌, ◌<◌, ◌≤◌, Bool, true, false, not, cond, eqb, ltb, leb, ◌&&◌, ◌||◌, List, [], ◌∷◌, length, drop, Option, Some, None, Result, Ok, Err, ℤ, pos, suc, All, refl, sym, ap, subst, ◌∙◌, arith}
 use Rattle.std.specs.Prelude.{◌≢◌, ◌^◌, unsigned_abs, codes}
 use Rattle.std.specs.List.{AllZip, list_any}
 use Rattle.std.specs.Option.{option_map, option_and_then}
@@ -9,12 +9,12 @@ use Rattle.std.proofs.lemmas.List.{length-drop}
 use Rattle.std.proofs.lemmas.Bool.{ltb-false, leb-true, le-ltb, leb-false, lt-leb, eqb-true, eqb-false, ne_eqb, and_parts, not-false}
 use Rattle.std.proofs.lemmas.Slice.Eq.{bytes_eq-Decides}
 use Rattle.ror_text.specs.Ids.{is_id, IsId}
-use Rattle.ror_text.specs.Lines.{has_control, is_control}
-use Rattle.ror_text.specs.Numbers.{read_performance, count_of, digits_up_to, is_digits, digits_number, negative}
-use Rattle.ror_text.proofs.Digits.{up_to_small}
+use Rattle.ror_text.specs.Lines.{has_control, is_control, word_at}
+use Rattle.ror_text.specs.Numbers.{read_performance, count_of, digits_up_to, is_digits, negative}
 use Rattle.std.proofs.lemmas.List.Elements.{All-cons}
 use Rattle.ror_text.specs.Reading.{◌>>=◌, refuse, need}
 use Rattle.ror_text.proofs.IdLemmas.{IsId-form}
+use Rattle.ror_text.proofs.NumberLemmas.{read_performance-small}
 use Rattle.ror_table.specs.declared.direction.Direction.{Direction}
 use Rattle.ror_table.specs.declared.direction.Direction.TheVariants.{Max, Min}
 use Rattle.ror_table.specs.declared.fault.TableFault.{TableFault}
@@ -24,7 +24,7 @@ use Rattle.ror_table.specs.declared.limits.TheConstants.{MOST_ALTERNATIVES, MOST
 use Rattle.ror_table.specs.Table.{Criterion, Alternative, DecisionTable, criterion_ids, alternative_ids}
 use Rattle.ror_table.specs.Draft.{has_id, add_criterion, add_alternative, with_criterion}
 use Rattle.ror_table.specs.Plain.{at_line, direction_of, performances_of, is_past_criteria, criterion_line, classes_line, alternative_line, known_line, body_line}
-use Rattle.ror_table.specs.Grammar.{word_at, LineWords, direction_word, criterion_words, WritesAlternative}
+use Rattle.ror_table.specs.Grammar.{LineWords, direction_word, criterion_words, WritesAlternative}
 
 -- ---- what a line adds
 
@@ -187,42 +187,11 @@ direction_visible Min = refl
 
 -- ---- performances are bounded
 
-given_is : (b : Bool) (m n : ℕ) → cond b (Some m) None ≡ Some n → m ≡ n
-given_is true m n h = cc
-given_is false m n h = absurd cc
-
-up_to_below : (most : ℕ) (word : List ℕ) (n : ℕ) → digits_up_to most word ≡ Some n → n < 10 ^ most
-up_to_below most word n h =
-    let tests = and_parts (is_digits word) (leb (length word) most) (given (is_digits word && leb (length word) most) (digits_number word) n h) in
-    let is : digits_number word ≡ n = given_is (is_digits word && leb (length word) most) (digits_number word) n h in
-    subst (λ m. m < 10 ^ most) is (up_to_small most word (leb-true (length word) most tests.1) tests.0)
-
-abs_negative : (n : ℕ) → unsigned_abs (negative n) ≡ n
-abs_negative zero = refl
-abs_negative (suc n) = refl
-
-sign_bounded : (sign : ℕ) (digits : List ℕ) (p : ℤ) (plus minus : Bool)
-    → cond plus (option_map pos (digits_up_to 18 digits)) (cond minus (option_map negative (digits_up_to 18 digits)) (option_map pos (digits_up_to 18 (sign ∷ digits)))) ≡ Some p → unsigned_abs p < 10 ^ 18
-sign_bounded sign digits p true minus h =
-    let n = mapped pos (digits_up_to 18 digits) p h in
-    subst (λ z. unsigned_abs z < 10 ^ 18) n.2 (up_to_below 18 digits n.0 n.1)
-sign_bounded sign digits p false true h =
-    let n = mapped negative (digits_up_to 18 digits) p h in
-    subst (λ z. unsigned_abs z < 10 ^ 18) n.2 (rw (abs_negative n.0) (up_to_below 18 digits n.0 n.1))
-sign_bounded sign digits p false false h =
-    let n = mapped pos (digits_up_to 18 (sign ∷ digits)) p h in
-    subst (λ z. unsigned_abs z < 10 ^ 18) n.2 (up_to_below 18 (sign ∷ digits) n.0 n.1)
-
-performance_bounded : (word : List ℕ) (p : ℤ) → read_performance word ≡ Some p → unsigned_abs p < 10 ^ 18
-unfolding read_performance
-performance_bounded [] p h = absurd cc
-performance_bounded (sign ∷ digits) p h = sign_bounded sign digits p (eqb sign 43) (eqb sign 45) h
-
 pub written_bounded : (words : LineWords) (ps : List ℤ) → AreWritten words ps → All (λ p. unsigned_abs p < 10 ^ 18) ps
 written_bounded [] [] h = λ k d lt. absurd (omega arith)
 written_bounded [] (p ∷ ps) h = absurd h
 written_bounded (word ∷ words) [] h = absurd h
-written_bounded (word ∷ words) (p ∷ ps) h = All-cons (λ x. unsigned_abs x < 10 ^ 18) p ps (performance_bounded word p h.0) (written_bounded words ps h.1)
+written_bounded (word ∷ words) (p ∷ ps) h = All-cons (λ x. unsigned_abs x < 10 ^ 18) p ps (read_performance-small word p h.0) (written_bounded words ps h.1)
 
 -- ---- a line of criteria
 

@@ -1,5 +1,5 @@
 -- The grammar of a plain table: which lines write which table.
-use Rattle.std.specs.Prelude.{◌≡◌, ℕ, ◌<◌, ◌≤◌, List, [], ◌∷◌, ◌++◌, length, map, codes, slice_index_or, Some}
+use Rattle.std.specs.Prelude.{◌≡◌, ℕ, ◌<◌, ◌≤◌, List, [], ◌∷◌, ◌++◌, length, map, codes, Some}
 use Rattle.std.specs.List.{AllZip}
 use Rattle.std.specs.Str.{IsUtf8}
 use Rattle.ror_text.specs.declared.lines.TheConstants.{MOST_TEXT_BYTES}
@@ -12,10 +12,6 @@ use Rattle.ror_table.specs.Table.{Criterion, Alternative, DecisionTable, IsTable
 -- a line is its words
 abbrev pub LineWords : Type 0
 LineWords = List (List ℕ)
-
--- a line's word, from 0; past the last word it is empty
-abbrev pub word_at : LineWords → ℕ → List ℕ
-word_at line i = slice_index_or line i []
 
 abbrev pub direction_word : Direction → List ℕ
 direction_word Max = codes "max"

@@ -3,14 +3,14 @@ use Rattle.std.specs.Prelude.{◌≡◌, ◌⊎◌, ℕ, ◌+◌, ◌<◌, ◌�
 use Rattle.std.specs.List.{AllZip}
 use Rattle.ror_text.specs.FirstFault.{IsFirst}
 use Rattle.ror_text.specs.Ids.{IsId}
-use Rattle.ror_text.specs.Lines.{has_control}
+use Rattle.ror_text.specs.Lines.{has_control, word_at}
 use Rattle.ror_text.specs.Numbers.{read_performance, count_of}
 use Rattle.ror_table.specs.declared.fault.What.TheVariants.{Alternatives, Criteria, Classes}
 use Rattle.ror_table.specs.declared.fault.TableKind.{TableKind}
 use Rattle.ror_table.specs.declared.fault.TableKind.TheVariants.{BadLine, RepeatedId, MissingPerformance, BadNumber, TooMany}
 use Rattle.ror_table.specs.declared.limits.TheConstants.{MOST_ALTERNATIVES, MOST_CLASSES, MOST_CRITERIA}
 use Rattle.ror_table.specs.Table.{Criterion, DecisionTable, criterion_ids, alternative_ids}
-use Rattle.ror_table.specs.Grammar.{LineWords, word_at, criterion_words}
+use Rattle.ror_table.specs.Grammar.{LineWords, criterion_words}
 
 -- what the line begins with
 abbrev pub IsNamed : List ℕ → LineWords → Type 0

@@ -3,7 +3,7 @@ use Rattle.std.specs.Prelude.{ℕ, ◌+◌, Bool, not, ◌&&◌, ◌||◌, ◌==
 use Rattle.std.specs.Option.{option_map, option_and_then}
 use Rattle.std.specs.Str.{bytes_eq, is_utf8}
 use Rattle.ror_text.specs.declared.lines.TheConstants.{MOST_TEXT_BYTES}
-use Rattle.ror_text.specs.Lines.{has_control, numbered_lines, bad_utf8_line}
+use Rattle.ror_text.specs.Lines.{has_control, numbered_lines, bad_utf8_line, word_at}
 use Rattle.ror_text.specs.Numbers.{read_performance, count_of}
 use Rattle.ror_text.specs.Reading.{◌>>=◌, refuse, need, read_all}
 use Rattle.ror_table.specs.declared.limits.TheConstants.{MOST_CLASSES}
@@ -16,7 +16,6 @@ use Rattle.ror_table.specs.declared.fault.TableFault.{TableFault}
 use Rattle.ror_table.specs.declared.fault.TableError.{TableError}
 use Rattle.ror_table.specs.declared.fault.TableError.TheVariants as errors
 use Rattle.ror_table.specs.Table.{DecisionTable, alternative_ids}
-use Rattle.ror_table.specs.Grammar.{word_at}
 use Rattle.ror_table.specs.Draft.{empty_table, free_id, with_criterion, place_alternative, finished}
 
 -- the fault that an error names: none for want of memory

@@ -9,7 +9,6 @@ ghost use Rattle.ror_table.specs.declared.fault.TableKind.TheVariants.{NotUtf8, 
 ghost use Rattle.ror_table.specs.declared.fault.What.TheVariants.{Steps};
 ghost use Rattle.ror_table.specs.Draft.{finished};
 ghost use Rattle.ror_table.specs.Table.{IsTable};
-ghost use Rattle.ror_table.specs.Grammar.{word_at};
 ghost use Rattle.ror_table.specs.Plain as spec;
 ghost use Rattle.ror_table.specs.Plain.{table_fault, at_line, body_line, after_head, plain_table};
 
@@ -19,7 +18,7 @@ use crate::fault::{DraftFault, TableError, TableFault, TableKind, What};
 use crate::limits::{MOST_ALTERNATIVES, MOST_CLASSES, MOST_CRITERIA};
 use crate::table::Table;
 use ror_text::ids::id_text;
-use ror_text::lines::{MOST_TEXT_BYTES, bad_utf8_line, has_control, next_line};
+use ror_text::lines::{MOST_TEXT_BYTES, bad_utf8_line, has_control, next_line, word_at};
 use ror_text::numbers::{read_count, read_performance};
 use ror_text::reading::{need, refuse_if};
 use std::alloc::{AllocError, Global};
@@ -28,16 +27,6 @@ fn fault(kind: TableKind, line: u32) -> TableError
     ensures { result ≡ TableError.Bad (at_line line kind) }
 {
     TableError::Bad(TableFault { kind, line })
-}
-
-/// A word of a line, empty past the last one.
-fn word_at<'a>(words: &[&'a [u8]], i: usize) -> &'a [u8]
-    ensures { result.now ≡ word_at (map (λ word. word.now) words.now) i }
-{
-    match words.get(i) {
-        Some(word) => word,
-        None => &[],
-    }
 }
 
 fn direction_of(word: &[u8]) -> Option<Direction>

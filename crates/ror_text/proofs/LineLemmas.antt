@@ -1,9 +1,9 @@
--- The first line of a text, and those after it.
-use Rattle.std.proofs.Common.{◌≡◌, ℕ, zero, suc, ◌<◌, ◌≤◌, Bool, true, false, not, ltb, filter, ◌+◌, List, [], ◌∷◌, length, drop, Some, None, refl, sym, ap, ◌∙◌, arith, inl, inr}
+-- The first line of a text, and those after it, and the words of a line.
+use Rattle.std.proofs.Common.{get_or, subst, ◌≡◌, ℕ, zero, suc, ◌<◌, ◌≤◌, Bool, true, false, not, ltb, filter, ◌+◌, List, [], ◌∷◌, length, drop, Some, None, refl, sym, ap, ◌∙◌, arith, inl, inr}
 use Rattle.std.specs.Prelude.{◌⊎◌, ◌==◌, Result, Ok, Err, MatchResult, is_ok, map}
-use Rattle.std.specs.List.{slice_split, enumerate_from, list_any, position_or_len, before_first, after_first}
+use Rattle.std.specs.List.{AllByRecursion, slice_split, enumerate_from, list_any, position_or_len, before_first, after_first}
 use Rattle.std.specs.Str.{IsUtf8, is_utf8}
-use Rattle.std.proofs.lemmas.Str.{IsUtf8-from_is_utf8, is_utf8-from_IsUtf8}
+use Rattle.std.proofs.lemmas.Str.{IsUtf8-from_is_utf8, is_utf8-from_IsUtf8, IsUtf8-nil}
 use Rattle.std.specs.Str.Lines.{lines, lines_of_parts, strip_carriage_return}
 use Rattle.std.proofs.lemmas.Bool.{cases_Bool, ltb-true, ltb-false, ne_eqb, false_from_ne_true, cond-true, cond-false, not_from_true, not_from_false}
 use Rattle.std.proofs.lemmas.List.{drop_all}
@@ -99,3 +99,14 @@ pub numbered_lines_from-line : (n : ℕ) (bytes line rest : List ℕ) → lines 
 numbered_lines_from-line n bytes line rest e kept =
     ap (λ (ls : List (List ℕ)). filter (λ (l : ℕ × List (List ℕ)). not (is_passed_over l.1)) (enumerate_from n (map words ls))) e
     ∙ cond-true (not (is_passed_over (words line))) ((n, words line) ∷ numbered_lines_from (n + 1) rest) (numbered_lines_from (n + 1) rest) (not_from_false _ kept)
+
+-- ---- words
+
+-- a word of words of UTF-8; past the last one it is empty
+pub utf8_word : (ws : List (List ℕ)) (i : ℕ) (word : List ℕ) → AllByRecursion IsUtf8 ws → word ≡ get_or ws i [] → IsUtf8 word
+utf8_word ws i word utf8 is = subst IsUtf8 (sym is) (at ws i utf8)
+  where
+    at : (ws : List (List ℕ)) (i : ℕ) → AllByRecursion IsUtf8 ws → IsUtf8 (get_or ws i [])
+    at [] i h = IsUtf8-nil
+    at (w ∷ ws) zero h = h.0
+    at (w ∷ ws) (suc i) h = at ws i h.1

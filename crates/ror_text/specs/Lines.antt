@@ -1,5 +1,5 @@
 -- The lines of a text, and the words of a line.
-use Rattle.std.specs.Prelude.{ℕ, ◌+◌, Bool, true, not, ◌||◌, List, [], ◌∷◌, length, take, map, filter, slice_index, count_by, nat_lt, ◌==◌}
+use Rattle.std.specs.Prelude.{ℕ, ◌+◌, Bool, true, not, ◌||◌, List, [], ◌∷◌, length, take, map, filter, slice_index, slice_index_or, count_by, nat_lt, ◌==◌}
 use Rattle.std.specs.List.{slice_split, list_any, enumerate_from, position_or_len}
 use Rattle.std.specs.Str.Lines.{lines}
 use Rattle.std.specs.Str.Lossy.{utf8_valid_len}
@@ -20,6 +20,10 @@ is_blank byte = byte == 32 || byte == 9
 -- the parts between blanks that are not empty
 abbrev pub words : List ℕ → List (List ℕ)
 words line = filter (λ word. not (length word == 0)) (slice_split is_blank line)
+
+-- a line's word, from 0; past the last word it is empty
+abbrev pub word_at : List (List ℕ) → ℕ → List ℕ
+word_at ws i = slice_index_or ws i []
 
 -- the line is passed over: it has no words, or its first word begins with `#`
 abbrev pub is_passed_over : List (List ℕ) → Bool

@@ -1,7 +1,7 @@
 //! The lines of a text, and the words of a line.
 
 ghost use Rattle.std.specs.Prelude.{◌≡◌, ◌+◌, ◌-◌, ◌^◌, ◌<◌, ◌≤◌, [], ◌∷◌, length, map, drop, IfOk, IfSome, MatchOption, position};
-ghost use Rattle.std.specs.List.{list_any};
+ghost use Rattle.std.specs.List.{AllByRecursion, list_any};
 ghost use Rattle.std.specs.Str.{IsUtf8, is_utf8};
 ghost use Rattle.std.specs.Str.Lines.{lines, strip_carriage_return};
 ghost use Rattle.ror_text.specs.Lines as spec;
@@ -12,6 +12,17 @@ use std::alloc::{AllocError, Global};
 
 /// The greatest length of the text of a table or a session, in bytes.
 pub const MOST_TEXT_BYTES: usize = 16_777_216;
+
+/// A word of a line, from 0; empty past the last one.
+pub fn word_at<'a>(words: &[&'a [u8]], i: usize) -> &'a [u8]
+    ensures word { result.now ≡ spec.word_at (map (λ word. word.now) words.now) i }
+    ensures utf8 { AllByRecursion IsUtf8 (map (λ word. word.now) words.now) → IsUtf8 result.now }
+{
+    match words.get(i) {
+        Some(word) => word,
+        None => &[],
+    }
+}
 
 /// Whether a word has a byte below 0x21 or 0x7F.
 pub(crate) fn has_control_byte(word: &[u8]) -> bool
