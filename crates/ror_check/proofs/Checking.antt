@@ -46,7 +46,7 @@ use Rattle.ror_check.specs.Steps.{IsAcceptedFor, AreUsable, systems_with, AreSho
 -- ---- the systems
 
 -- few extra rows, each of names of the table
-abbrev AreFewNamed : DecisionTable → List Comparison → Type 0
+abbrev pub AreFewNamed : DecisionTable → List Comparison → Type 0
 AreFewNamed t cs = (length cs ≤ MOST_STATEMENTS) × AllByRecursion (λ c. IsNamedIn t c.form) cs
 
 pub length-map' : {X Y : Type 0} (f : X → Y) (xs : List X) → length (map f xs) ≡ length xs
@@ -69,10 +69,11 @@ few_named_for t Plain es few named = tt
 few_named_for t Any es few named = let e = length-map' comparison_of_extra es in ((omega (arith, e, few), (all-map (λ c. IsNamedIn t c.form) comparison_of_extra es).0 named), tt)
 few_named_for t Every es few named = negations_named t es named
 
+pub named_systems : (t : DecisionTable) (list : List Statement) (q : Question) → IsLawfulIn t list → IsAskedIn t q → AllByRecursion (AreFewNamed t) (systems_of_question list q)
+named_systems t list q lawful asked = few_named_for t (kind_of q) (conditions_of list (property_of q)) (conditions_few t list (property_of q) lawful) (conditions_named t list (property_of q) lawful asked)
+
 pub systems_usable : (t : DecisionTable) (list : List Statement) (vs : List (SmallVec Extra)) (q : Question) → map extras_of vs ≡ systems_of_question list q → IsLawfulIn t list → IsAskedIn t q → AllByRecursion (AreUsable t) vs
-systems_usable t list vs q e lawful asked =
-    let named : AllByRecursion (AreFewNamed t) (systems_of_question list q) = few_named_for t (kind_of q) (conditions_of list (property_of q)) (conditions_few t list (property_of q) lawful) (conditions_named t list (property_of q) lawful asked) in
-    usable_all t vs (rw e named)
+systems_usable t list vs q e lawful asked = usable_all t vs (rw e (named_systems t list q lawful asked))
 
 -- the systems that are checked are those of the question
 systems_with-map : (t : DecisionTable) (list : List Statement) (s : LinearSystem) (vs : List (SmallVec Extra)) → s ≡ base_system t list → systems_with t s vs ≡ map (system_for t list) (map extras_of vs)
@@ -204,16 +205,19 @@ all_shown side systems (p ∷ parts) kinds h =
 pub length-numbered : (count : ℕ) (parts : List Part) → map (λ p. p.at) parts ≡ range_with_len 1 count → length parts ≡ count
 length-numbered count parts e = sym (length-map' (λ (p : Part). p.at) parts) ∙ ap length e ∙ length-range_with_len 1 count
 
-pub few_by : (k : QuestionKind) (es : List Extra) → length es ≤ MOST_STATEMENTS → length (systems_by k es) ≤ MOST_STATEMENTS
+few_by : (k : QuestionKind) (es : List Extra) → length es ≤ MOST_STATEMENTS → length (systems_by k es) ≤ MOST_STATEMENTS
 few_by Plain es few = omega arith
 few_by Any es few = omega arith
 few_by Every es few = omega (arith, length-map' (λ (e : Extra). negation_of e ∷ []) es, few)
 
-pub few_systems : (t : DecisionTable) (list : List Statement) (vs : List (SmallVec Extra)) (q : Question) → map extras_of vs ≡ systems_of_question list q → IsLawfulIn t list → length vs ≤ MOST_STATEMENTS
-few_systems t list vs q e lawful =
+pub few_of_question : (t : DecisionTable) (list : List Statement) (q : Question) → IsLawfulIn t list → length (systems_of_question list q) ≤ MOST_STATEMENTS
+few_of_question t list q lawful =
     let es = conditions_of list (property_of q) in
     let few = few_by (kind_of q) es (conditions_few t list (property_of q) lawful) in
-    omega (arith, length-map' extras_of vs, ap length e, length-map' (map comparison_of_extra) (systems_by (kind_of q) es), few)
+    omega (arith, length-map' (map comparison_of_extra) (systems_by (kind_of q) es), few)
+
+pub few_systems : (t : DecisionTable) (list : List Statement) (vs : List (SmallVec Extra)) (q : Question) → map extras_of vs ≡ systems_of_question list q → IsLawfulIn t list → length vs ≤ MOST_STATEMENTS
+few_systems t list vs q e lawful = let few = few_of_question t list q lawful in omega (arith, length-map' extras_of vs, ap length e, few)
 
 pub as_many : (list : List Statement) (vs : List (SmallVec Extra)) (q : Question) → map extras_of vs ≡ systems_of_question list q → length vs ≡ length (systems_of_question list q)
 as_many list vs q e = sym (length-map' extras_of vs) ∙ ap length e

@@ -24,8 +24,7 @@ use Rattle.ror_pivot.proofs.StartLemmas.{starts, tableau_at}
 use Rattle.ror_pivot.proofs.PathLemmas.{pivots_of_path, path_more}
 use Rattle.ror_pivot.proofs.NoteLemmas.{named_placed, starting_places, pivot_places, feasible_places, infeasible_places, path_places}
 use Rattle.ror_check.specs.Proof.{question_systems_of}
-use Rattle.ror_relation.specs.Decisions.{AreUsable}
-use Rattle.ror_relation.proofs.Usable.{usable_systems}
+use Rattle.ror_check.proofs.Checking.{AreFewNamed, named_systems}
 
 -- ---- of a well formed system
 
@@ -83,7 +82,7 @@ module _ (t : DecisionTable) (list : List Statement) (table : IsTable t) (lawful
       } in
       subst IsWellFormed (extended_is t list es base (extended_by t base es) refl refl) formed
 
-  usable_formed : (extra : List Extra) → AreUsable t (map comparison_of_extra extra) → IsWellFormed (system_for t list (map comparison_of_extra extra))
+  usable_formed : (extra : List Extra) → AreFewNamed t (map comparison_of_extra extra) → IsWellFormed (system_for t list (map comparison_of_extra extra))
   usable_formed extra usable =
       let few = usable.0 in
       well_formed extra (omega (arith, length-map extra comparison_of_extra, few)) ((all-map (λ c. IsNamedIn t c.form) comparison_of_extra extra).1 usable.1)
@@ -91,6 +90,6 @@ module _ (t : DecisionTable) (list : List Statement) (table : IsTable t) (lawful
   pub systems_formed : (q : Question) → IsAskedIn t q → AllByRecursion IsWellFormed (question_systems_of t list q)
   systems_formed q asked =
       let extras = systems_by (kind_of q) (conditions_of list (property_of q)) in
-      let usable = (all-map (AreUsable t) (map comparison_of_extra) extras).1 (usable_systems t list q lawful asked) in
-      let formed = all-by (λ extra. AreUsable t (map comparison_of_extra extra)) (λ extra. IsWellFormed (system_for t list (map comparison_of_extra extra))) extras usable_formed usable in
+      let usable = (all-map (AreFewNamed t) (map comparison_of_extra) extras).1 (named_systems t list q lawful asked) in
+      let formed = all-by (λ extra. AreFewNamed t (map comparison_of_extra extra)) (λ extra. IsWellFormed (system_for t list (map comparison_of_extra extra))) extras usable_formed usable in
       (all-map IsWellFormed (system_for t list) (map (map comparison_of_extra) extras)).0 ((all-map (λ (cs : List Comparison). IsWellFormed (system_for t list cs)) (map comparison_of_extra) extras).0 formed)

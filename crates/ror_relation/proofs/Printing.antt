@@ -36,9 +36,9 @@ use Rattle.ror_proof.specs.declared.answer.Verdict.TheVariants as verdicts
 use Rattle.ror_proof.specs.declared.answer.Answer.{Answer}
 use Rattle.ror_proof.specs.Text as text
 use Rattle.ror_check.specs.Proof.{base_system, question_systems_of, part_side, Proves, ShowsOfItsSystem, IsWideAt, IsAllowedVerdict}
+use Rattle.ror_check.proofs.Checking.{few_of_question}
 use Rattle.ror_relation.specs.Wide.{HasNoteAt, pivots_of, place_of}
 use Rattle.ror_relation.specs.Answers.{IsCertificateWithin, IsProofWithin, IsVerdictWithin, IsGiven}
-use Rattle.ror_relation.proofs.Usable.{few_systems}
 use Rattle.ror_relation.proofs.NoteBounds.{note_within, well_formed, systems_formed}
 
 most_within : (bits : Bits) → most_of bits < sum_limit
@@ -122,19 +122,19 @@ words t (properties.InClass a h) table within =
     (within.0, omega arith)
 
 module _ (bits : Bits) (t : DecisionTable) (list : List Statement) (q : Question) (table : IsTable t) (lawful : IsLawfulIn t list) (asked : IsAskedIn t q) where
-  few_of_question : length (question_systems_of t list q) ≤ MOST_STATEMENTS
-  few_of_question = let few = few_systems t list q lawful in omega (arith, length-map (systems_of_question list q) (system_for t list))
+  few_numbered : length (question_systems_of t list q) ≤ MOST_STATEMENTS
+  few_numbered = let few = few_of_question t list q lawful in omega (arith, length-map (systems_of_question list q) (system_for t list))
 
   proof_printable : (c : Conclusion) (x : Proof) → Proves t list q c x → IsProofWithin (most_of bits) x → text.IsPrintableProof x
   proof_printable c x proves within =
       let narrow = proof bits x within in
-      record { base = narrow.0; parts = parts_printable (kind_of q) c (question_systems_of t list q) x.parts few_of_question proves.parts narrow.1 }
+      record { base = narrow.0; parts = parts_printable (kind_of q) c (question_systems_of t list q) x.parts few_numbered proves.parts narrow.1 }
 
   wide_printable : (number : ℕ) (note : WideText) → IsWideAt (HasNoteAt (most_of bits)) t list q number note → text.IsPrintableNote number note
   wide_printable zero note noted = note_printable (most_of bits) 0 (base_system t list) note (omega arith) (well_formed t list table lawful [] (omega arith) tt) noted
   wide_printable (suc before) note after =
       let within = slice_get_within (question_systems_of t list q) before after.system after.there in
-      let few = few_of_question in
+      let few = few_numbered in
       let formed = all_at IsWellFormed (question_systems_of t list q) before after.system (systems_formed t list table lawful q asked) after.there in
       note_printable (most_of bits) (suc before) after.system note (omega arith) formed after.noted
 

@@ -1,30 +1,29 @@
 -- What each step of a search leaves to the next.
-use Rattle.std.proofs.Common.{◌≡◌, ℕ, zero, suc, ◌+◌, ◌<◌, ◌≤◌, List, [], ◌∷◌, ◌++◌, length, map, get_or, Some, refl, sym, ap, subst, ◌∙◌, arith, inl, inr}
+use Rattle.std.proofs.Common.{◌≡◌, ℕ, zero, suc, ◌+◌, ◌<◌, List, [], ◌∷◌, ◌++◌, length, map, get_or, Some, refl, sym, ap, subst, ◌∙◌, arith, inl, inr}
 use Rattle.std.proofs.lemmas.Bool.{cases_lt}
-use Rattle.std.proofs.lemmas.List.{map-append, length-map}
+use Rattle.std.proofs.lemmas.List.{map-append}
 use Rattle.std.proofs.lemmas.Option.{slice_get_read}
 use Rattle.std.specs.Prelude.{slice_get}
-use Rattle.std.specs.List.{AllByRecursion, range_with_len}
-use Rattle.smallvec.specs.SmallVec.{SmallVec}
-use Rattle.ror_text.proofs.Everywhere.{all-append, all-map, all_at}
+use Rattle.std.specs.List.{AllByRecursion}
 use Rattle.ror_text.proofs.ListLemmas.{range_more}
+use Rattle.smallvec.specs.SmallVec.{SmallVec}
+use Rattle.ror_text.proofs.Everywhere.{all-append, all_at}
 use Rattle.ror_statement.specs.declared.question.Conclusion.{Conclusion}
 use Rattle.ror_statement.specs.declared.question.Conclusion.TheVariants as conclusions
-use Rattle.ror_statement.specs.declared.row_number.TheConstants.{MOST_STATEMENTS}
 use Rattle.ror_table.specs.Table.{DecisionTable}
 use Rattle.ror_system.specs.System.{LinearSystem, IsSolvable}
 use Rattle.ror_system.specs.declared.accept.Multipliers.{Multipliers}
 use Rattle.ror_system.proofs.Motzkin.{not_both}
-use Rattle.ror_value.specs.Over.{IsNamedIn}
 use Rattle.ror_rows.specs.declared.extra.Extra.{Extra}
-use Rattle.ror_rows.specs.Rows.{extended_by, comparison_of_extra, extras_of}
+use Rattle.ror_rows.specs.Rows.{extended_by, extras_of}
 use Rattle.ror_proof.specs.declared.answer.Certificate.{Certificate}
 use Rattle.ror_proof.specs.declared.answer.Certificate.TheVariants as certificates
 use Rattle.ror_proof.specs.declared.answer.Part.{Part}
+use Rattle.ror_check.specs.Steps.{AreUsable}
 use Rattle.ror_proof.specs.declared.answer.WideText.{WideText}
 use Rattle.ror_relation.specs.declared.decision.Decision.{Decision}
 use Rattle.ror_relation.specs.Wide.{HasNoteAt}
-use Rattle.ror_relation.specs.Decisions.{ShowsAsBase, IsDecision, NoneSolvableBelow, IsPartOf, AreRefuted, IsWideSystem, AreUsable}
+use Rattle.ror_relation.specs.Decisions.{ShowsAsBase, IsDecision, NoneSolvableBelow, IsPartOf, AreRefuted, IsWideSystem}
 
 -- ---- the system at hand
 
@@ -41,12 +40,8 @@ system_here t base systems i extra within is =
     at_mapped f (y ∷ ys) zero x there = ap (λ z. Some (f z)) (some_same there)
     at_mapped f (y ∷ ys) (suc i) x there = at_mapped f ys i x there
 
-pub usable_here : (t : DecisionTable) (systems : List (SmallVec Extra)) (i : ℕ) (extra : SmallVec Extra) → AllByRecursion (AreUsable t) (map extras_of systems) → i < length systems → extra ≡ get_or systems i extra
-    → (length extra.items ≤ MOST_STATEMENTS) × AllByRecursion (λ e. IsNamedIn t e.form) extra.items
-usable_here t systems i extra all within is =
-    let usable = all_at (λ e. AreUsable t (extras_of e)) systems i extra ((all-map (AreUsable t) extras_of systems).1 all) (slice_get_read systems (length systems) i extra refl within is) in
-    let few = usable.0 in
-    (omega (arith, length-map extra.items comparison_of_extra, few), (all-map (λ c. IsNamedIn t c.form) comparison_of_extra extra.items).1 usable.1)
+pub usable_here : (t : DecisionTable) (systems : List (SmallVec Extra)) (i : ℕ) (extra : SmallVec Extra) → AllByRecursion (AreUsable t) systems → i < length systems → extra ≡ get_or systems i extra → AreUsable t extra
+usable_here t systems i extra all within is = all_at (AreUsable t) systems i extra all (slice_get_read systems (length systems) i extra refl within is)
 
 -- what the system at hand comes to is what the one that is meant does
 pub decided_as : (most : ℕ) (s meant : LinearSystem) (d found : Decision) → s ≡ meant → d ≡ found → IsDecision most s d → IsDecision most meant found

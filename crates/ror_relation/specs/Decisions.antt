@@ -1,17 +1,14 @@
 -- What is found of one system, and of the systems of a question.
-use Rattle.std.specs.Prelude.{◌≡◌, ℕ, ◌+◌, ◌<◌, ◌≤◌, List, [], ◌∷◌, length, map, slice_get, Some, Result, Ok, Err}
+use Rattle.std.specs.Prelude.{◌≡◌, ℕ, ◌+◌, ◌<◌, List, [], ◌∷◌, length, map, slice_get, Some, Result, Ok, Err}
 use Rattle.std.specs.List.{AllByRecursion, range_with_len}
-use Rattle.ror_statement.specs.declared.comparison.Comparison.{Comparison}
 use Rattle.ror_statement.specs.declared.statement.Statement.{Statement}
 use Rattle.ror_statement.specs.declared.question.Question.{Question}
 use Rattle.ror_statement.specs.declared.question.QuestionKind.{QuestionKind}
 use Rattle.ror_statement.specs.declared.question.QuestionKind.TheVariants.{Any, Every}
 use Rattle.ror_statement.specs.declared.question.Conclusion.{Conclusion}
 use Rattle.ror_statement.specs.declared.question.Conclusion.TheVariants as conclusions
-use Rattle.ror_statement.specs.declared.row_number.TheConstants.{MOST_STATEMENTS}
 use Rattle.ror_table.specs.Table.{DecisionTable}
 use Rattle.ror_system.specs.System.{LinearSystem, IsSolvable}
-use Rattle.ror_value.specs.Over.{IsNamedIn}
 use Rattle.ror_pivot.specs.declared.note.Outcome.{Outcome}
 use Rattle.ror_pivot.specs.declared.note.Outcome.TheVariants.{Feasible, Infeasible}
 use Rattle.ror_pivot.specs.declared.note.SolveFault.{SolveFault}
@@ -102,7 +99,3 @@ pub record IsGivenVerdict (most : ℕ) (t : DecisionTable) (list : List Statemen
   pub allowed : IsAllowedVerdict (HasNoteAt most) t list q v
   pub narrow : IsVerdictWithin most v
   pub true_verdict : IsWideOrTrue t list q v
-
--- at most 200 comparisons, each of what the table has
-abbrev pub AreUsable : DecisionTable → List Comparison → Type 0
-AreUsable t cs = (length cs ≤ MOST_STATEMENTS) × AllByRecursion (λ c. IsNamedIn t c.form) cs

@@ -6,7 +6,8 @@ ghost use Rattle.ror_pivot.specs.Answers.{most_of};
 ghost use Rattle.ror_statement.specs.declared.row_number.TheConstants.{MOST_ROWS, MOST_STATEMENTS};
 ghost use Rattle.ror_table.specs.Table.{columns};
 ghost use Rattle.ror_rows.specs.Rows.{extended_by, extras_of};
-ghost use Rattle.ror_relation.specs.Decisions.{AreUsable, IsSearch};
+ghost use Rattle.ror_check.specs.Steps.{AreUsable};
+ghost use Rattle.ror_relation.specs.Decisions.{IsSearch};
 
 use crate::decision::{Decision, decide_system_warm};
 use ror_pivot::Bits;
@@ -41,7 +42,7 @@ pub(crate) fn first_solvable(
     requires columns { base.now.columns ≡ columns table.now }
     requires rows { length base.now.weak + length base.now.strict ≤ MOST_ROWS }
     requires few { length systems.now ≤ MOST_STATEMENTS }
-    requires usable { AllByRecursion (AreUsable table.now) (map extras_of systems.now) }
+    requires usable { AllByRecursion (AreUsable table.now) systems.now }
     ensures found { IfOk result (IsSearch (most_of bits)
         (map (extended_by table.now base.now) (map extras_of systems.now))) }
     ensures counted { engine.old.pivots ≤ engine.new.pivots }

@@ -1,4 +1,4 @@
-use Rattle.std.proofs.Common.{rules, ◌≤◌, List, length, map, ap, sym, subst}
+use Rattle.std.proofs.Common.{rules, ◌≤◌, List, length, ap, sym, subst}
 use Rattle.std.specs.List.{AllByRecursion}
 use Rattle.smallvec.specs.SmallVec.{SmallVec}
 use Rattle.ror_pivot.specs.Answers.{most_of}
@@ -7,10 +7,10 @@ use Rattle.ror_statement.specs.declared.row_number.TheConstants.{MOST_STATEMENTS
 use Rattle.ror_system.specs.System.{LinearSystem}
 use Rattle.ror_proof.specs.declared.answer.Certificate.TheVariants as certificates
 use Rattle.ror_rows.specs.declared.extra.Extra.{Extra}
-use Rattle.ror_rows.specs.Rows.{extras_of}
 use Rattle.ror_rows.proofs.Extending.{base_few}
-use Rattle.ror_relation.specs.Decisions.{ShowsAsBase, AreUsable}
-use Rattle.ror_relation.proofs.Usable.{usable, few}
+use Rattle.ror_check.specs.Steps.{AreUsable}
+use Rattle.ror_check.proofs.Checking.{systems_usable, few_systems}
+use Rattle.ror_relation.specs.Decisions.{ShowsAsBase}
 use Rattle.ror_relation.proofs.Concluding.{searched, concluded_given}
 use Rattle.ror_relation.proofs.deciding.verdict_over.Goals as goal
 
@@ -22,12 +22,12 @@ first_solvable-requires-clause-rows c = base_few c.args.table.now c.args.list.no
 
 pub first_solvable-requires-clause-few : goal.first_solvable-requires-clause-few
 first_solvable-requires-clause-few c =
-    subst (λ (systems : List (SmallVec Extra)). length systems ≤ MOST_STATEMENTS) (sym c.as_slice.ensures.value) (few c.args.table.now c.args.list.now c.args.question.now c.in_ok-systems.systems.items c.requires.lawful c.in_ok-systems.ensures)
+    subst (λ (systems : List (SmallVec Extra)). length systems ≤ MOST_STATEMENTS) (sym c.as_slice.ensures.value) (few_systems c.args.table.now c.args.list.now c.in_ok-systems.systems.items c.args.question.now c.in_ok-systems.ensures c.requires.lawful)
 
 pub first_solvable-requires-clause-usable : goal.first_solvable-requires-clause-usable
 first_solvable-requires-clause-usable c =
     let t = c.args.table.now in
-    subst (λ (systems : List (SmallVec Extra)). AllByRecursion (AreUsable t) (map extras_of systems)) (sym c.as_slice.ensures.value) (usable t c.args.list.now c.args.question.now c.in_ok-systems.systems.items c.requires.lawful c.requires.asked c.in_ok-systems.ensures)
+    subst (λ (systems : List (SmallVec Extra)). AllByRecursion (AreUsable t) systems) (sym c.as_slice.ensures.value) (systems_usable t c.args.list.now c.in_ok-systems.systems.items c.args.question.now c.in_ok-systems.ensures c.requires.lawful c.requires.asked)
 
 pub returns-clause-given : goal.returns-clause-given
 returns-clause-given c =
