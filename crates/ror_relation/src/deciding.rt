@@ -131,7 +131,7 @@ fn answer_over(
             verdict_over(alloc, engine, table, list, system, solution, question, bits)?
         }
         Decision::NotSolvable(multipliers) => Verdict::Contradiction(Proof {
-            base: Certificate::Multipliers(copied_multipliers(alloc, multipliers)?),
+            base: Certificate::Multipliers(multipliers.copied(alloc)?),
             parts: Items::from(Vec::new(alloc)),
         }),
         Decision::TooWide(note) => Verdict::Wide {
@@ -165,7 +165,7 @@ fn verdict_over(
 {
     let systems = question_systems(alloc, table, list, question)?;
     let search = first_solvable(alloc, engine, table, system, systems.as_slice(), bits)?;
-    let base = Certificate::Solution(copied_solution(alloc, base)?);
+    let base = Certificate::Solution(base.copied(alloc)?);
     concluded(alloc, kind_of(question), base, search)
 }
 
@@ -208,23 +208,4 @@ fn proof(base: Certificate, parts: Vec<Part>) -> Proof
         base,
         parts: Items::from(parts),
     }
-}
-
-/// The same solution again.
-fn copied_solution(alloc: Global, x: &Solution) -> Result<Solution, AllocError>
-    ensures { IfOk result (λ copy. copy ≡ x.now) }
-{
-    Ok(Solution {
-        steps: Items::from(Vec::from_slice(alloc, x.steps.as_slice())?),
-    })
-}
-
-/// The same multipliers again.
-fn copied_multipliers(alloc: Global, m: &Multipliers) -> Result<Multipliers, AllocError>
-    ensures { IfOk result (λ copy. copy ≡ m.now) }
-{
-    Ok(Multipliers {
-        weak: Items::from(Vec::from_slice(alloc, m.weak.as_slice())?),
-        strict: Items::from(Vec::from_slice(alloc, m.strict.as_slice())?),
-    })
 }

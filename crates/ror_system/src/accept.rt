@@ -1,6 +1,6 @@
 //! What a certificate is accepted by.
 
-ghost use Rattle.std.specs.Prelude.{◌≡◌, ◌+◌, ◌<◌, ◌≤◌, ◌^◌, ◌++◌, ◌<ℤ◌, pos, length, unsigned_abs, IsTrue, IsOk, ◌↔◌, IfErr, OnOk, MatchOption, MatchResult};
+ghost use Rattle.std.specs.Prelude.{◌≡◌, ◌+◌, ◌<◌, ◌≤◌, ◌^◌, ◌++◌, ◌<ℤ◌, pos, length, unsigned_abs, IsTrue, IsOk, ◌↔◌, IfErr, IfOk, OnOk, MatchOption, MatchResult};
 ghost use Rattle.ror_integers.specs.Vectors.{dot, absolute_dot, total, column, NoneNegative, SomePositive};
 ghost use Rattle.ror_text.specs.FirstFault.{IsFirst};
 ghost use Rattle.ror_system.specs.System.{IsSolvable, sum_limit, IsNarrow};
@@ -13,6 +13,7 @@ use crate::steps::{first_negative, positive_total};
 use crate::sum::{Sum, row_at_steps};
 use crate::system::System;
 use ror_text::Items;
+use std::alloc::{AllocError, Global};
 
 /// A whole number for each column.
 #[derive(Debug, Drop)]
@@ -25,6 +26,29 @@ pub struct Solution {
 pub struct Multipliers {
     pub weak: Items<i128>,
     pub strict: Items<i128>,
+}
+
+impl Solution {
+    /// The same solution again.
+    pub fn copied(&self, alloc: Global) -> Result<Solution, AllocError>
+        ensures { IfOk result (λ copy. copy ≡ self.now) }
+    {
+        Ok(Solution {
+            steps: Items::from(Vec::from_slice(alloc, self.steps.as_slice())?),
+        })
+    }
+}
+
+impl Multipliers {
+    /// The same multipliers again.
+    pub fn copied(&self, alloc: Global) -> Result<Multipliers, AllocError>
+        ensures { IfOk result (λ copy. copy ≡ self.now) }
+    {
+        Ok(Multipliers {
+            weak: Items::from(Vec::from_slice(alloc, self.weak.as_slice())?),
+            strict: Items::from(Vec::from_slice(alloc, self.strict.as_slice())?),
+        })
+    }
 }
 
 /// Whether the system holds at these steps, with sums that stay within 2^127 - 1. It takes no memory.

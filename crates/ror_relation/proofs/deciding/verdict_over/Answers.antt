@@ -36,6 +36,6 @@ returns-clause-given c =
     let q = c.args.question.now in
     let most = most_of c.args.bits in
     let found = searched most t list q c.args.system.now c.in_ok-systems.systems.items c.as_slice.result.now c.in_ok-search.search c.requires.system c.as_slice.ensures.value c.in_ok-systems.ensures c.in_ok-search.ensures.found in
-    let copy = certificates.Solution c.in_ok-copied_solution.field-0 in
+    let copy = certificates.Solution c.in_ok-copied.field-0 in
     let shows : ShowsAsBase most conclusions.Yes c.args.system.now copy = search rules in
     concluded_given most t list q copy c.in_ok-search.search c.kind_of.result c.concluded.result c.requires.lawful c.requires.asked (subst (λ (s : LinearSystem). ShowsAsBase most conclusions.Yes s copy) c.requires.system shows) found c.kind_of.ensures c.concluded.ensures
