@@ -1,7 +1,8 @@
 -- What is said of an outcome is so of its system, and the numbers of its note are small.
-use Rattle.std.proofs.Common.{ℕ, ◌<◌, ◌^◌, Result, Ok, Err, sym, subst, arith}
+use Rattle.std.proofs.Common.{◌≡◌, ℕ, ◌<◌, ◌^◌, length, Result, Ok, Err, sym, ap, ◌∙◌, subst, arith}
 use Rattle.std.specs.Prelude.{IfOk, IfErr}
 use Rattle.std.specs.declared.alloc.AllocError.{AllocError}
+use Rattle.std.proofs.lemmas.List.{length-map}
 use Rattle.ror_text.proofs.Everywhere.{all-by}
 use Rattle.ror_system.specs.System.{LinearSystem, IsWellFormed}
 use Rattle.ror_pivot.specs.declared.note.Outcome.{Outcome}
@@ -11,12 +12,13 @@ use Rattle.ror_pivot.specs.declared.note.Place.TheVariants.{Start, Step, Denomin
 use Rattle.ror_pivot.specs.declared.note.SolveFault.{SolveFault}
 use Rattle.ror_pivot.specs.declared.note.SolveFault.TheVariants.{Wide, Memory}
 use Rattle.ror_pivot.specs.Answers.{IsAnswer, IsAccepted, IsNarrowOutcome, IsNoteWithin, IsPlaceWithin}
+use Rattle.ror_pivot.specs.Counts.{AreCounted, raised_by}
 use Rattle.ror_pivot.specs.Notes.{IsWideNote}
 use Rattle.ror_pivot.specs.Tableau.{shape_of, right_side_column, objective_row}
 use Rattle.ror_warm.specs.Engine.{IsFaultOf}
 use Rattle.ror_relation.specs.declared.decision.Decision.{Decision}
 use Rattle.ror_relation.specs.Wide.{IsPlaceBelow, IsNoteBelow}
-use Rattle.ror_relation.specs.Decisions.{IsDecision, IsSaidOf}
+use Rattle.ror_relation.specs.Decisions.{IsCountedFor, IsDecision, IsSaidOf}
 
 -- a number is too wide only where the system's path has this first one, and it lies in the tableau
 abbrev pub IsFault : ℕ → LinearSystem → SolveFault → Type 0
@@ -48,6 +50,18 @@ note_below s Memory form within = tt
 pub decided_by : (most : ℕ) (s : LinearSystem) (r : Result Outcome SolveFault) (d : Result Decision AllocError) → IfOk r (IsAccepted s) → IfOk r (IsNarrowOutcome most) → IfErr r (IsFault most s) → IfOk d (IsSaidOf r) → IfOk d (IsDecision most s)
 decided_by most s r (Ok d) accepted narrow fault said = decided most s r d accepted narrow fault said
 decided_by most s r (Err e) accepted narrow fault said = tt
+
+counted : (s : LinearSystem) (r : Result Outcome SolveFault) (d : Decision) (before now : ℕ) → AreCounted s r before now → IsSaidOf r d → IsCountedFor s d before now
+counted s (Ok (Feasible x)) d before now made said = subst (λ (d : Decision). IsCountedFor s d before now) (sym said) made
+counted s (Ok (Infeasible m)) d before now made said = subst (λ (d : Decision). IsCountedFor s d before now) (sym said) made
+counted s (Err (Wide note)) d before now made said =
+    let many : length note.path ≡ length said.0.path = ap length (sym said.2) ∙ length-map said.0.path (λ p. (p.column, p.row)) in
+    subst (λ (d : Decision). IsCountedFor s d before now) (sym said.1) (made ∙ ap (λ (n : ℕ). raised_by n before) many)
+counted s (Err Memory) d before now made said = absurd said
+
+pub counted_by : (s : LinearSystem) (r : Result Outcome SolveFault) (d : Result Decision AllocError) (before now : ℕ) → AreCounted s r before now → IfOk d (IsSaidOf r) → IfOk d (λ x. IsCountedFor s x before now)
+counted_by s r (Ok d) before now made said = counted s r d before now made said
+counted_by s r (Err e) before now made said = tt
 
 pub below : (s : LinearSystem) (r : Result Outcome SolveFault) → IsWellFormed s → IfErr r (IsNoteWithin s) → IfErr r (IsNoteBelow (2 ^ 32))
 below s (Ok x) form within = tt

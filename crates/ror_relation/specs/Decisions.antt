@@ -13,6 +13,7 @@ use Rattle.ror_pivot.specs.declared.note.Outcome.{Outcome}
 use Rattle.ror_pivot.specs.declared.note.Outcome.TheVariants.{Feasible, Infeasible}
 use Rattle.ror_pivot.specs.declared.note.SolveFault.{SolveFault}
 use Rattle.ror_pivot.specs.declared.note.SolveFault.TheVariants.{Wide, Memory}
+use Rattle.ror_pivot.specs.Counts.{raised_by, IsPathOfLength}
 use Rattle.ror_proof.specs.declared.answer.Certificate.{Certificate}
 use Rattle.ror_proof.specs.declared.answer.Certificate.TheVariants as certificates
 use Rattle.ror_proof.specs.declared.answer.Part.{Part}
@@ -99,3 +100,8 @@ pub record IsGivenVerdict (most : ℕ) (t : DecisionTable) (list : List Statemen
   pub allowed : IsAllowedVerdict (HasNoteAt most) t list q v
   pub narrow : IsVerdictWithin most v
   pub true_verdict : IsWideOrTrue t list q v
+
+-- each pivot of the system's path was counted: those to its end, or those to the number that the note names
+abbrev pub IsCountedFor : LinearSystem → Decision → ℕ → ℕ → Type 0
+IsCountedFor s (decisions.TooWide note) before now = now ≡ raised_by (length note.path) before
+IsCountedFor s _ before now = (pivots : ℕ) × IsPathOfLength s pivots × (now ≡ raised_by pivots before)

@@ -4,7 +4,7 @@ ghost use Rattle.std.specs.Prelude.{◌≤◌, ◌^◌, IfOk, IfErr};
 ghost use Rattle.ror_system.specs.System.{IsWellFormed};
 ghost use Rattle.ror_pivot.specs.Answers.{most_of};
 ghost use Rattle.ror_relation.specs.Wide.{IsNoteBelow};
-ghost use Rattle.ror_relation.specs.Decisions.{IsDecision, IsSaidOf};
+ghost use Rattle.ror_relation.specs.Decisions.{IsCountedFor, IsDecision, IsSaidOf};
 
 use crate::wide::note_text;
 use ror_pivot::{Bits, Outcome, SolveFault, solve_counted};
@@ -24,7 +24,8 @@ pub enum Decision {
     TooWide(WideText),
 }
 
-/// Decides the system at this width by itself, and adds the pivots that it takes to a count. Its one error is want of memory.
+/// Decides the system at this width by itself, and adds the pivots of its path to a count, which stays at its greatest value
+/// once there. Its one error is want of memory.
 pub fn decide_system(
     alloc: Global,
     system: &System,
@@ -33,6 +34,7 @@ pub fn decide_system(
 ) -> Result<Decision, AllocError>
     requires { IsWellFormed system.now }
     ensures decided { IfOk result (IsDecision (most_of bits) system.now) }
+    ensures exact { IfOk result (λ d. IsCountedFor system.now d pivots.old pivots.new) }
     ensures counted { pivots.old ≤ pivots.new }
 {
     decision_of(alloc, solve_counted(alloc, system, bits, pivots))
