@@ -1,4 +1,4 @@
-//! The engine.
+//! The engine: its calls, and in which order it tries what it keeps, pivots from the last tableau, and the path.
 
 ghost use Rattle.std.specs.Prelude.{◌≡◌, ◌≢◌, ◌↔◌, ◌≤◌, Some, None, IsTrue, IfOk, IfErr, IfSome};
 ghost use Rattle.ror_pivot.specs.Answers.{IsAccepted, IsNarrowOutcome, most_of};

@@ -3,14 +3,14 @@
 //!
 //! An [`Engine`] answers as `ror_pivot::solve_bits` does, by outcomes that `ror_system` accepts and that fit the width, and
 //! names a number that is too wide only where the system has that note. To save pivots it keeps what it has met: the rows,
-//! whose places two chains link in the order of the present system; up to 100 solutions and 100 lists of multipliers, which
-//! are tried by acceptance before any pivot is made; and a tableau of the last system. Where these settle nothing the system
-//! is decided anew. That pivots are saved is no part of any contract.
+//! whose places two chains link in the order of the present system; up to 100 solutions and 100 lists of multipliers, of which
+//! the first that seems to hold at the rows is put to acceptance before any pivot is made; and a tableau of the last system.
+//! Where these settle nothing the system is decided anew. That pivots are saved is no part of any contract.
 
+mod certificates;
 mod engine;
 mod fault;
 mod fitting;
-mod kept;
 mod line;
 mod linking;
 mod met;
@@ -21,4 +21,3 @@ mod tableau;
 mod warm;
 
 pub use engine::Engine;
-

@@ -11,7 +11,7 @@ use std::alloc::{AllocError, Global};
 
 /// How far a chain links the rows of a list.
 #[derive(Clone, Copy)]
-pub(crate) struct Front {
+pub(crate) struct Linked {
     /// How many rows at the front are those of the list.
     pub common: usize,
     /// How many rows are linked.
@@ -21,7 +21,7 @@ pub(crate) struct Front {
 }
 
 /// How far the chain links the rows of the list.
-pub(crate) fn common_front(rows: &[MetRow], chain: &Chain<usize>, list: &[Row]) -> Front
+pub(crate) fn common_front(rows: &[MetRow], chain: &Chain<usize>, list: &[Row]) -> Linked
     requires { ArePlaces rows.now chain.now.state }
     ensures common { IsCommonFront (linked_rows rows.now chain.now.state) list.now result.common }
     ensures linked { result.linked ≡ length chain.now.state.order }
@@ -40,7 +40,7 @@ pub(crate) fn common_front(rows: &[MetRow], chain: &Chain<usize>, list: &[Row]) 
         last = Some(node);
         at = chain.next(node);
     }
-    Front {
+    Linked {
         common,
         linked,
         last,

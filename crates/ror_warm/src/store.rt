@@ -19,6 +19,21 @@ impl Front {
             strict: self.strict.min(other.strict),
         }
     }
+
+    /// Whether the row at a position is one of these.
+    pub(crate) fn has(self, position: Position) -> bool {
+        match position {
+            Position::Weak(position) => position < self.weak,
+            Position::Strict(position) => position < self.strict,
+        }
+    }
+}
+
+/// A row of the present system, by its part and its position there.
+#[derive(Clone, Copy, Debug, PartialEq, Eq)]
+pub(crate) enum Position {
+    Weak(usize),
+    Strict(usize),
 }
 
 /// Who needs the row at a place. The place is free where nobody does.
@@ -68,6 +83,14 @@ impl RowStore {
     /// The strict row of the present system at a position.
     pub(crate) fn strict_row(&self, position: usize) -> Option<&RunRow> {
         self.rows.get(*self.strict.get(position)?)
+    }
+
+    /// The row of the present system at a position.
+    pub(crate) fn row(&self, position: Position) -> Option<&RunRow> {
+        match position {
+            Position::Weak(position) => self.weak_row(position),
+            Position::Strict(position) => self.strict_row(position),
+        }
     }
 
     /// Makes a system the present one, of which so many rows at the front of either part are those of the one before. False

@@ -3,9 +3,9 @@
 
 ghost use Rattle.std.specs.Prelude.{◌≤◌};
 
+use crate::certificates::{KeptLists, KeptMultipliers, Weight};
 use crate::fault::TableauFault;
-use crate::kept::{KeptLists, KeptMultipliers, Position, Weight};
-use crate::store::{Front, RowStore};
+use crate::store::{Front, Position, RowStore};
 use crate::tableau::{End, Multiplier, Tableau};
 use ror_pivot::Outcome;
 use ror_system::{Multipliers, Solution, System};

@@ -1,7 +1,7 @@
 //! Solutions and multipliers that are kept, to be tried on systems that have most rows in common with theirs.
 
 use crate::rows::RunRow;
-use crate::store::{Front, RowStore};
+use crate::store::{Front, Position, RowStore};
 use ror_system::Multipliers;
 use std::alloc::{AllocError, Global};
 
@@ -110,13 +110,6 @@ pub(crate) struct Weight {
     pub value: i128,
 }
 
-/// A row of the present system, by its part and its position there.
-#[derive(Clone, Copy, Debug, PartialEq, Eq)]
-pub(crate) enum Position {
-    Weak(usize),
-    Strict(usize),
-}
-
 /// Multipliers of rows at the front of a system, with the weight of one further row.
 #[derive(Debug, Drop)]
 pub(crate) struct KeptMultipliers {
@@ -155,59 +148,45 @@ impl KeptMultipliers {
     ) -> Result<Option<KeptMultipliers>, AllocError> {
         let mut kept = KeptMultipliers::new(alloc, store.columns)?;
         for (position, value) in multipliers.weak.as_slice().iter().enumerate() {
-            if *value != 0 && !kept.add_weak(store, front, position, *value)? {
+            if *value != 0 && !kept.add(store, front, Position::Weak(position), *value)? {
                 return Ok(None);
             }
         }
         for (position, value) in multipliers.strict.as_slice().iter().enumerate() {
-            if *value != 0 && !kept.add_strict(store, front, position, *value)? {
+            if *value != 0 && !kept.add(store, front, Position::Strict(position), *value)? {
                 return Ok(None);
             }
         }
         Ok(Some(kept))
     }
 
-    /// Adds the multiplier of a weak row. False where these multipliers can't be kept.
-    fn add_weak(
+    /// Adds the multiplier of a row. False where these multipliers can't be kept.
+    fn add(
         &mut self,
         store: &RowStore,
         front: Front,
-        position: usize,
+        position: Position,
         value: i128,
     ) -> Result<bool, AllocError> {
-        if position >= front.weak {
+        if !front.has(position) {
             return Ok(self.set_weight(value));
         }
-        let Some(row) = store.weak_row(position) else {
+        let Some(row) = store.row(position) else {
             return Ok(false);
         };
         if self.sum.add(row, value).is_none() {
             return Ok(false);
         }
-        self.needed.weak = position.saturating_add(1);
-        self.weak.push(Weight { position, value })?;
-        Ok(true)
-    }
-
-    /// Adds the multiplier of a strict row. False where these multipliers can't be kept.
-    fn add_strict(
-        &mut self,
-        store: &RowStore,
-        front: Front,
-        position: usize,
-        value: i128,
-    ) -> Result<bool, AllocError> {
-        if position >= front.strict {
-            return Ok(self.set_weight(value));
+        match position {
+            Position::Weak(position) => {
+                self.needed.weak = position.saturating_add(1);
+                self.weak.push(Weight { position, value })?;
+            }
+            Position::Strict(position) => {
+                self.needed.strict = position.saturating_add(1);
+                self.strict.push(Weight { position, value })?;
+            }
         }
-        let Some(row) = store.strict_row(position) else {
-            return Ok(false);
-        };
-        if self.sum.add(row, value).is_none() {
-            return Ok(false);
-        }
-        self.needed.strict = position.saturating_add(1);
-        self.strict.push(Weight { position, value })?;
         Ok(true)
     }
 
