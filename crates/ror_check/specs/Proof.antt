@@ -115,10 +115,6 @@ pub record IsProvedAnswer (t : DecisionTable) (list : List Statement) (q : Quest
   pub question : x.question ≡ q
   pub proof : OfProof (Proves t list q) x.verdict
 
--- the answer has its proof, on the question that it names
-abbrev pub HasItsProof : DecisionTable → List Statement → Answer → Type 0
-HasItsProof t list x = IsProvedAnswer t list x.question x
-
 -- the conclusion of the verdict answers the question
 abbrev pub IsTrueVerdict : DecisionTable → List Statement → Question → Verdict → Type 0
 IsTrueVerdict t list q v = OfProof (λ c proof. Answers t list q c) v

@@ -16,7 +16,7 @@ const MOST_KNOWN: usize = 100;
 pub(crate) struct Base<'a> {
     pub(crate) system: &'a System,
     known: Vec<&'a Certificate>,
-    /// Where the last one is, once there is no room.
+    /// Where the last one is, from the second round on; before that 0.
     next: usize,
 }
 

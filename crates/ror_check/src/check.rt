@@ -67,7 +67,7 @@ pub fn check_answer(
 
 /// Whether each answer's proof proves its verdict on the question that it names, over the same statements, as
 /// `check_answer` has it. An answer that is too wide concludes nothing, and is passed over. The system of the statements is
-/// made once, and a solution of it that is known from an answer before is not tested again.
+/// made once, and a certificate of it that is still known from an answer before is not tested again.
 ///
 /// The statements are lawful, the questions are valid for the table, and there are fewer than 2^32 - 1 answers.
 ///
