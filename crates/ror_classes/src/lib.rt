@@ -1,8 +1,9 @@
 //! To which classes an alternative may belong (UTADIS-GMS): the questions on each class, and their answers with proofs.
 //!
-//! An alternative may belong to the classes that the assigned ones leave it: not below the lowest class of one that is worth
-//! at most as much, and not above the highest class of one that is worth at least as much. A class is possible where some
-//! compatible function leaves it to the alternative, and necessary where every one does.
+//! An alternative may belong to the classes that the assigned ones leave it: not below the lowest class of one that is
+//! worth at most as much, and not above the highest class of one that is worth at least as much. A class is possible where
+//! some compatible function leaves it to the alternative, and necessary where every one does. [`class_questions`] gives
+//! both questions on each class of the table, and [`decide_classes`] their answers.
 //!
 //! Let alternative 0 be evaluated 3 and 10, 1 with 2 and 8 and 2 with 1 and 12, where more of the first and less of the
 //! second criterion is better, and let there be three classes. Over `Class(0, 3, 3)` and `Class(1, 1, 2)`:

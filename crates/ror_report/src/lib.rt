@@ -1,4 +1,17 @@
 //! Reports: a block for each line of a session, and the one text of each.
+//!
+//! A [`Block`] has a line's number and a [`Body`], what came of that line. [`print_block`] gives its text, and
+//! [`read_block`] reads it back. A report is [`header`], the blocks in order, and the line of [`print_end`]. Of the blocks
+//! `Block { line: 2, body: Added(1) }` and `Block { line: 3, body: Refused(NothingToUndo) }` it is
+//!
+//! ```text
+//! ror-report 1
+//! line 2
+//! added 1
+//! line 3
+//! refused NothingToUndo
+//! end 2
+//! ```
 #![tactic(auto)]
 
 mod block;

@@ -1,5 +1,17 @@
-//! Sessions: the lines in which judges state, at their desks, and analysts ask, and the reader of
-//! their text. Names stay as they are written; nothing is looked up.
+//! Sessions: the lines in which judges state, at their desks, and analysts ask, and the reader of their text. Names stay
+//! as they are written; nothing is looked up.
+//!
+//! [`read_session`] gives the [`Session`] of a text, or its first fault. From this text
+//!
+//! ```text
+//! # two judges
+//! @x prefer a b
+//! ask relation
+//! ```
+//!
+//! it gives the desks `x` and the one with the empty name, and two lines: line 2 for the desk at place 0, with the command
+//! `State(Prefer(a, b))`, and line 3 for the desk at place 1, with `Ask(Relation)`. With `ask relations` it gives
+//! `BadLine(3)`.
 #![tactic(auto)]
 
 mod command;

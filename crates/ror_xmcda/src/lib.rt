@@ -1,13 +1,13 @@
 #![tactic(auto)]
 //! Tables, with the statements that come with them, from XMCDA files and from plain texts.
 //!
-//! [`read_input`] reads either form. An XMCDA file's elements come from `ror_elements`; what they mean is read here in
-//! passes, each over the whole file: categories, alternatives, criteria, performances, the table of what is kept,
-//! comparisons, assignments, and the limits of all statements. The first fault of the first faulty pass is given, in order
-//! of the document.
+//! [`read_input`] reads either form, and gives an [`Input`]: the table, and these statements. An XMCDA file's elements
+//! come from `ror_elements`; what they mean is read here in passes, each over the whole file: categories, alternatives,
+//! criteria, performances, the table of what is kept, comparisons, assignments, and the limits of all statements. The
+//! first fault of the first faulty pass is given, in order of the document.
 //!
-//! The definitions stand in `specs/`, a file for each pass; `Content` puts the passes together, and `Input` says which form
-//! a file has.
+//! The definitions stand in `specs/`, a file for each pass; `Content` puts the passes together, and `Input` says which
+//! form a file has.
 //!
 //! ```
 //! let input = read_input(alloc, bytes, false)?;
