@@ -1,6 +1,6 @@
 //! The reader of a whole text.
 
-ghost use Rattle.std.specs.Prelude.{◌≡◌, ◌≤◌, ◌<◌, ◌+◌, ◌^◌, ◌-◌, length, IfOk, IfErr, IfSome};
+ghost use Rattle.std.specs.Prelude.{◌≡◌, ◌≤◌, ◌<◌, ◌+◌, ◌^◌, ◌-◌, false, length, option_map, if◌then◌else◌, IfOk, IfErr, IfSome};
 ghost use Rattle.ror_text.specs.declared.lines.TheConstants.{MOST_TEXT_BYTES};
 ghost use Rattle.ror_text.specs.Reading.{Gives, read_all};
 ghost use Rattle.ror_elements.specs.declared.limits.TheConstants.{MOST_DEPTH};
@@ -8,7 +8,9 @@ ghost use Rattle.ror_elements.specs.Depth.{tree_depth};
 ghost use Rattle.ror_elements.specs.Elements as spec;
 ghost use Rattle.ror_elements.specs.Faults.{element_fault};
 ghost use Rattle.ror_elements.specs.Grammar.{IsDocument, IsNoDocument};
-ghost use Rattle.ror_elements.specs.Reader.{nothing_read};
+ghost use Rattle.ror_elements.specs.Mode.{is_between};
+ghost use Rattle.ror_elements.specs.Open.{last_of};
+ghost use Rattle.ror_elements.specs.Reader.{nothing_read, is_outside};
 ghost use Rattle.ror_elements.specs.Tree.{tree_of};
 
 use crate::element::{Element, ElementError, ElementKind};
@@ -75,14 +77,29 @@ impl Reader {
     fn finish(self) -> Result<Element, ElementError>
         ensures { Gives tree_of element_fault result (spec.finish self) }
     {
-        let line = self.line;
-        refuse_if(!self.mode.is_between(), fault(ElementKind::Unclosed, line))?;
-        refuse_if(!self.below.is_empty(), fault(ElementKind::Unclosed, line))?;
-        let whole = self.top;
-        match whole.children.into_last() {
-            Some(root) => Ok(root),
-            None => Err(fault(ElementKind::Unclosed, line)),
+        let unclosed = fault(ElementKind::Unclosed, self.line);
+        if self.is_whole() {
+            need(self.into_root(), unclosed)
+        } else {
+            // A reader that is dropped on some paths alone takes minutes to prove.
+            drop(self);
+            Err(unclosed)
         }
+    }
+
+    /// Whether no construct is in progress and no element open.
+    fn is_whole(&self) -> bool
+        ensures { result ≡ if is_between self.now.mode then is_outside self.now else false }
+    {
+        self.mode.is_between() && self.below.is_empty()
+    }
+
+    /// The element that stands outside all others, if there is one.
+    fn into_root(self) -> Option<Element>
+        ensures { option_map tree_of result ≡ last_of self.top.children }
+    {
+        let whole = self.top;
+        whole.children.into_last()
     }
 }
 

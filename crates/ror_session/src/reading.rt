@@ -1,6 +1,6 @@
 //! The reader of a session's text.
 
-ghost use Rattle.std.specs.Prelude.{◌≡◌, ◌<◌, ◌≤◌, true, length, map, IfOk, IfSome};
+ghost use Rattle.std.specs.Prelude.{◌≡◌, ◌<◌, ◌≤◌, ◌++◌, [], ◌∷◌, Ok, true, length, map, IfOk, IfSome};
 ghost use Rattle.std.specs.List.{AllByRecursion};
 ghost use Rattle.std.specs.Str.{IsUtf8, is_utf8};
 ghost use Rattle.ror_text.specs.declared.lines.TheConstants.{MOST_TEXT_BYTES};
@@ -130,6 +130,14 @@ impl Draft {
     }
 }
 
+/// Adds a line.
+fn push_line(lines: &mut Vec<Line>, line: Line) -> Result<(), SessionFault>
+    ensures { Gives (λ _. lines.new.items) session_fault result (Ok (lines.old.items ++ line ∷ [])) }
+{
+    lines.push(line)?;
+    Ok(())
+}
+
 /// Adds what the next line says.
 #[tactic(auto, unfolding(crate::specs::Session::add_said))]
 fn add_said(draft: &mut Draft, said: Said) -> Result<(), SessionFault>
@@ -138,13 +146,20 @@ fn add_said(draft: &mut Draft, said: Said) -> Result<(), SessionFault>
         (spec.add_said (contents draft.old) said) }
     ensures few { length draft.new.desks.items ≤ MOST_DESKS }
 {
-    let desk = seat(&mut draft.desks, said.number, said.desk)?;
-    draft.lines.push(Line {
-        number: said.number,
-        desk,
-        command: said.command,
-    })?;
-    Ok(())
+    match seat(&mut draft.desks, said.number, said.desk) {
+        Ok(desk) => push_line(
+            &mut draft.lines,
+            Line {
+                number: said.number,
+                desk,
+                command: said.command,
+            },
+        ),
+        Err(fault) => {
+            drop(said.command);
+            Err(fault)
+        }
+    }
 }
 
 /// The session of the lines that are not passed over.

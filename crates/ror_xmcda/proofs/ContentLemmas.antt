@@ -1,12 +1,10 @@
 -- What is known of a file that is read.
-use Rattle.std.proofs.Common.{◌≡◌, Bool, List, Result, Ok, Err, refl, subst}
+use Rattle.std.proofs.Common.{◌≡◌, Result, Ok, Err, subst}
 use Rattle.std.specs.Prelude.{IfOk, IfSome}
 use Rattle.ror_text.proofs.ReadingLemmas.{keeps, gives_exit}
-use Rattle.ror_statement.specs.declared.statement.Statement.{Statement}
 use Rattle.ror_table.specs.declared.limits.TheConstants.{MOST_ALTERNATIVES}
 use Rattle.ror_table.specs.declared.fault.TableError.{TableError}
 use Rattle.ror_table.specs.Plain.{table_fault}
-use Rattle.ror_table.specs.Table.{DecisionTable}
 use Rattle.ror_xmcda.specs.declared.categories.Categories.{Categories}
 use Rattle.ror_xmcda.specs.declared.roster.Roster.{Roster}
 use Rattle.ror_table.specs.declared.fault.TableFault.{TableFault}
@@ -16,7 +14,7 @@ use Rattle.ror_xmcda.specs.Roster.{AreIds}
 use Rattle.ror_xmcda.specs.Categories.{AreRanked, categories_of}
 use Rattle.ror_xmcda.specs.Alternatives.{alternatives_of}
 use Rattle.ror_xmcda.specs.Criteria.{AreCriteria, criteria_of}
-use Rattle.ror_xmcda.specs.Content.{listed_of, table_in, opening_in, content}
+use Rattle.ror_xmcda.specs.Content.{listed_of}
 use Rattle.ror_xmcda.proofs.CategoryLemmas.{ranked_from}
 use Rattle.ror_xmcda.proofs.IdLemmas.{alternatives_are, criteria_are}
 
@@ -42,21 +40,3 @@ pub criteria_exit : (root : Tree) (categories : Categories) (alternatives : Rost
     → IfSome (table_fault e) (λ g. criteria_of root ≡ Err g) → IfSome (table_fault e) (λ g. listed_of root ≡ Err g)
 unfolding listed_of
 criteria_exit root categories alternatives e p q h = rw (p, q) (gives_exit table_fault e (criteria_of root) _ h)
-
-pub listed_exit : (best_first : Bool) (root : Tree) (e : TableError) → IfSome (table_fault e) (λ g. listed_of root ≡ Err g) → IfSome (table_fault e) (λ g. content best_first root ≡ Err g)
-unfolding content
-listed_exit best_first root e h = gives_exit table_fault e (listed_of root) _ h
-
-pub table_exit : (best_first : Bool) (root : Tree) (l : Listed) (e : TableError) → listed_of root ≡ Ok l → IfSome (table_fault e) (λ g. table_in l root ≡ Err g) → IfSome (table_fault e) (λ g. content best_first root ≡ Err g)
-unfolding content
-table_exit best_first root l e p h = rw p (gives_exit table_fault e (table_in l root) _ h)
-
-pub opening_exit : (best_first : Bool) (root : Tree) (l : Listed) (t : DecisionTable) (e : TableError) → listed_of root ≡ Ok l → table_in l root ≡ Ok t
-    → IfSome (table_fault e) (λ g. opening_in best_first l root ≡ Err g) → IfSome (table_fault e) (λ g. content best_first root ≡ Err g)
-unfolding content
-opening_exit best_first root l t e p q h = rw (p, q) (gives_exit table_fault e (opening_in best_first l root) _ h)
-
-pub content_read : (best_first : Bool) (root : Tree) (l : Listed) (t : DecisionTable) (opening : List Statement) → listed_of root ≡ Ok l → table_in l root ≡ Ok t → opening_in best_first l root ≡ Ok opening
-    → content best_first root ≡ Ok (record { table = t; opening = opening })
-unfolding content
-content_read best_first root l t opening p q r = rw (p, q, r) refl

@@ -37,9 +37,14 @@ opening_in best_first listed root = do
   stated ← affectations_of best_first listed.alternatives listed.categories comparisons root
   opening_of stated
 
-unfoldable pub content : Bool → Tree → Result Input TableFault
-content best_first root = do
-  listed ← listed_of root
+-- the table and the statements of what the file lists
+abbrev pub content_in : Bool → Listed → Tree → Result Input TableFault
+content_in best_first listed root = do
   table ← table_in listed root
   opening ← opening_in best_first listed root
   Ok (record { table = table; opening = opening })
+
+unfoldable pub content : Bool → Tree → Result Input TableFault
+content best_first root = do
+  listed ← listed_of root
+  content_in best_first listed root

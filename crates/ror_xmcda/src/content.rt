@@ -97,6 +97,31 @@ fn opening_in(
     opening_of(alloc, stated.as_slice())
 }
 
+/// The table and the statements of what a file lists.
+fn content_in(
+    alloc: Global,
+    best_first: bool,
+    listed: &Listed,
+    root: &Element,
+) -> Result<Input, TableError>
+    requires criteria { AreCriteria listed.now.criteria }
+    requires alternatives { AreIds MOST_ALTERNATIVES listed.now.alternatives.kept }
+    requires ranked { AreRanked listed.now.categories }
+    ensures exact { Gives (λ input. input) table_fault result
+        (spec.content_in best_first listed.now (tree_of root.now)) }
+    ensures table { IfOk result (λ input. IsTable input.table) }
+{
+    let table = table_in(alloc, listed, root)?;
+    match opening_in(alloc, best_first, listed, root) {
+        Ok(opening) => Ok(Input { table, opening }),
+        Err(error) => {
+            // A table that is dropped on some paths alone takes minutes to prove.
+            drop(table);
+            Err(error)
+        }
+    }
+}
+
 /// The table and the statements of a file's elements.
 #[tactic(auto, unfolding(crate::specs::Content::content))]
 pub(crate) fn content(alloc: Global, best_first: bool, root: &Element) -> Result<Input, TableError>
@@ -104,7 +129,5 @@ pub(crate) fn content(alloc: Global, best_first: bool, root: &Element) -> Result
     ensures table { IfOk result (λ input. IsTable input.table) }
 {
     let listed = listed_of(alloc, root)?;
-    let table = table_in(alloc, &listed, root)?;
-    let opening = opening_in(alloc, best_first, &listed, root)?;
-    Ok(Input { table, opening })
+    content_in(alloc, best_first, &listed, root)
 }
