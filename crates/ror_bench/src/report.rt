@@ -104,29 +104,29 @@ pub fn check_report(
             reason: Reason::BadLine(1),
         }));
     };
-    check_blocks(alloc, bench, lines, bytes, start)
+    let mut bench = bench;
+    check_blocks(alloc, &mut bench, lines, bytes, start)
 }
 
 /// Checks the blocks of a report, which begin at a place, and its last line.
 fn check_blocks(
     alloc: Global,
-    bench: Bench,
+    bench: &mut Bench,
     lines: &[Line],
     bytes: &[u8],
     start: usize,
 ) -> Result<Accepted, ReportError>
-    requires desks { AllByRecursion (NamesADesk (length bench.state)) lines.now }
-    requires numbers { AllByRecursion (LeavesNumbers (length lines.now)) bench.state }
+    requires desks { AllByRecursion (NamesADesk (length bench.old.state)) lines.now }
+    requires numbers { AllByRecursion (LeavesNumbers (length lines.now)) bench.old.state }
     requires length { length bytes.now ≤ MOST_REPORT_BYTES }
     requires header { header_at bytes.now ≡ Some start }
-    ensures accepted { IfOk result (IsProvedReport bench lines.now bytes.now) }
+    ensures accepted { IfOk result (IsProvedReport bench.old lines.now bytes.now) }
     ensures rejected { IfErr result (IfRejected
-        (λ rejection. IsRejectedFrom bench bytes.now rejection [] lines.now start)) }
+        (λ rejection. IsRejectedFrom bench.old bytes.now rejection [] lines.now start)) }
     ensures pure { IfErr result HoldsNoMemory }
 {
     // What is read back is what was written only over a table, and each table has alternatives.
     prove!(bench.table().alternatives() > 0);
-    let mut bench = bench;
     let mut next = start;
     let mut accepted = Accepted {
         answers: 0,
@@ -134,7 +134,7 @@ fn check_blocks(
     };
     let mut block: u32 = 1;
     for line in lines {
-        let (passed, after) = check_next(alloc, &mut bench, line, bytes, next, block)?;
+        let (passed, after) = check_next(alloc, bench, line, bytes, next, block)?;
         accepted.answers += passed.answers as u64;
         accepted.wide += passed.wide as u64;
         next = after;

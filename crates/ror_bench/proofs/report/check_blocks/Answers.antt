@@ -17,21 +17,21 @@ loop-line-init c = record {
   fits = omega arith;
   wide_fits = omega arith;
   numbers = c.requires.numbers;
-  way = way_begins c.args.bench c.args.lines.now c.args.bytes.now c.args.start c.requires.header;
+  way = way_begins c.args.bench.now c.args.lines.now c.args.bytes.now c.args.start c.requires.header;
 }
 
 pub check_next-requires-clause-number : goal.check_next-requires-clause-number
 check_next-requires-clause-number c =
     let i = c.loop-line.line-index in
     let lines = c.args.lines.now in
-    let desk = desk_at (length c.args.bench.state) lines i c.line-item.result c.requires.desks c.loop-line-test.true c.line-item.is in
-    let here = after_desks c.args.bench c.loop-line.invariant.way.before c.loop-line.bench c.loop-line.invariant.way.after c.line-item.result desk in
+    let desk = desk_at (length c.args.bench.now.state) lines i c.line-item.result c.requires.desks c.loop-line-test.true c.line-item.is in
+    let here = after_desks c.args.bench.now c.loop-line.invariant.way.before c.loop-line.bench c.loop-line.invariant.way.after c.line-item.result desk in
     let fewer = one_fewer lines i c.loop-line-test.true in
     number_left c.loop-line.bench c.line-item.result (length (drop (i + 1) lines)) here (subst (λ n. AllByRecursion (LeavesNumbers n) c.loop-line.bench.state) fewer c.loop-line.invariant.numbers)
 
 pub loop-line-preserved : goal.loop-line-preserved
 loop-line-preserved c =
-    let start = c.args.bench in
+    let start = c.args.bench.now in
     let lines = c.args.lines.now in
     let bytes = c.args.bytes.now in
     let i = c.loop-line.line-index in
@@ -54,7 +54,7 @@ loop-line-preserved c =
 
 pub returns-in_err-passed-clause-rejected : goal.returns-in_err-passed-clause-rejected
 returns-in_err-passed-clause-rejected c =
-    let start = c.args.bench in
+    let start = c.args.bench.now in
     let lines = c.args.lines.now in
     let bytes = c.args.bytes.now in
     let i = c.loop-line.line-index in
@@ -67,7 +67,7 @@ returns-in_err-passed-clause-rejected c =
 
 pub returns-in_err-check_end-clause-rejected : goal.returns-in_err-check_end-clause-rejected
 returns-in_err-check_end-clause-rejected c =
-    let start = c.args.bench in
+    let start = c.args.bench.now in
     let lines = c.args.lines.now in
     let bytes = c.args.bytes.now in
     let i = c.loop-line.line-index in
@@ -80,6 +80,6 @@ returns-in_err-check_end-clause-rejected c =
 pub returns-clause-accepted : goal.returns-clause-accepted
 returns-clause-accepted c =
     let i = c.loop-line.line-index in
-    let way = way_over c.args.bench c.args.lines.now c.args.bytes.now c.loop-line.bench i c.args.start c.loop-line.next c.loop-line.accepted i (omega arith) c.loop-line.invariant.way in
+    let way = way_over c.args.bench.now c.args.lines.now c.args.bytes.now c.loop-line.bench i c.args.start c.loop-line.next c.loop-line.accepted i (omega arith) c.loop-line.invariant.way in
     let count : c.loop-line.block - 1 ≡ length c.args.lines.now = omega (arith, c.loop-line.invariant.block_is) in
-    way_ends c.args.bench c.args.lines.now c.args.bytes.now c.args.start c.loop-line.bench c.loop-line.next c.loop-line.accepted i way (c.in_ok-check_end.ensures.last ∙ ap end_text count)
+    way_ends c.args.bench.now c.args.lines.now c.args.bytes.now c.args.start c.loop-line.bench c.loop-line.next c.loop-line.accepted i way (c.in_ok-check_end.ensures.last ∙ ap end_text count)
