@@ -1,19 +1,10 @@
 //! The program: writes the report of a session over a table, and checks one.
 #![tactic(auto)]
 
-mod commands;
-mod generate;
 mod host;
-mod replay;
-mod running;
-mod status;
-mod texts;
-mod words;
-mod work;
 
 use crate::host::{FileShelf, StreamSink};
-use crate::running::run;
-use crate::status::Status;
+use ror_run::{Status, run};
 use std::alloc::AllocFailed;
 use std::env;
 use std::io::ErrorKind;

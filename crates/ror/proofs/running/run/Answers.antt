@@ -1,5 +1,0 @@
-use Rattle.ror.proofs.Table.{table_law}
-use Rattle.ror.proofs.running.run.Goals as goal
-
-pub returns-clause-table : goal.returns-clause-table
-returns-clause-table g c = table_law _

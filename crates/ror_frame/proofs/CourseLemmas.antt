@@ -1,0 +1,225 @@
+use Rattle.std.proofs.Common.{◌≡◌, ◌≢◌, ℕ, ◌+◌, ◌<◌, ◌≤◌, ◌⊎◌, Bool, true, false, List, [], ◌∷◌, length, Option, Some, None, Result, Ok, Err, IsErr, refl, sym, ◌∙◌, ap, subst, inl, inr, arith}
+use Rattle.std.specs.Prelude.{zero, suc}
+use Rattle.ror_io.specs.Files.{Files, file, Lacks}
+use Rattle.ror_io.specs.Counts.{Rose, DidNotRise, next_count, count_after}
+use Rattle.ror_io.proofs.CountLemmas.{never_both, then-Rose}
+use Rattle.ror_frame.specs.declared.stop.Stop.{Stop}
+use Rattle.ror_frame.specs.declared.stop.Stop.TheVariants as stops
+use Rattle.ror_frame.specs.States.{ShelfState, SinkState, shelf_state}
+use Rattle.ror_frame.specs.Stops.{Outcome, place_of}
+use Rattle.ror_frame.specs.declared.stop.Refusal.{Refusal}
+use Rattle.ror_frame.specs.Courses.{Output, Course, finish, fetch, Ending, missing, refused, done, Leads, Agrees, Ends, OfToldFiles, Reaches, Writes, EndsAfter, LacksOne, CountsWrites, IsPure, Fetched, IsFetch, WritesDue, IsWork}
+
+-- bytes are read or refused in one way
+abbrev pub IsDecided : Course → Type 0
+IsDecided (finish output) = Unit {0}
+IsDecided (fetch A name Reads Refuses next) = (bytes : List ℕ)
+    → ((x y : A) → Reads bytes x → Reads bytes y → x ≡ y)
+    × ((q r : Refusal) → Refuses bytes q → Refuses bytes r → q ≡ r)
+    × ((x : A) (r : Refusal) → Reads bytes x → Refuses bytes r → ⊥)
+    × ((x : A) → Reads bytes x → IsDecided (next bytes x))
+
+pub one_ending : (files : Files) (course : Course) (d e : Ending) → IsDecided course → Leads files course d → Leads files course e → d ≡ e
+one_ending files (finish output) d e decided first second = first ∙ sym second
+one_ending files (fetch A name Reads Refuses next) d e decided (inl none) (inl gone) = none.1 ∙ sym gone.1
+one_ending files (fetch A name Reads Refuses next) d e decided (inl none) (inr there) = let p = none.0 in let q = there.1 in absurd cc
+one_ending files (fetch A name Reads Refuses next) d e decided (inr there) (inl none) = let p = none.0 in let q = there.1 in absurd cc
+one_ending files (fetch A name Reads Refuses next) d e decided (inr here) (inr there) =
+    let p = here.1 in
+    let q = there.1 in
+    let same : there.0 ≡ here.0 = cc in
+    by (λ x reads q f. one_ending files (next here.0 x) d e ((decided here.0).3 x reads) q f) here.2 (subst (λ (bytes : List ℕ). ((r : Refusal) × Refuses bytes r × (e ≡ refused r)) ⊎ ((x : A) × Reads bytes x × Leads files (next bytes x) e)) same there.2)
+  where
+    by : ((x : A) → Reads here.0 x → Leads files (next here.0 x) d → Leads files (next here.0 x) e → d ≡ e) → ((r : Refusal) × Refuses here.0 r × (d ≡ refused r)) ⊎ ((x : A) × Reads here.0 x × Leads files (next here.0 x) d) → ((r : Refusal) × Refuses here.0 r × (e ≡ refused r)) ⊎ ((x : A) × Reads here.0 x × Leads files (next here.0 x) e) → d ≡ e
+    by rest (inl a) (inl b) = a.2 ∙ ap refused ((decided here.0).1 a.0 b.0 a.1 b.1) ∙ sym b.2
+    by rest (inl a) (inr b) = absurd ((decided here.0).2 b.0 a.0 b.1 a.1)
+    by rest (inr a) (inl b) = absurd ((decided here.0).2 a.0 b.0 a.1 b.1)
+    by rest (inr a) (inr b) =
+        let same = (decided here.0).0 b.0 a.0 b.1 a.1 in
+        rest a.0 a.1 a.2 (subst (λ (x : A). Leads files (next here.0 x) e) same b.2)
+
+-- ---- the work of a course
+
+-- where a file was read, the shelf counts one fetch more, and nothing else changed
+after_read : {A : Type 0} (name : List ℕ) (place : ℕ) (Reads : List ℕ → A → Type 0) (Refuses : List ℕ → Refusal → Type 0) (a b : ShelfState) (x : A) → IsFetch name place Reads Refuses a b (Ok x) → b ≡ shelf_state a.told a.faults (next_count a.fetches)
+after_read name place Reads Refuses a b x fetched =
+    let told = fetched.told_stays in
+    let faults = fetched.fetched.0 in
+    let count = fetched.counted in
+    same b.told a.told b.faults a.faults b.fetches (next_count a.fetches) told faults count
+  where
+    same : (t u : Option Files) (f g m n : ℕ) → t ≡ u → f ≡ g → m ≡ n → shelf_state t f m ≡ shelf_state u g n
+    same t u f g m n p q r = cc
+
+one_more : (n count : ℕ) → count_after n (next_count count) ≡ next_count (count_after n count)
+one_more zero count = refl
+one_more (suc n) count = ap next_count (one_more n count)
+
+-- memory ran out before anything was fetched
+pub unbegun : (names : List (List ℕ)) (course : Course) (shelf : ShelfState) (out : SinkState) → IsWork 0 names course shelf shelf out out (Err stops.Memory)
+unbegun names course shelf out = record {
+  never_falls = omega arith;
+  told_stays = refl;
+  fetched = (0, omega arith, refl);
+  read_fault = λ is. absurd cc;
+  rose = λ rose. absurd (omega (arith, rose));
+  lacking = λ lacks. refl;
+  first_lacking = λ lacks. inr (refl, refl);
+  pure = tt;
+  shows = λ files is stayed other. absurd (other refl);
+  writes = refl;
+  output = inl refl;
+}
+
+-- the work stops at a file
+pub stopped : {A : Type 0} (name : List ℕ) (place : ℕ) (names : List (List ℕ)) (Reads : List ℕ → A → Type 0) (Refuses : List ℕ → Refusal → Type 0) (next : List ℕ → A → Course) (a b : ShelfState) (out : SinkState) (e : Stop) → IsFetch name (place + 1) Reads Refuses a b (Err e) → IsWork place (name ∷ names) (fetch A name Reads Refuses next) a b out out (Err e)
+stopped {A} name place names Reads Refuses next a b out e fetched = record {
+  never_falls = fetched.never_falls;
+  told_stays = fetched.told_stays;
+  fetched = (1, after e fetched.fetched, fetched.counted);
+  read_fault = λ is. cause e fetched.fetched (let p = is in cc);
+  rose = λ rose. let p = rises e fetched.fetched rose in cc;
+  lacking = λ lacks. refl;
+  first_lacking = λ lacks. inl (let p = fetched.missing lacks in cc, fetched.counted);
+  pure = pure e fetched.fetched;
+  shows = λ files is stayed other. shown e fetched.fetched files is stayed (λ same. other (let p = same in cc));
+  writes = unwritten e fetched.fetched;
+  output = nothing e fetched.fetched;
+}
+  where
+    after : (e : Stop) → Fetched {A = A} name (place + 1) Reads Refuses a.told a.faults b.faults (Err e) → EndsAfter place (length (name ∷ names)) (Some (Err e)) 1
+    after (stops.At r) had = (had.1, omega arith)
+    after stops.ReadFault had = (omega arith, omega arith)
+    after stops.WriteFault had = absurd had
+    after stops.Memory had = omega arith
+
+    cause : (e : Stop) → Fetched {A = A} name (place + 1) Reads Refuses a.told a.faults b.faults (Err e) → e ≡ stops.ReadFault → Rose a.faults b.faults ⊎ LacksOne a.told (name ∷ names)
+    cause (stops.At r) had is = absurd cc
+    cause stops.ReadFault (inl rose) is = inl rose
+    cause stops.ReadFault (inr lacks) is = inr (inl lacks)
+    cause stops.WriteFault had is = absurd had
+    cause stops.Memory had is = absurd cc
+
+    rises : (e : Stop) → Fetched {A = A} name (place + 1) Reads Refuses a.told a.faults b.faults (Err e) → a.faults < b.faults → e ≡ stops.ReadFault
+    rises (stops.At r) had rose = absurd (let same = had.0 in omega (arith, same, rose))
+    rises stops.ReadFault had rose = refl
+    rises stops.WriteFault had rose = absurd had
+    rises stops.Memory had rose = absurd (omega (arith, had, rose))
+
+    pure : (e : Stop) → Fetched {A = A} name (place + 1) Reads Refuses a.told a.faults b.faults (Err e) → IsPure (Err e)
+    pure (stops.At r) had = had.2
+    pure stops.ReadFault had = tt
+    pure stops.WriteFault had = tt
+    pure stops.Memory had = tt
+
+    shown : (e : Stop) → Fetched {A = A} name (place + 1) Reads Refuses a.told a.faults b.faults (Err e) → (files : Files) → a.told ≡ Some files → DidNotRise a.faults b.faults → e ≢ stops.Memory → (d : Ending) × Leads files (fetch A name Reads Refuses next) d × Ends d (Some (Err e))
+    shown (stops.At r) had files is stayed other =
+        let found = had.3 files is stayed in
+        (refused r, inr (found.0, found.1, inl (r, found.2, refl)), refl)
+    shown stops.ReadFault (inl rose) files is stayed other = absurd (never_both a.faults b.faults rose stayed)
+    shown stops.ReadFault (inr lacks) files is stayed other = (missing, inl (subst (λ (t : Option Files). Lacks t name) is lacks, refl), refl)
+    shown stops.WriteFault had files is stayed other = absurd had
+    shown stops.Memory had files is stayed other = absurd (other refl)
+
+    unwritten : (e : Stop) → Fetched {A = A} name (place + 1) Reads Refuses a.told a.faults b.faults (Err e) → CountsWrites out.faults out.faults (Err e)
+    unwritten (stops.At r) had = refl
+    unwritten stops.ReadFault had = refl
+    unwritten stops.WriteFault had = absurd had
+    unwritten stops.Memory had = refl
+
+    nothing : (e : Stop) → Fetched {A = A} name (place + 1) Reads Refuses a.told a.faults b.faults (Err e) → Writes a.told a.faults b.faults (fetch A name Reads Refuses next) out.written out.written (Err e)
+    nothing (stops.At r) had = refl
+    nothing stops.ReadFault had = refl
+    nothing stops.WriteFault had = absurd had
+    nothing stops.Memory had = inl refl
+
+-- nothing is fetched any more: an output is due
+pub finished : (place : ℕ) (output : Output) (shelf : ShelfState) (old new : SinkState) (outcome : Outcome) → WritesDue output old new outcome → IsWork place [] (finish output) shelf shelf old new outcome
+finished place output shelf old new outcome due = record {
+  never_falls = omega arith;
+  told_stays = refl;
+  fetched = (0, after outcome due, refl);
+  read_fault = λ is. absurd (subst (WritesDue output old new) is due);
+  rose = λ rose. absurd (omega (arith, rose));
+  lacking = λ lacks. absurd lacks;
+  first_lacking = λ lacks. absurd lacks;
+  pure = pure outcome due;
+  shows = λ files is stayed other. (done output.tells, refl, shown outcome due other);
+  writes = counts outcome due;
+  output = written outcome due;
+}
+  where
+    after : (outcome : Outcome) → WritesDue output old new outcome → EndsAfter place 0 (Some outcome) 0
+    after (Ok wide) due = refl
+    after (Err (stops.At r)) due = absurd due
+    after (Err stops.ReadFault) due = absurd due
+    after (Err stops.WriteFault) due = refl
+    after (Err stops.Memory) due = omega arith
+
+    pure : (outcome : Outcome) → WritesDue output old new outcome → IsPure outcome
+    pure (Ok wide) due = tt
+    pure (Err (stops.At r)) due = absurd due
+    pure (Err stops.ReadFault) due = absurd due
+    pure (Err stops.WriteFault) due = tt
+    pure (Err stops.Memory) due = tt
+
+    shown : (outcome : Outcome) → WritesDue output old new outcome → outcome ≢ Err stops.Memory → Ends (done output.tells) (Some outcome)
+    shown (Ok wide) due other = due.1
+    shown (Err (stops.At r)) due other = absurd due
+    shown (Err stops.ReadFault) due other = absurd due
+    shown (Err stops.WriteFault) due other = tt
+    shown (Err stops.Memory) due other = absurd (other refl)
+
+    counts : (outcome : Outcome) → WritesDue output old new outcome → CountsWrites old.faults new.faults outcome
+    counts (Ok wide) due = due.0
+    counts (Err (stops.At r)) due = absurd due
+    counts (Err stops.ReadFault) due = absurd due
+    counts (Err stops.WriteFault) due = (due.0, due.1)
+    counts (Err stops.Memory) (inl same) = let p = same in cc
+    counts (Err stops.Memory) (inr front) = front.0
+
+    written : (outcome : Outcome) → WritesDue output old new outcome → Writes shelf.told shelf.faults shelf.faults (finish output) old.written new.written outcome
+    written (Ok wide) due = (due.2, due.3, due.4)
+    written (Err (stops.At r)) due = absurd due
+    written (Err stops.ReadFault) due = absurd due
+    written (Err stops.WriteFault) due = (due.2, due.3, due.4)
+    written (Err stops.Memory) (inl same) = inl (let p = same in cc)
+    written (Err stops.Memory) (inr front) = inr (front.1, front.2, front.3, front.4, front.5)
+
+-- a file was read, and the work went on
+pub went_on : {A : Type 0} (name : List ℕ) (place : ℕ) (names : List (List ℕ)) (Reads : List ℕ → A → Type 0) (Refuses : List ℕ → Refusal → Type 0) (next : List ℕ → A → Course) (a b c : ShelfState) (old new : SinkState) (x : A) (outcome : Outcome) → (fetched : IsFetch name (place + 1) Reads Refuses a b (Ok x)) → IsWork (place + 1) names (next fetched.fetched.1 x) b c old new outcome → IsWork place (name ∷ names) (fetch A name Reads Refuses next) a c old new outcome
+went_on {A} name place names Reads Refuses next a b c old new x outcome fetched went =
+    let work = subst (λ (s : ShelfState). IsWork (place + 1) names (next fetched.fetched.1 x) s c old new outcome) (after_read name (place + 1) Reads Refuses a b x fetched) went in
+    record {
+      never_falls = work.never_falls;
+      told_stays = work.told_stays;
+      fetched = (suc work.fetched.0, after outcome work.fetched.0 work.fetched.1, work.fetched.2 ∙ one_more work.fetched.0 a.fetches);
+      read_fault = λ is. elim (work.read_fault is) [ inl rose ↦ inl rose | inr lacks ↦ inr (inr lacks) ];
+      rose = work.rose;
+      lacking = λ lacks. elim lacks [ inl here ↦ absurd (let p = fetched.missing here in cc) | inr later ↦ work.lacking later ];
+      first_lacking = λ lacks. absurd (let p = fetched.missing lacks in cc);
+      pure = work.pure;
+      shows = λ files is stayed other.
+          let rest = work.shows files is stayed other in
+          (rest.0, inr (fetched.fetched.1, fetched.fetched.2 files is (fetched.fetched.0, stayed.1), inr (x, fetched.fetched.3, rest.1)), rest.2);
+      writes = work.writes;
+      output = written outcome work.output;
+    }
+  where
+    after : (outcome : Outcome) (n : ℕ) → EndsAfter (place + 1) (length names) (Some outcome) n → EndsAfter place (length (name ∷ names)) (Some outcome) (suc n)
+    after (Ok wide) n had = omega (arith, had)
+    after (Err (stops.At r)) n had = (omega (arith, had.0), omega (arith, had.1))
+    after (Err stops.ReadFault) n had = (omega arith, omega (arith, had.1))
+    after (Err stops.WriteFault) n had = omega (arith, had)
+    after (Err stops.Memory) n had = omega (arith, had)
+
+    reached : (P : Output → Type 0) → Reaches a.told a.faults c.faults (next fetched.fetched.1 x) P → Reaches a.told a.faults c.faults (fetch A name Reads Refuses next) P
+    reached P rest = (fetched.fetched.1, (λ files is stayed. fetched.fetched.2 files is (fetched.fetched.0, stayed.1)), x, fetched.fetched.3, rest)
+
+    written : (outcome : Outcome) → Writes a.told a.faults c.faults (next fetched.fetched.1 x) old.written new.written outcome → Writes a.told a.faults c.faults (fetch A name Reads Refuses next) old.written new.written outcome
+    written (Ok wide) had = reached _ had
+    written (Err (stops.At r)) had = had
+    written (Err stops.ReadFault) had = had
+    written (Err stops.WriteFault) had = reached _ had
+    written (Err stops.Memory) (inl same) = inl same
+    written (Err stops.Memory) (inr had) = inr (reached _ had)

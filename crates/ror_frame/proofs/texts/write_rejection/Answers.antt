@@ -1,0 +1,19 @@
+use Rattle.std.proofs.Common.{◌++◌, refl, codes, decimal, append_assoc}
+use Rattle.std.proofs.lemmas.Result.{err_from_is_err_and}
+use Rattle.ror_frame.specs.Statuses.{reason_text}
+use Rattle.ror_frame.proofs.PrintLemmas.{cut, follow, both, follow_cut}
+use Rattle.ror_frame.proofs.texts.write_rejection.Goals as goal
+
+pub returns-in_err-write_numbered : goal.returns-in_err-write_numbered
+returns-in_err-write_numbered g c =
+    let p = err_from_is_err_and c.from_residual.result c.from_residual.ensures.1 in
+    rw p.1 (cut _ _ _ _ _ _ _ c.in_err-write_numbered.ensures (append_assoc (codes "rejected: block " ++ decimal c.args.rejection.now.block ++ codes " ") (reason_text c.args.rejection.now.reason) (codes "\n")))
+
+pub returns-in_err-write_reason : goal.returns-in_err-write_reason
+returns-in_err-write_reason g c =
+    let p = err_from_is_err_and c.from_residual-in_err-write_reason.result c.from_residual-in_err-write_reason.ensures.1 in
+    rw p.1 (follow_cut _ _ _ _ _ _ _ _ _ _ c.in_ok-write_numbered.ensures c.in_err-write_reason.ensures refl)
+
+pub returns : goal.returns
+returns g c =
+    follow _ _ _ _ _ _ _ _ _ _ (both _ _ _ _ _ _ _ _ c.in_ok-write_numbered.ensures c.in_ok-write_reason.ensures) c.write_text.ensures refl

@@ -1,0 +1,87 @@
+-- Where the work of a command stops, and the status that a run ends with there.
+use Rattle.std.specs.Prelude.{◌≢◌, ℕ, Bool, true, false, Option, Some, None, Result, Ok, Err}
+use Rattle.ror_io.specs.declared.shelf.ShelfFault.{ShelfFault}
+use Rattle.ror_io.specs.declared.shelf.ShelfFault.TheVariants as shelf_faults
+use Rattle.ror_table.specs.declared.fault.TableError.{TableError}
+use Rattle.ror_table.specs.declared.fault.TableError.TheVariants as table_errors
+use Rattle.ror_session.specs.declared.session.SessionFault.{SessionFault}
+use Rattle.ror_session.specs.declared.session.SessionFault.TheVariants as session_faults
+use Rattle.ror_bench.specs.declared.report.ReportError.{ReportError}
+use Rattle.ror_bench.specs.declared.report.ReportError.TheVariants as report_errors
+use Rattle.ror_bench.specs.Reports.{IsFreeOfMemory}
+use Rattle.ror_frame.specs.declared.status.Status.{Status}
+use Rattle.ror_frame.specs.declared.status.Status.TheVariants as statuses
+use Rattle.ror_frame.specs.declared.stop.Refusal.{Refusal}
+use Rattle.ror_frame.specs.declared.stop.Refusal.TheVariants as refusals
+use Rattle.ror_frame.specs.declared.stop.Stop.{Stop}
+use Rattle.ror_frame.specs.declared.stop.Stop.TheVariants as stops
+
+-- the stop that a fault of the shelf leads to, and those of the readers
+abbrev pub stop_at_shelf : ShelfFault → Stop
+stop_at_shelf shelf_faults.Failed = stops.ReadFault
+stop_at_shelf shelf_faults.Memory = stops.Memory
+
+abbrev pub stop_at_table : TableError → Stop
+stop_at_table (table_errors.Bad fault) = stops.At (refusals.BadTable fault)
+stop_at_table table_errors.Memory = stops.Memory
+
+abbrev pub stop_at_session : SessionFault → Stop
+stop_at_session session_faults.NotUtf8 = stops.At (refusals.BadSession session_faults.NotUtf8)
+stop_at_session (session_faults.BadLine n) = stops.At (refusals.BadSession (session_faults.BadLine n))
+stop_at_session session_faults.TooManyLines = stops.At (refusals.BadSession session_faults.TooManyLines)
+stop_at_session session_faults.TooLong = stops.At (refusals.BadSession session_faults.TooLong)
+stop_at_session (session_faults.TooManyDesks n) = stops.At (refusals.BadSession (session_faults.TooManyDesks n))
+stop_at_session session_faults.Memory = stops.Memory
+
+abbrev pub stop_at_report : ReportError → Stop
+stop_at_report (report_errors.Rejected rejection) = stops.At (refusals.Rejected rejection)
+stop_at_report report_errors.Memory = stops.Memory
+
+-- ---- refusals
+
+-- the place of the file whose bytes are refused, in the order in which files are fetched
+abbrev pub place_of : Refusal → ℕ
+place_of (refusals.BadTable fault) = 1
+place_of (refusals.BadSession fault) = 2
+place_of (refusals.Rejected rejection) = 3
+
+-- want of memory is a stop of its own, and no refusal holds it
+abbrev pub HidesNone : Refusal → Type 0
+HidesNone (refusals.BadSession fault) = fault ≢ session_faults.Memory
+HidesNone (refusals.Rejected rejection) = IsFreeOfMemory rejection.reason
+HidesNone _ = Unit {0}
+
+abbrev pub refused_status : Refusal → Status
+refused_status (refusals.BadTable fault) = statuses.BadTable fault
+refused_status (refusals.BadSession fault) = statuses.BadSession fault
+refused_status (refusals.Rejected rejection) = statuses.Rejected rejection
+
+-- ---- outcomes
+
+-- what comes of the work of a command: it was done, and this is whether anything is too wide; or it stopped
+abbrev pub Outcome : Type 0
+Outcome = Result Bool Stop
+
+-- the status after it
+abbrev pub status_at : Stop → Status
+status_at (stops.At refusal) = refused_status refusal
+status_at stops.ReadFault = statuses.ReadFault
+status_at stops.WriteFault = statuses.WriteFault
+status_at stops.Memory = statuses.Memory
+
+abbrev pub status_after : Outcome → Status
+status_after (Ok true) = statuses.DoneWide
+status_after (Ok false) = statuses.Done
+status_after (Err stop) = status_at stop
+
+-- and the outcome that a status tells, which is none where no work was asked for
+abbrev pub outcome_of : Status → Option Outcome
+outcome_of statuses.Done = Some (Ok false)
+outcome_of statuses.Usage = None
+outcome_of (statuses.BadTable fault) = Some (Err (stops.At (refusals.BadTable fault)))
+outcome_of (statuses.BadSession fault) = Some (Err (stops.At (refusals.BadSession fault)))
+outcome_of (statuses.Rejected rejection) = Some (Err (stops.At (refusals.Rejected rejection)))
+outcome_of statuses.ReadFault = Some (Err stops.ReadFault)
+outcome_of statuses.WriteFault = Some (Err stops.WriteFault)
+outcome_of statuses.Memory = Some (Err stops.Memory)
+outcome_of statuses.DoneWide = Some (Ok true)

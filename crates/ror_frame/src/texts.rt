@@ -1,0 +1,270 @@
+//! The lines that a run writes. To write them takes no memory.
+
+ghost use Rattle.std.specs.Prelude.{◌≡◌, ◌++◌};
+ghost use Rattle.ror_table.specs.declared.fault.TableKind.TheVariants.{Unsupported};
+ghost use Rattle.ror_frame.specs.Printing.{Prints};
+ghost use Rattle.ror_frame.specs.Statuses.{kind_text, reject_text, fault_text, repair_fault_text, reason_text, table_line, session_line, rejection_line, usage_text, status_text, accepted_text};
+
+use crate::status::Status;
+use itoa::{Buffer, Integer};
+use ror_bench::{Accepted, Reason, Rejection};
+use ror_check::{CheckFault, RepairCheckFault};
+use ror_io::{Sink, SinkFault, write_all, write_pieces};
+use ror_session::SessionFault;
+use ror_system::Reject;
+use ror_table::{Kind, TableFault, TableKind, What};
+
+/// Writes the line of the status; nothing where the work was done.
+#[tactic(auto, unfolding(crate::specs::Statuses::status_text))]
+pub fn write_status<S: Sink>(sink: &mut S, status: &Status) -> Result<(), SinkFault>
+    ensures { Prints (S.faults sink.old) (S.faults sink.new)
+        (S.written sink.old) (S.written sink.new) (status_text status.now) result }
+{
+    match status {
+        Status::Done | Status::DoneWide => Ok(()),
+        Status::Usage => write_usage(sink),
+        Status::BadTable(fault) => write_table_fault(sink, fault),
+        Status::BadSession(fault) => write_session_fault(sink, fault),
+        Status::Rejected(rejection) => write_rejection(sink, rejection),
+        Status::ReadFault => write_text(sink, b"read fault\n"),
+        Status::WriteFault => write_text(sink, b"write fault\n"),
+        Status::Memory => write_text(sink, b"memory\n"),
+    }
+}
+
+/// Writes the line of an accepted report: how many answers were accepted, and how many answers and repairs are too wide.
+#[tactic(auto, unfolding(crate::specs::Statuses::accepted_text))]
+pub fn write_accepted<S: Sink>(sink: &mut S, accepted: Accepted) -> Result<(), SinkFault>
+    ensures { Prints (S.faults sink.old) (S.faults sink.new)
+        (S.written sink.old) (S.written sink.new) (accepted_text accepted) result }
+{
+    let mut answers = Buffer::new();
+    let mut wide = Buffer::new();
+    write_pieces(
+        sink,
+        &[
+            b"accepted ",
+            answers.format(accepted.answers).as_bytes(),
+            b" wide ",
+            wide.format(accepted.wide).as_bytes(),
+            b"\n",
+        ],
+    )
+}
+
+/// The commands, each with its options.
+fn write_usage<S: Sink>(sink: &mut S) -> Result<(), SinkFault>
+    ensures { Prints (S.faults sink.old) (S.faults sink.new)
+        (S.written sink.old) (S.written sink.new) usage_text result }
+{
+    write_pieces(
+        sink,
+        &[
+            b"usage: ror replay TABLE SESSION [--bits 15|31|63|127] [--best-first]",
+            b" | ror check TABLE SESSION REPORT [--best-first]",
+            b" | ror generate NUMBER\n",
+        ],
+    )
+}
+
+fn write_text<S: Sink>(sink: &mut S, text: &[u8]) -> Result<(), SinkFault>
+    ensures { Prints (S.faults sink.old) (S.faults sink.new)
+        (S.written sink.old) (S.written sink.new) text.now result }
+{
+    write_all(sink, text)
+}
+
+/// Writes two texts.
+fn write_pair<S: Sink>(sink: &mut S, first: &[u8], second: &[u8]) -> Result<(), SinkFault>
+    ensures { Prints (S.faults sink.old) (S.faults sink.new)
+        (S.written sink.old) (S.written sink.new) (first.now ++ second.now) result }
+{
+    write_pieces(sink, &[first, second])
+}
+
+/// Writes a number after a text.
+fn write_number<S: Sink, N: Integer>(
+    sink: &mut S,
+    before: &[u8],
+    number: N,
+) -> Result<(), SinkFault>
+    ensures { Prints (S.faults sink.old) (S.faults sink.new)
+        (S.written sink.old) (S.written sink.new) (before.now ++ N.text number) result }
+{
+    write_pair(sink, before, Buffer::new().format(number).as_bytes())
+}
+
+/// Writes a number between two texts.
+fn write_numbered<S: Sink, N: Integer>(
+    sink: &mut S,
+    before: &[u8],
+    number: N,
+    after: &[u8],
+) -> Result<(), SinkFault>
+    ensures { Prints (S.faults sink.old) (S.faults sink.new)
+        (S.written sink.old) (S.written sink.new)
+        (before.now ++ N.text number ++ after.now) result }
+{
+    let mut digits = Buffer::new();
+    write_pieces(sink, &[before, digits.format(number).as_bytes(), after])
+}
+
+fn write_table_fault<S: Sink>(sink: &mut S, fault: &TableFault) -> Result<(), SinkFault>
+    ensures { Prints (S.faults sink.old) (S.faults sink.new)
+        (S.written sink.old) (S.written sink.new) (table_line fault.now) result }
+{
+    write_pair(sink, b"bad table: ", kind_name(fault.kind).as_bytes())?;
+    write_numbered(sink, b" line ", fault.line, b"\n")
+}
+
+fn kind_name(kind: TableKind) -> &'static str
+    ensures { result.now ≡ kind_text kind }
+{
+    match kind {
+        TableKind::Form => "Form",
+        TableKind::NotUtf8 => "NotUtf8",
+        TableKind::BadLine => "BadLine",
+        TableKind::RepeatedId => "RepeatedId",
+        TableKind::UnknownId => "UnknownId",
+        TableKind::MissingPerformance => "MissingPerformance",
+        TableKind::RepeatedPerformance => "RepeatedPerformance",
+        TableKind::BadNumber => "BadNumber",
+        TableKind::TooMany(What::Alternatives) => "TooMany Alternatives",
+        TableKind::TooMany(What::Criteria) => "TooMany Criteria",
+        TableKind::TooMany(What::Steps) => "TooMany Steps",
+        TableKind::TooMany(What::Classes) => "TooMany Classes",
+        TableKind::TooMany(What::Levels) => "TooMany Levels",
+        TableKind::TooMany(What::Statements) => "TooMany Statements",
+        TableKind::TooMany(What::Rows) => "TooMany Rows",
+        TableKind::Empty => "Empty",
+        TableKind::TooLong => "TooLong",
+        TableKind::Unclosed => "Unclosed",
+        TableKind::Mismatched => "Mismatched",
+        TableKind::Unsupported(kind) => unsupported_name(kind),
+    }
+}
+
+fn unsupported_name(kind: Kind) -> &'static str
+    ensures { result.now ≡ kind_text (Unsupported kind) }
+{
+    match kind {
+        Kind::Doctype => "Unsupported Doctype",
+        Kind::Encoding => "Unsupported Encoding",
+        Kind::Entity => "Unsupported Entity",
+        Kind::Qualitative => "Unsupported Qualitative",
+        Kind::Direction => "Unsupported Direction",
+        Kind::Value => "Unsupported Value",
+        Kind::Member => "Unsupported Member",
+        Kind::Id => "Unsupported Id",
+        Kind::Rank => "Unsupported Rank",
+    }
+}
+
+fn write_session_fault<S: Sink>(sink: &mut S, fault: &SessionFault) -> Result<(), SinkFault>
+    ensures { Prints (S.faults sink.old) (S.faults sink.new)
+        (S.written sink.old) (S.written sink.new) (session_line fault.now) result }
+{
+    match fault {
+        SessionFault::NotUtf8 => write_text(sink, b"bad session: NotUtf8\n"),
+        SessionFault::BadLine(line) => write_numbered(
+            sink,
+            b"bad session: BadLine line ",
+            *line,
+            b"\n",
+        ),
+        SessionFault::TooManyLines => write_text(sink, b"bad session: TooManyLines\n"),
+        SessionFault::TooLong => write_text(sink, b"bad session: TooLong\n"),
+        SessionFault::TooManyDesks(line) => write_numbered(
+            sink,
+            b"bad session: TooManyDesks line ",
+            *line,
+            b"\n",
+        ),
+        SessionFault::Memory => write_text(sink, b"bad session: Memory\n"),
+    }
+}
+
+fn write_rejection<S: Sink>(sink: &mut S, rejection: &Rejection) -> Result<(), SinkFault>
+    ensures { Prints (S.faults sink.old) (S.faults sink.new)
+        (S.written sink.old) (S.written sink.new) (rejection_line rejection.now) result }
+{
+    write_numbered(sink, b"rejected: block ", rejection.block, b" ")?;
+    write_reason(sink, &rejection.reason)?;
+    write_text(sink, b"\n")
+}
+
+fn write_reason<S: Sink>(sink: &mut S, reason: &Reason) -> Result<(), SinkFault>
+    ensures { Prints (S.faults sink.old) (S.faults sink.new)
+        (S.written sink.old) (S.written sink.new) (reason_text reason.now) result }
+{
+    match reason {
+        Reason::TooLong => write_text(sink, b"TooLong"),
+        Reason::NotUtf8 => write_text(sink, b"NotUtf8"),
+        Reason::BadLine(line) => write_number(sink, b"BadLine ", *line),
+        Reason::BadNumber(line) => write_number(sink, b"BadNumber ", *line),
+        Reason::WrongBlock => write_text(sink, b"WrongBlock"),
+        Reason::Answer(answer, fault) => {
+            write_numbered(sink, b"answer ", *answer, b" ")?;
+            write_check_fault(sink, fault)
+        }
+        Reason::Repair(fault) => {
+            write_text(sink, b"repair ")?;
+            write_repair_fault(sink, fault)
+        }
+    }
+}
+
+fn write_check_fault<S: Sink>(sink: &mut S, fault: &CheckFault) -> Result<(), SinkFault>
+    ensures { Prints (S.faults sink.old) (S.faults sink.new)
+        (S.written sink.old) (S.written sink.new) (fault_text fault.now) result }
+{
+    match fault {
+        CheckFault::WrongQuestion => write_text(sink, b"WrongQuestion"),
+        CheckFault::WrongVerdict => write_text(sink, b"WrongVerdict"),
+        CheckFault::PartCount => write_text(sink, b"PartCount"),
+        CheckFault::Base(reject) => {
+            write_text(sink, b"base ")?;
+            write_reject(sink, reject)
+        }
+        CheckFault::Part(part, reject) => {
+            write_numbered(sink, b"part ", *part, b" ")?;
+            write_reject(sink, reject)
+        }
+        CheckFault::Memory => write_text(sink, b"Memory"),
+    }
+}
+
+fn write_repair_fault<S: Sink>(sink: &mut S, fault: &RepairCheckFault) -> Result<(), SinkFault>
+    ensures { Prints (S.faults sink.old) (S.faults sink.new)
+        (S.written sink.old) (S.written sink.new) (repair_fault_text fault.now) result }
+{
+    match fault {
+        RepairCheckFault::WrongList => write_text(sink, b"WrongList"),
+        RepairCheckFault::WrongKind => write_text(sink, b"WrongKind"),
+        RepairCheckFault::Dropped(number, reject) => {
+            write_numbered(sink, b"dropped ", *number, b" ")?;
+            write_reject(sink, reject)
+        }
+        RepairCheckFault::Base(reject) => {
+            write_text(sink, b"base ")?;
+            write_reject(sink, reject)
+        }
+        RepairCheckFault::Memory => write_text(sink, b"Memory"),
+    }
+}
+
+fn write_reject<S: Sink>(sink: &mut S, reject: &Reject) -> Result<(), SinkFault>
+    ensures { Prints (S.faults sink.old) (S.faults sink.new)
+        (S.written sink.old) (S.written sink.new) (reject_text reject.now) result }
+{
+    match reject {
+        Reject::Length => write_text(sink, b"Length"),
+        Reject::Negative(place) => write_number(sink, b"Negative ", *place),
+        Reject::Total => write_text(sink, b"Total"),
+        Reject::RowWide(place) => write_number(sink, b"RowWide ", *place),
+        Reject::Row(place) => write_number(sink, b"Row ", *place),
+        Reject::NoStrict => write_text(sink, b"NoStrict"),
+        Reject::ColumnWide(place) => write_number(sink, b"ColumnWide ", *place),
+        Reject::Column(place) => write_number(sink, b"Column ", *place),
+    }
+}

@@ -1,0 +1,2 @@
+pub mod ChoreLemmas
+pub mod RunLemmas

@@ -1,0 +1,101 @@
+//! A run, from its words to its status.
+
+ghost use Rattle.std.specs.Prelude.{◌≡◌, ◌≤◌, ℕ, List, Some, map};
+ghost use Rattle.std.specs.String.{string_bytes};
+ghost use Rattle.ror_frame.specs.States.{shelf_state, sink_state};
+ghost use Rattle.ror_words.specs.Words.{task_of};
+ghost use Rattle.ror_words.specs.WordTable.{IsByTable};
+ghost use Rattle.ror_words.specs.Named.{given_with, task_with, IsAsked, Suit, HasShortNumber};
+ghost use Rattle.ror_run.specs.Running.{IsRun, Says};
+
+use ror_frame::{Status, write_status};
+use ror_generate::generate;
+use ror_io::{Shelf, Sink};
+use ror_words::{Arguments, CommandWord, Task, read_task, words_in_table};
+use ror_work::{check_files, replay_files};
+use std::alloc::Global;
+
+/// Runs the command that the words name, over files, standard output and standard error.
+pub fn run<F: Shelf, O: Sink, E: Sink>(
+    alloc: Global,
+    words: &[String],
+    shelf: &mut F,
+    out: &mut O,
+    err: &mut E,
+) -> Status
+    ensures run { IsRun (map string_bytes words.now)
+        (shelf_state (F.told shelf.old) (F.faults shelf.old) (F.fetch_count shelf.old))
+        (shelf_state (F.told shelf.new) (F.faults shelf.new) (F.fetch_count shelf.new))
+        (sink_state (O.written out.old) (O.faults out.old))
+        (sink_state (O.written out.new) (O.faults out.new)) result }
+    ensures table { IsByTable (map string_bytes words.now) }
+    ensures err_never_falls { E.faults err.old ≤ E.faults err.new }
+    ensures errors { Says (E.faults err.old) (E.faults err.new)
+        (E.written err.old) (E.written err.new) result }
+{
+    let status = status_of(alloc, words, shelf, out);
+    // What fails there changes no status.
+    let _ = write_status(err, &status);
+    status
+}
+
+/// The status of a run, whose output is written.
+fn status_of<F: Shelf, O: Sink>(
+    alloc: Global,
+    words: &[String],
+    shelf: &mut F,
+    out: &mut O,
+) -> Status
+    ensures run { IsRun (map string_bytes words.now)
+        (shelf_state (F.told shelf.old) (F.faults shelf.old) (F.fetch_count shelf.old))
+        (shelf_state (F.told shelf.new) (F.faults shelf.new) (F.fetch_count shelf.new))
+        (sink_state (O.written out.old) (O.faults out.old))
+        (sink_state (O.written out.new) (O.faults out.new)) result }
+{
+    match words_in_table(words) {
+        Some((command, arguments)) => status_with(alloc, command, &arguments, shelf, out),
+        None => Status::Usage,
+    }
+}
+
+/// The status of a command with these arguments.
+fn status_with<F: Shelf, O: Sink>(
+    alloc: Global,
+    command: CommandWord,
+    arguments: &Arguments<'_>,
+    shelf: &mut F,
+    out: &mut O,
+) -> Status
+    requires { Suit command (given_with arguments.now) }
+    ensures run { (words : List (List ℕ)) → IsAsked words command (given_with arguments.now) → IsRun words
+        (shelf_state (F.told shelf.old) (F.faults shelf.old) (F.fetch_count shelf.old))
+        (shelf_state (F.told shelf.new) (F.faults shelf.new) (F.fetch_count shelf.new))
+        (sink_state (O.written out.old) (O.faults out.old))
+        (sink_state (O.written out.new) (O.faults out.new)) result }
+{
+    let Ok(form) = arguments.normal_form(alloc) else {
+        return Status::Memory;
+    };
+    match read_task(alloc, command, form.as_slice()) {
+        Ok(task) => status_by(alloc, task, shelf, out),
+        Err(_) => Status::Memory,
+    }
+}
+
+/// The status of a task, after the work on it.
+fn status_by<F: Shelf, O: Sink>(alloc: Global, task: Task<'_>, shelf: &mut F, out: &mut O) -> Status
+    requires { HasShortNumber task }
+    ensures run { (words : List (List ℕ)) → task_of words ≡ Some (task_with task.entry) → IsRun words
+        (shelf_state (F.told shelf.old) (F.faults shelf.old) (F.fetch_count shelf.old))
+        (shelf_state (F.told shelf.new) (F.faults shelf.new) (F.fetch_count shelf.new))
+        (sink_state (O.written out.old) (O.faults out.old))
+        (sink_state (O.written out.new) (O.faults out.new)) result }
+{
+    match task {
+        Task::Replay(names, bits) => Status::after(replay_files(alloc, &names, bits, shelf, out)),
+        Task::Check(names, report) => {
+            Status::after(check_files(alloc, &names, report, shelf, out))
+        }
+        Task::Generate(number) => Status::after(generate(alloc, number, out)),
+    }
+}

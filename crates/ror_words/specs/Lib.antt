@@ -1,0 +1,4 @@
+pub mod Words
+pub mod WordTable
+pub mod Named
+pub mod Commands

@@ -1,0 +1,94 @@
+//! A check: the three files are fetched in order, and the report is accepted or rejected.
+
+ghost use Rattle.std.specs.Prelude.{◌≤◌, length, nat_lt};
+ghost use Rattle.ror_value.specs.Over.{IsLawfulIn};
+ghost use Rattle.ror_session.specs.Sound.{IsSound};
+ghost use Rattle.ror_words.specs.Named.{check_of};
+ghost use Rattle.ror_frame.specs.States.{shelf_state, sink_state};
+ghost use Rattle.ror_frame.specs.Statuses.{accepted_text};
+ghost use Rattle.ror_frame.specs.Courses.{IsFetch, ReadAs, WritesDue, IsWork};
+ghost use Rattle.ror_work.specs.Checking.{ProvesReport, RefusesReport, line_output, check_chore};
+
+use ror_bench::{Accepted, Bench, MOST_REPORT_BYTES, Reason, Rejection, check_report};
+use ror_frame::{Refusal, Stop, fetch_session, fetch_table, fetch_whole, write_accepted};
+use ror_io::{Shelf, Sink};
+use ror_session::Session;
+use ror_words::FileNames;
+use ror_xmcda::Input;
+use std::alloc::Global;
+
+/// Fetches the three files in order, each once those before it were read, and writes the line of a report that is accepted. It
+/// says whether anything is too wide.
+///
+/// # Errors
+///
+/// The first file whose bytes are refused is, and what is at fault in it; or a fault of the outside.
+pub fn check_files<F: Shelf, O: Sink>(
+    alloc: Global,
+    names: &FileNames<'_>,
+    report: &str,
+    shelf: &mut F,
+    out: &mut O,
+) -> Result<bool, Stop>
+    ensures { IsWork 0 (check_chore (check_of names.now report.now)).files
+        (check_chore (check_of names.now report.now)).course
+        (shelf_state (F.told shelf.old) (F.faults shelf.old) (F.fetch_count shelf.old))
+        (shelf_state (F.told shelf.new) (F.faults shelf.new) (F.fetch_count shelf.new))
+        (sink_state (O.written out.old) (O.faults out.old))
+        (sink_state (O.written out.new) (O.faults out.new)) result }
+{
+    let input = fetch_table(alloc, names, shelf)?;
+    let session = fetch_session(alloc, names, shelf)?;
+    let accepted = fetch_report(alloc, report, shelf, input, &session)?;
+    write_line(out, accepted)
+}
+
+/// Fetches and checks the report, and counts its answers.
+fn fetch_report<F: Shelf>(
+    alloc: Global,
+    report: &str,
+    shelf: &mut F,
+    input: Input,
+    session: &Session,
+) -> Result<Accepted, Stop>
+    requires lawful { IsLawfulIn input.table input.opening }
+    requires sound { IsSound session.now }
+    ensures { IsFetch report.now 3 (ProvesReport input session.now) (RefusesReport input session.now)
+        (shelf_state (F.told shelf.old) (F.faults shelf.old) (F.fetch_count shelf.old))
+        (shelf_state (F.told shelf.new) (F.faults shelf.new) (F.fetch_count shelf.new)) result }
+{
+    let too_long = Refusal::Rejected(Rejection {
+        block: 0,
+        reason: Reason::TooLong,
+    });
+    let bytes = fetch_whole(alloc, report, MOST_REPORT_BYTES, too_long, shelf)?;
+    answers_in(alloc, input, session, bytes.as_slice())
+}
+
+/// Checks the bytes of a report, and counts its answers.
+fn answers_in(
+    alloc: Global,
+    input: Input,
+    session: &Session,
+    bytes: &[u8],
+) -> Result<Accepted, Stop>
+    requires lawful { IsLawfulIn input.table input.opening }
+    requires sound { IsSound session.now }
+    requires within { length bytes.now ≤ MOST_REPORT_BYTES }
+    ensures { ReadAs 3 (ProvesReport input session.now) (RefusesReport input session.now) bytes.now result }
+{
+    let desks = session.desks.len() as u32;
+    let bench = Bench::new(alloc, input, desks)?;
+    let lines = session.lines.as_slice();
+    Ok(check_report(alloc, bench, lines, bytes)?)
+}
+
+/// Writes the line of an accepted report, and says whether anything is too wide.
+fn write_line<O: Sink>(out: &mut O, accepted: Accepted) -> Result<bool, Stop>
+    ensures { WritesDue (line_output (nat_lt 0 accepted.wide) (accepted_text accepted) (Unit {0}))
+        (sink_state (O.written out.old) (O.faults out.old))
+        (sink_state (O.written out.new) (O.faults out.new)) result }
+{
+    write_accepted(out, accepted)?;
+    Ok(accepted.wide > 0)
+}

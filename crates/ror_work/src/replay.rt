@@ -1,0 +1,117 @@
+//! The report of a session: its header, the block of each line, each written before the next line is taken, and its end.
+
+ghost use Rattle.std.specs.Prelude.{◌≡◌, length};
+ghost use Rattle.std.specs.List.{AllByRecursion, list_any};
+ghost use Rattle.ror_check.specs.Proof.{is_wide};
+ghost use Rattle.ror_session.specs.Sound.{IsSound};
+ghost use Rattle.ror_value.specs.Over.{IsLawfulIn};
+ghost use Rattle.ror_bench.specs.Bench.{LeavesNumbers};
+ghost use Rattle.ror_bench.specs.Reports.{NamesADesk};
+ghost use Rattle.ror_words.specs.Named.{inputs_of};
+ghost use Rattle.ror_frame.specs.States.{shelf_state, sink_state};
+ghost use Rattle.ror_frame.specs.Courses.{WritesDue, IsWork};
+ghost use Rattle.ror_pivot.specs.Answers.{most_of};
+ghost use Rattle.ror_work.specs.Replaying.{report_output, replay_chore, MakesBlocks, has_wide};
+
+use ror_bench::Bench;
+use ror_frame::{Stop, fetch_session, fetch_table};
+use ror_io::{Shelf, Sink, write_all};
+use ror_pivot::Bits;
+use ror_proof::{Answer, Verdict};
+use ror_report::{Block, Body, header, print_block, print_end};
+use ror_session::{Line, Session};
+use ror_words::FileNames;
+use ror_xmcda::Input;
+use std::alloc::Global;
+
+/// Fetches table and session, each once those before it were read, and writes the report of the session at a width. It says
+/// whether anything is too wide.
+///
+/// # Errors
+///
+/// The first file whose bytes are refused is, and what is at fault in it; or a fault of the outside.
+pub fn replay_files<F: Shelf, O: Sink>(
+    alloc: Global,
+    names: &FileNames<'_>,
+    bits: Bits,
+    shelf: &mut F,
+    out: &mut O,
+) -> Result<bool, Stop>
+    ensures { IsWork 0 (replay_chore (inputs_of names.now) bits).files
+        (replay_chore (inputs_of names.now) bits).course
+        (shelf_state (F.told shelf.old) (F.faults shelf.old) (F.fetch_count shelf.old))
+        (shelf_state (F.told shelf.new) (F.faults shelf.new) (F.fetch_count shelf.new))
+        (sink_state (O.written out.old) (O.faults out.old))
+        (sink_state (O.written out.new) (O.faults out.new)) result }
+{
+    let input = fetch_table(alloc, names, shelf)?;
+    let session = fetch_session(alloc, names, shelf)?;
+    write_report(alloc, input, &session, bits, out)
+}
+
+/// Writes the report of a session over an input at a width, and says whether anything is too wide. Each block is written before the
+/// next line is taken, and after a write that failed nothing more is.
+fn write_report<O: Sink>(
+    alloc: Global,
+    input: Input,
+    session: &Session,
+    bits: Bits,
+    out: &mut O,
+) -> Result<bool, Stop>
+    requires lawful { IsLawfulIn input.table input.opening }
+    requires sound { IsSound session.now }
+    ensures { WritesDue (report_output (most_of bits) input session.now) (sink_state (O.written out.old) (O.faults out.old))
+        (sink_state (O.written out.new) (O.faults out.new)) result }
+{
+    let desks = session.desks.len() as u32;
+    let mut bench = Bench::new(alloc, input, desks)?;
+    write_all(out, header())?;
+    let lines = session.lines.as_slice();
+    let wide = write_blocks(alloc, &mut bench, lines, bits, out)?;
+    let end = print_end(alloc, lines.len() as u32)?;
+    write_all(out, end.as_slice())?;
+    Ok(wide)
+}
+
+/// Writes the block of each line, and says whether anything is too wide.
+fn write_blocks<O: Sink>(
+    alloc: Global,
+    bench: &mut Bench,
+    lines: &[Line],
+    bits: Bits,
+    out: &mut O,
+) -> Result<bool, Stop>
+    requires desks { AllByRecursion (NamesADesk (length bench.old.state)) lines.now }
+    requires numbers { AllByRecursion (LeavesNumbers (length lines.now)) bench.old.state }
+    ensures { MakesBlocks (most_of bits) bench.old lines.now (sink_state (O.written out.old) (O.faults out.old))
+        (sink_state (O.written out.new) (O.faults out.new)) result }
+{
+    let mut wide = false;
+    for line in lines {
+        let block = bench.step(line, bits)?;
+        let text = print_block(alloc, bench.table(), &block)?;
+        write_all(out, text.as_slice())?;
+        wide = wide || has_wide(&block);
+    }
+    Ok(wide)
+}
+
+/// Whether an answer of the block is too wide, or its repair.
+fn has_wide(block: &Block) -> bool
+    ensures { result ≡ has_wide block.now }
+{
+    match &block.body {
+        Body::Answers(answers) => has_wide_answer(answers.as_slice()),
+        Body::RepairWide(_, _) => true,
+        _ => false,
+    }
+}
+
+/// Whether one of the answers is too wide.
+fn has_wide_answer(answers: &[Answer]) -> bool
+    ensures { result ≡ list_any (λ x. is_wide x.verdict) answers.now }
+{
+    answers
+        .iter()
+        .any(|answer| matches!(answer.verdict, Verdict::Wide { .. }))
+}
