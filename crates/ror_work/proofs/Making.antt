@@ -1,9 +1,9 @@
 -- A report that is written block by block: what is written when one more is, and where it stops.
 use Rattle.std.proofs.lemmas.List.{take_all, take-append-drop, take_more}
 use Rattle.std.proofs.Common.{append-nil, ◌≡◌, ℕ, ◌+◌, ◌<◌, ◌≤◌, Bool, true, false, ◌||◌, List, [], ◌∷◌, ◌++◌, length, take, drop, get_or, Ok, Err, refl, sym, ap, ◌∙◌, subst, inl, inr, arith}
-use Rattle.std.specs.Prelude.{zero, suc, nat_lt, cond, replicate}
+use Rattle.std.specs.Prelude.{nat_lt, cond}
 use Rattle.std.specs.Bool.{beq}
-use Rattle.std.specs.List.{AllByRecursion, flat_map, list_any, sum_by, count_by}
+use Rattle.std.specs.List.{flat_map, list_any, sum_by, count_by}
 use Rattle.std.proofs.lemmas.List.Folds.{list_any-append}
 use Rattle.ror_proof.specs.declared.answer.Answer.{Answer}
 use Rattle.ror_check.specs.Proof.{is_wide}
@@ -12,20 +12,14 @@ use Rattle.ror_report.specs.declared.block.Block.{Block}
 use Rattle.ror_report.specs.declared.block.Body.{Body}
 use Rattle.ror_report.specs.declared.block.Body.TheVariants as bodies
 use Rattle.ror_report.specs.Text.{block_text, header_text, end_text, IsPrintableBlock}
-use Rattle.ror_statement.specs.declared.statement.Statement.{Statement}
 use Rattle.ror_table.specs.Table.{DecisionTable}
 use Rattle.ror_value.specs.declared.input.Input.{Input}
-use Rattle.ror_value.specs.Over.{IsLawfulIn}
-use Rattle.ror_history.specs.History.{Revision, statements_of}
-use Rattle.ror_history.proofs.HistoryLemmas.{with_numbers_from-statements}
-use Rattle.ror_history.proofs.TurnLemmas.{next_number-first}
-use Rattle.ror_session.specs.declared.limits.TheConstants.{MOST_LINES}
 use Rattle.ror_session.specs.declared.session.Session.{Session}
 use Rattle.ror_io.specs.Counts.{Rose}
 use Rattle.ror_io.specs.Writing.{Grew, GrewShort}
 use Rattle.ror_io.proofs.Writes.{Grew-none, Grew-append, GrewShort-more, GrewShort-after}
 use Rattle.ror_bench.specs.Allowed.{given_at}
-use Rattle.ror_bench.specs.Bench.{Workbench, revisions_at, HoldTheSame, IsLawfulThroughout, IsLawfulBench, LeavesNumbers}
+use Rattle.ror_bench.specs.Bench.{Workbench, revisions_at, HoldTheSame, IsLawfulBench}
 use Rattle.ror_bench.specs.Blocks.{passed_of, IsBlockOf, with_block}
 use Rattle.ror_bench.specs.Reports.{accepted_of}
 use Rattle.ror_bench.proofs.MakingLemmas.{IsMade, made_nothing, made_more, text_more}

@@ -1,15 +1,19 @@
 //! The report of a session: its header, the block of each line, each written before the next line is taken, and its end.
 
-ghost use Rattle.std.specs.Prelude.{◌≡◌, length};
+ghost use Rattle.std.specs.Prelude.{◌≡◌, ◌≤◌, length};
 ghost use Rattle.std.specs.List.{AllByRecursion, list_any};
 ghost use Rattle.ror_check.specs.Proof.{is_wide};
+ghost use Rattle.ror_session.specs.declared.limits.TheConstants.{MOST_LINES};
+ghost use Rattle.ror_session.specs.declared.session.Session as sessions;
 ghost use Rattle.ror_session.specs.Sound.{IsSound};
+ghost use Rattle.ror_value.specs.declared.input.Input as inputs;
 ghost use Rattle.ror_value.specs.Over.{IsLawfulIn};
-ghost use Rattle.ror_bench.specs.Bench.{LeavesNumbers};
+ghost use Rattle.ror_bench.specs.Bench.{IsLawfulBench, LeavesNumbers};
 ghost use Rattle.ror_bench.specs.Reports.{NamesADesk};
 ghost use Rattle.ror_words.specs.Named.{inputs_of};
 ghost use Rattle.ror_frame.specs.States.{shelf_state, sink_state};
 ghost use Rattle.ror_frame.specs.Courses.{WritesDue, IsWork};
+ghost use Rattle.ror_frame.specs.Inputs.{bench_for};
 ghost use Rattle.ror_pivot.specs.Answers.{most_of};
 ghost use Rattle.ror_work.specs.Replaying.{report_output, replay_chore, MakesBlocks, has_wide};
 
@@ -65,9 +69,26 @@ fn write_report<O: Sink>(
 {
     let desks = session.desks.len() as u32;
     let mut bench = Bench::new(alloc, input, desks)?;
+    write_lines(alloc, &mut bench, session.lines.as_slice(), bits, out)
+}
+
+/// Writes the report of these lines over a bench, and says whether anything is too wide.
+fn write_lines<O: Sink>(
+    alloc: Global,
+    bench: &mut Bench,
+    lines: &[Line],
+    bits: Bits,
+    out: &mut O,
+) -> Result<bool, Stop>
+    requires desks { AllByRecursion (NamesADesk (length bench.old.state)) lines.now }
+    requires numbers { AllByRecursion (LeavesNumbers (length lines.now)) bench.old.state }
+    requires few { length lines.now ≤ MOST_LINES }
+    ensures { (i : inputs.Input) (s : sessions.Session) → bench.old ≡ bench_for i s → lines.now ≡ s.lines → IsLawfulBench (bench_for i s)
+        → WritesDue (report_output (most_of bits) i s) (sink_state (O.written out.old) (O.faults out.old))
+        (sink_state (O.written out.new) (O.faults out.new)) result }
+{
     write_all(out, header())?;
-    let lines = session.lines.as_slice();
-    let wide = write_blocks(alloc, &mut bench, lines, bits, out)?;
+    let wide = write_blocks(alloc, bench, lines, bits, out)?;
     let end = print_end(alloc, lines.len() as u32)?;
     write_all(out, end.as_slice())?;
     Ok(wide)
