@@ -1,0 +1,96 @@
+//! Texts of blocks and of whole reports, piece by piece.
+
+use crate::made::three_alternatives;
+use ror_proof::{Answer, Certificate, Proof, Verdict};
+use ror_report::{
+    Block, Body, ReportFault, begins_end, header, print_block, print_end, read_block, read_end,
+    read_header,
+};
+use ror_statement::Question;
+use ror_system::Solution;
+use ror_table::Table;
+use ror_text::Items;
+use std::alloc::Global;
+use std::test::Fail;
+
+const REPORT: &[u8] =
+    b"ror-report 1\nline 1\nanswer necessary a c yes\nbase solution 1 1 1 1\npart 1 multipliers | 0 1\nend 1\n";
+
+/// The line of the block at a place, how many answers it has, and the place after it.
+fn block_at(alloc: Global, table: &Table, text: &[u8], from: usize) -> Option<(u32, usize, usize)> {
+    if from > text.len() {
+        return None;
+    }
+    let (block, next) = read_block(alloc, table, text, from).ok()?;
+    match &block.body {
+        Body::Answers(answers) => Some((block.line, answers.len(), next)),
+        _ => Some((block.line, 0, next)),
+    }
+}
+
+#[test]
+fn a_report_is_read_piece_by_piece(rt: HostRuntime) -> Result<(), Fail> {
+    let table = three_alternatives(rt.alloc())?;
+    assert!(rt; read_header(REPORT) == Some(13));
+    assert_eq!(rt; block_at(rt.alloc(), &table, REPORT, 13), Some((1, 1, 92)));
+    assert!(rt; begins_end(REPORT, 92) && !begins_end(REPORT, 13));
+    assert!(rt; matches!(read_end(REPORT, 92), Ok(1)));
+    Ok(())
+}
+
+#[test]
+fn the_ends_of_a_report_are_printed(rt: HostRuntime) -> Result<(), Fail> {
+    assert_eq!(rt; header(), b"ror-report 1\n".as_slice());
+    let last = print_end(rt.alloc(), 4294967295)?;
+    assert_eq!(rt; last.as_slice(), b"end 4294967295\n".as_slice());
+    Ok(())
+}
+
+#[test]
+fn a_revision_is_printed(rt: HostRuntime) -> Result<(), Fail> {
+    let table = three_alternatives(rt.alloc())?;
+    let block = Block {
+        line: 7,
+        body: Body::Replaced(4294967295),
+    };
+    let text = print_block(rt.alloc(), &table, &block)?;
+    assert_eq!(rt;
+        text.as_slice(),
+        b"line 7\nreplaced 4294967295\n".as_slice()
+    );
+    Ok(())
+}
+
+#[test]
+fn answers_are_printed(rt: HostRuntime) -> Result<(), Fail> {
+    let table = three_alternatives(rt.alloc())?;
+    let base = Certificate::Solution(Solution {
+        steps: Items::from(Vec::new(rt.alloc())),
+    });
+    let parts = Items::from(Vec::new(rt.alloc()));
+    let mut answers = Vec::new(rt.alloc());
+    answers.push(Answer {
+        question: Question::Consistent,
+        verdict: Verdict::Yes(Proof { base, parts }),
+    })?;
+    let block = Block {
+        line: 7,
+        body: Body::Answers(Items::from(answers)),
+    };
+    let text = print_block(rt.alloc(), &table, &block)?;
+    assert_eq!(rt;
+        text.as_slice(),
+        b"line 7\nanswer consistent yes\nbase solution\n".as_slice()
+    );
+    Ok(())
+}
+
+#[test]
+fn the_first_fault_of_a_body_is_named(rt: HostRuntime) -> Result<(), Fail> {
+    let table = three_alternatives(rt.alloc())?;
+    let result = read_block(rt.alloc(), &table, b"line 1\nundone x\n", 0);
+    assert!(rt; matches!(result, Err(ReportFault::BadLine(7))));
+    let result = read_block(rt.alloc(), &table, b"line 1\nwithdrawn 01\n", 0);
+    assert!(rt; matches!(result, Err(ReportFault::BadNumber(7))));
+    Ok(())
+}
