@@ -43,9 +43,14 @@ brought_whole {Y} name place most why a b got called same kept within found = re
   told_stays = called.told_stays;
   counted = called.counted;
   missing = λ lacks. absurd (kept lacks);
-  fetched = (same, got.items, (λ files is stayed.
-      let here = there a.told files name is kept in
-      here.1 ∙ some (sym (found here.0 here.2 stayed))), (refl, within));
+  fetched = (
+    same,
+    got.items,
+    (λ files is stayed.
+        let here = there a.told files name is kept in
+        here.1 ∙ some (sym (found here.0 here.2 stayed))),
+    (refl, within),
+  );
 }
   where
     some : {xs ys : List ℕ} → xs ≡ ys → Some xs ≡ Some ys
@@ -58,9 +63,14 @@ brought_longer {A} name Reads most why a b pure called same kept found = record 
   told_stays = called.told_stays;
   counted = called.counted;
   missing = λ lacks. absurd (kept lacks);
-  fetched = (same, refl, pure, λ files is stayed.
-      let here = there a.told files name is kept in
-      (here.0, here.1, (refl, found here.0 here.2 stayed)));
+  fetched = (
+    same,
+    refl,
+    pure,
+    λ files is stayed.
+        let here = there a.told files name is kept in
+        (here.0, here.1, (refl, found here.0 here.2 stayed)),
+  );
 }
 
 -- where nothing was read, it matters not as what it would have been

@@ -28,9 +28,13 @@ long_session bytes r long = (session_faults.TooLong, long.0, session_of-long byt
 
 -- a course over table and session is decided where it is after them
 pub decided_inputs : (names : InputNames) (next : Input → Session → Course) → ((table : List ℕ) (i : Input) (s : Session) → ReadsTable names.best_first table i → IsDecided (next i s)) → IsDecided (over_inputs names next)
-decided_inputs names next decided table =
-    ((λ i j p q. cc), (λ q r a b. one_table q r a b), (λ i r p a. let q = a.2 in cc), λ i read session.
-    ((λ s u p q. cc), (λ q r a b. one_session session q r a b), (λ s r p a. let q = a.2 in cc), λ s other. decided table i s read))
+decided_inputs names next decided table = (
+  (λ i j p q. cc),
+  (λ q r a b. one_table q r a b),
+  (λ i r p a. let q = a.2 in cc),
+  λ i read session.
+      ((λ s u p q. cc), (λ q r a b. one_session session q r a b), (λ s r p a. let q = a.2 in cc), λ s other. decided table i s read),
+)
   where
     one_table : (q r : Refusal) → RefusesTable names.best_first table q → RefusesTable names.best_first table r → q ≡ r
     one_table q r a b = let m = a.1 in let n = b.1 in let x = a.2 in let y = b.2 in let same : a.0 ≡ b.0 = cc in cc

@@ -46,7 +46,11 @@ pub fn fetch_whole<F: Shelf>(
 /// # Errors
 ///
 /// The first fault of the bytes is, and what the shelf's fault is.
-pub fn fetch_table<F: Shelf>(alloc: Global, names: &FileNames<'_>, shelf: &mut F) -> Result<Input, Stop>
+pub fn fetch_table<F: Shelf>(
+    alloc: Global,
+    names: &FileNames<'_>,
+    shelf: &mut F,
+) -> Result<Input, Stop>
     ensures fetch { IsFetch names.now.table.now 1
         (ReadsTable names.now.best_first) (RefusesTable names.now.best_first)
         (shelf_state (F.told shelf.old) (F.faults shelf.old) (F.fetch_count shelf.old))

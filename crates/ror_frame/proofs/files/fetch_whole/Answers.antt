@@ -11,15 +11,15 @@ returns-in-Whole g c =
     let short : IsNoLonger c.args.most c.in_ok-fetched.fetched = had.within in
     let within : length c.in-Whole.bytes.items ≤ c.args.most = rw c.in-Whole.is at short in
     brought_whole c.args.name.now _ c.args.most c.args.too_long _ _ c.in-Whole.bytes called had.other (λ lacks. let e = (had.missing lacks).0 in cc) within (λ bytes has stayed.
-        let found : Fetches bytes c.args.most c.in_ok-fetched.fetched = had.found bytes has stayed in
-        let same : (c.in-Whole.bytes.items ≡ bytes) × (length bytes ≤ c.args.most) = rw c.in-Whole.is at found in
-        same.0)
+    let found : Fetches bytes c.args.most c.in_ok-fetched.fetched = had.found bytes has stayed in
+    let same : (c.in-Whole.bytes.items ≡ bytes) × (length bytes ≤ c.args.most) = rw c.in-Whole.is at found in
+    same.0)
 
 pub returns-in-Longer : goal.returns-in-Longer
 returns-in-Longer g c =
     let had = c.in_ok-fetched.ensures in
     let called : IsCalled c.args.name.now (shelf_state (g.F.Shelf.told c.args.shelf.now) (g.F.Shelf.faults c.args.shelf.now) (g.F.Shelf.fetch_count c.args.shelf.now)) (shelf_state (g.F.Shelf.told c.fetch.new.self) (g.F.Shelf.faults c.fetch.new.self) (g.F.Shelf.fetch_count c.fetch.new.self)) = record { never_falls = had.never_falls; told_stays = had.told_stays; counted = had.counted } in
-    brought_longer c.args.name.now _ c.args.most c.args.too_long _ _ c.requires called had.other (λ lacks. let e = (had.missing lacks).0 in cc) (λ bytes has stayed. 
-        let found : Fetches bytes c.args.most c.in_ok-fetched.fetched = had.found bytes has stayed in
-        let longer : c.args.most < length bytes = rw c.in-Longer.is at found in
-        longer)
+    brought_longer c.args.name.now _ c.args.most c.args.too_long _ _ c.requires called had.other (λ lacks. let e = (had.missing lacks).0 in cc) (λ bytes has stayed.
+    let found : Fetches bytes c.args.most c.in_ok-fetched.fetched = had.found bytes has stayed in
+    let longer : c.args.most < length bytes = rw c.in-Longer.is at found in
+    longer)
