@@ -1,10 +1,9 @@
 //! Texts of blocks and of whole reports, piece by piece.
 
 use crate::made::three_alternatives;
-use ror_proof::{Answer, Certificate, Proof, Verdict};
+use ror_proof::{Answer, Certificate, Proof, ProofFault, Verdict};
 use ror_report::{
-    Block, Body, ReportFault, begins_end, header, print_block, print_end, read_block, read_end,
-    read_header,
+    Block, Body, begins_end, header, print_block, print_end, read_block, read_end, read_header,
 };
 use ror_statement::Question;
 use ror_system::Solution;
@@ -89,8 +88,8 @@ fn answers_are_printed(rt: HostRuntime) -> Result<(), Fail> {
 fn the_first_fault_of_a_body_is_named(rt: HostRuntime) -> Result<(), Fail> {
     let table = three_alternatives(rt.alloc())?;
     let result = read_block(rt.alloc(), &table, b"line 1\nundone x\n", 0);
-    assert!(rt; matches!(result, Err(ReportFault::BadLine(7))));
+    assert!(rt; matches!(result, Err(ProofFault::BadLine(7))));
     let result = read_block(rt.alloc(), &table, b"line 1\nwithdrawn 01\n", 0);
-    assert!(rt; matches!(result, Err(ReportFault::BadNumber(7))));
+    assert!(rt; matches!(result, Err(ProofFault::BadNumber(7))));
     Ok(())
 }
