@@ -1,0 +1,375 @@
+//! Answers and repairs that are accepted with their proofs, and why others are refused.
+
+ghost use Rattle.std.specs.Prelude.{IsTrue};
+ghost use Rattle.std.specs.List.{AllByRecursion};
+ghost use Rattle.ror_value.specs.Over.{IsAskedIn};
+
+use crate::made::{AB, AC, BA, BC, are_rising, is_asked, is_lawful, three_alternatives};
+use ror_check::{check_answer, check_answers, check_repair};
+use ror_proof::{Answer, Certificate, Dropped, Kept, read_answer};
+use ror_statement::{Numbered, Question, Scope, Statement, statements_in};
+use ror_system::{Multipliers, Solution};
+use ror_table::{Table, read_plain};
+use ror_text::Items;
+use std::alloc::{AllocError, Global};
+use std::test::Fail;
+
+const NOTHING: &[Statement] = &[];
+
+const A_OVER_B: &[Statement] = &[Statement::Prefer(0, 1)];
+
+const EQUALLY_FAR: &[Statement] = &[Statement::EqualStrength(AC, BC, Scope::Whole)];
+
+const OTHER_KIND: &str = "the verdict has no proof, or a certificate of another kind than it wants";
+
+const OTHER_PARTS: &str = "the parts are not those that the verdict wants";
+
+/// Lists, questions, answers, and what a check of each says. The row of a over b is (0, 1, 0, -1), that of a over c
+/// (1, 1, 1, 0).
+const CHECKED: [(&[Statement], Question, &[u8], &str); 15] = [
+    (
+        NOTHING,
+        Question::Necessary(0, 2),
+        b"answer necessary a c yes\nbase solution 1 1 1 1\npart 1 multipliers | 0 1\n",
+        "",
+    ),
+    (
+        NOTHING,
+        Question::Necessary(0, 1),
+        b"answer necessary a b no\nbase solution 1 1 1 1\npart 1 solution 0 0 0 1\n",
+        "",
+    ),
+    (
+        A_OVER_B,
+        Question::Possible(1, 0),
+        b"answer possible b a no\nbase solution 0 1 0 0\npart 1 multipliers 1 | 0 1\n",
+        "",
+    ),
+    (
+        EQUALLY_FAR,
+        Question::PossibleStrength(AC, BC, Scope::One(0)),
+        b"answer possible a c b c on q yes\nbase solution 1 1 1 1\npart 1 solution 1 1 1 1\n",
+        "",
+    ),
+    (
+        &[Statement::Prefer(0, 1), Statement::Prefer(1, 0)],
+        Question::Consistent,
+        b"answer consistent contradiction\nbase multipliers | 0 1 1\n",
+        "",
+    ),
+    // another question
+    (
+        NOTHING,
+        Question::Necessary(2, 0),
+        b"answer necessary a c yes\nbase solution 1 1 1 1\npart 1 multipliers | 0 1\n",
+        "the answer is to another question",
+    ),
+    // nothing is concluded
+    (
+        NOTHING,
+        Question::Necessary(0, 2),
+        b"answer necessary a c wide\nwide 1 step 1 0 path 2:1 0:0\n",
+        OTHER_KIND,
+    ),
+    // a base or a part of the other kind
+    (
+        NOTHING,
+        Question::Necessary(0, 2),
+        b"answer necessary a c yes\nbase multipliers | 1\npart 1 multipliers | 0 1\n",
+        OTHER_KIND,
+    ),
+    (
+        NOTHING,
+        Question::Necessary(0, 2),
+        b"answer necessary a c yes\nbase solution 1 1 1 1\npart 1 solution 0 0 0 1\n",
+        OTHER_KIND,
+    ),
+    // a part too few, and one of a system that the question hasn't
+    (
+        NOTHING,
+        Question::Necessary(0, 2),
+        b"answer necessary a c yes\nbase solution 1 1 1 1\n",
+        OTHER_PARTS,
+    ),
+    (
+        NOTHING,
+        Question::Necessary(0, 2),
+        b"answer necessary a c yes\nbase solution 1 1 1 1\npart 2 multipliers | 0 1\n",
+        OTHER_PARTS,
+    ),
+    // certificates that are not accepted
+    (
+        A_OVER_B,
+        Question::Necessary(0, 1),
+        b"answer necessary a b yes\nbase solution 0 0 0 1\npart 1 multipliers | 0 1 1\n",
+        "the base is not accepted: Row(1)",
+    ),
+    (
+        &[Statement::AtLeast(0, 2)],
+        Question::Necessary(0, 2),
+        b"answer necessary a c yes\nbase solution 1 1 1 1\npart 1 multipliers 1 | 0 0\n",
+        "part 1 is not accepted: NoStrict",
+    ),
+    // multipliers that pass over a row, and some that do not refute
+    (
+        &[Statement::Prefer(0, 2), Statement::Prefer(0, 1)],
+        Question::Possible(1, 0),
+        b"answer possible b a no\nbase solution 0 1 0 0\npart 1 multipliers 1 | 0 0 1\n",
+        "",
+    ),
+    (
+        &[Statement::Prefer(0, 2), Statement::Prefer(0, 1)],
+        Question::Possible(1, 0),
+        b"answer possible b a no\nbase solution 0 1 0 0\npart 1 multipliers 1 | 0 1 0\n",
+        "part 1 is not accepted: Column(0)",
+    ),
+];
+
+/// What a check of an answer with this text says: the fault, or nothing.
+fn said(
+    alloc: Global,
+    table: &Table,
+    list: &[Statement],
+    asked: &Question,
+    text: &[u8],
+) -> Result<String, Fail> {
+    if !is_lawful(table, list) || !is_asked(table, asked) {
+        return Err(Fail::new("the list is lawful and the question valid"));
+    }
+    let (answer, _) = read_answer(alloc, table, text, 0)?;
+    match check_answer(alloc, table, list, asked, &answer) {
+        Ok(()) => Ok(String::new(alloc)),
+        Err(fault) => Ok(format!(in alloc; "{fault}")?),
+    }
+}
+
+#[test]
+fn an_answer_is_accepted_with_its_proof_alone(rt: HostRuntime) -> Result<(), Fail> {
+    let table = three_alternatives(rt.alloc())?;
+    for (list, asked, text, expected) in CHECKED {
+        let found = said(rt.alloc(), &table, list, &asked, text)?;
+        assert_eq!(rt; found.as_str(), expected, "{asked:?} over {list:?}");
+    }
+    Ok(())
+}
+
+/// Whether all questions name what the table has.
+fn are_asked(table: &Table, answers: &[Answer]) -> bool
+    ensures { IsTrue result → AllByRecursion (λ x. IsAskedIn table.now x.question) answers.now }
+{
+    match answers {
+        [] => true,
+        [first, rest @ ..] => is_asked(table, &first.question) && are_asked(table, rest),
+    }
+}
+
+/// What a check of answers with these texts says: the fault, or nothing.
+fn said_of_all(
+    alloc: Global,
+    table: &Table,
+    list: &[Statement],
+    texts: &[&[u8]],
+) -> Result<String, Fail> {
+    let mut answers = Vec::new(alloc);
+    for text in texts {
+        let (answer, _) = read_answer(alloc, table, text, 0)?;
+        answers.push(answer)?;
+    }
+    let answers = answers.as_slice();
+    if !is_lawful(table, list) || answers.len() > 100 || !are_asked(table, answers) {
+        return Err(Fail::new("the list is lawful and the questions valid, and they are few"));
+    }
+    match check_answers(alloc, table, list, answers) {
+        Ok(()) => Ok(String::new(alloc)),
+        Err(fault) => Ok(format!(in alloc; "{fault}")?),
+    }
+}
+
+const SETTLED: &[u8] =
+    b"answer necessary a b yes\nbase solution 0 1 0 0\npart 1 multipliers | 0 1 1\n";
+
+const AGAIN: &[u8] = b"answer possible b a no\nbase solution 0 1 0 0\npart 1 multipliers 1 | 0 1\n";
+
+const BY_ANOTHER_BASE: &[u8] =
+    b"answer possible b a no\nbase solution 0 2 0 1\npart 1 multipliers 1 | 0 1\n";
+
+const BY_A_WRONG_BASE: &[u8] =
+    b"answer possible b a no\nbase solution 0 0 0 1\npart 1 multipliers 1 | 0 1\n";
+
+const BY_THE_BASE: &[u8] =
+    b"answer necessary c a no\nbase solution 0 1 0 0\npart 1 solution 0 1 0 0\n";
+
+const AGAINST_THE_BASE: &[u8] =
+    b"answer necessary a b no\nbase solution 0 1 0 0\npart 1 solution 0 1 0 0\n";
+
+const TOO_WIDE: &[u8] = b"answer necessary a c wide\nwide 1 step 1 0 path 2:1 0:0\n";
+
+/// Answers over the statement of a over b, and what a check of them says.
+const OVER_ONE_BASE: [(&[&[u8]], &str); 5] = [
+    (&[], ""),
+    (&[SETTLED, BY_THE_BASE, BY_THE_BASE], ""),
+    (
+        &[SETTLED, AGAINST_THE_BASE],
+        "answer 2 is not accepted: part 1 is not accepted: Row(2)",
+    ),
+    (&[SETTLED, AGAIN, BY_ANOTHER_BASE], ""),
+    (
+        &[SETTLED, TOO_WIDE, BY_A_WRONG_BASE],
+        "answer 3 is not accepted: the base is not accepted: Row(1)",
+    ),
+];
+
+#[test]
+fn each_answer_is_checked_over_one_base(rt: HostRuntime) -> Result<(), Fail> {
+    let table = three_alternatives(rt.alloc())?;
+    for (texts, expected) in OVER_ONE_BASE {
+        let found = said_of_all(rt.alloc(), &table, A_OVER_B, texts)?;
+        assert_eq!(rt; found.as_str(), expected);
+    }
+    Ok(())
+}
+
+fn whole_numbers(alloc: Global, numbers: &[i128]) -> Result<Items<i128>, AllocError> {
+    let mut list = Vec::new(alloc);
+    for number in numbers {
+        list.push(*number)?;
+    }
+    Ok(list.into())
+}
+
+/// The multipliers of weak rows and of strict ones.
+type Weights = (&'static [i128], &'static [i128]);
+
+fn multipliers(alloc: Global, weights: Weights) -> Result<Multipliers, AllocError> {
+    let weak = whole_numbers(alloc, weights.0)?;
+    let strict = whole_numbers(alloc, weights.1)?;
+    Ok(Multipliers { weak, strict })
+}
+
+/// A base: the steps of a solution, or multipliers.
+#[derive(Clone, Copy)]
+enum Given {
+    Steps(&'static [i128]),
+    Weights(Weights),
+}
+
+fn certificate(alloc: Global, given: Given) -> Result<Certificate, AllocError> {
+    match given {
+        Given::Steps(steps) => Ok(Certificate::Solution(Solution {
+            steps: whole_numbers(alloc, steps)?,
+        })),
+        Given::Weights(weights) => Ok(Certificate::Multipliers(multipliers(alloc, weights)?)),
+    }
+}
+
+/// What a check of a repair that drops these statements, with this base, says: the fault, or nothing.
+fn said_of_repair(
+    alloc: Global,
+    table: &Table,
+    standing: &[Numbered],
+    drops: &[(u32, Weights)],
+    base: Given,
+) -> Result<String, Fail> {
+    let mut dropped = Vec::new(alloc);
+    for (number, weights) in drops {
+        let proof = multipliers(alloc, *weights)?;
+        dropped.push(Dropped {
+            number: *number,
+            proof,
+        })?;
+    }
+    let kept = Kept {
+        dropped: dropped.into(),
+        base: certificate(alloc, base)?,
+    };
+    let list = statements_in(alloc, standing)?;
+    if !is_lawful(table, list.as_slice()) || !are_rising(standing) {
+        return Err(Fail::new("the list is lawful and the numbers rise"));
+    }
+    match check_repair(alloc, table, standing, &kept) {
+        Ok(()) => Ok(String::new(alloc)),
+        Err(fault) => Ok(format!(in alloc; "{fault}")?),
+    }
+}
+
+/// a over b and b over a, which contradict each other, and that b is worth at least c.
+const STANDING: &[Numbered] = &[
+    Numbered {
+        number: 1,
+        statement: Statement::Prefer(0, 1),
+    },
+    Numbered {
+        number: 2,
+        statement: Statement::Prefer(1, 0),
+    },
+    Numbered {
+        number: 4,
+        statement: Statement::AtLeast(1, 2),
+    },
+];
+
+const REFUTED: (u32, Weights) = (2, (&[], &[0, 1, 1]));
+
+const NOT_STANDING: &str = "the dropped statements are not standing ones in increasing order";
+
+/// The statements that a repair drops, its base, and what a check of it says.
+const REPAIRS: [(&[(u32, Weights)], Given, &str); 6] = [
+    (&[REFUTED], Given::Steps(&[0, 1, 0, 0]), ""),
+    // a number that does not stand, and two in falling order
+    (
+        &[(3, (&[], &[0, 1, 1]))],
+        Given::Steps(&[0, 1, 0, 0]),
+        NOT_STANDING,
+    ),
+    (
+        &[(4, (&[0], &[0, 0])), REFUTED],
+        Given::Steps(&[0, 1, 0, 0]),
+        NOT_STANDING,
+    ),
+    // before any multipliers are tested
+    (
+        &[(2, (&[], &[0, 1, 0]))],
+        Given::Weights((&[0], &[0, 0])),
+        "the base is multipliers, though a statement is kept",
+    ),
+    // multipliers that refute nothing
+    (
+        &[(2, (&[], &[0, 1, 0]))],
+        Given::Steps(&[0, 0, 0, 1]),
+        "the multipliers of statement 2 are not accepted: Column(1)",
+    ),
+    (
+        &[REFUTED],
+        Given::Steps(&[0, 0, 0, 1]),
+        "the base is not accepted: Row(2)",
+    ),
+];
+
+/// The statement of a over b has the row (0, 1, 0, -1), that of b over a its negative, and that of b and c (1, 0, 1, 1).
+#[test]
+fn a_repair_is_accepted_with_its_proof_alone(rt: HostRuntime) -> Result<(), Fail> {
+    let table = three_alternatives(rt.alloc())?;
+    for (drops, base, expected) in REPAIRS {
+        let found = said_of_repair(rt.alloc(), &table, STANDING, drops, base)?;
+        assert_eq!(rt; found.as_str(), expected, "{drops:?}");
+    }
+    Ok(())
+}
+
+/// A table with one alternative has no column, so no value function has a positive total, and each statement is dropped.
+#[test]
+fn where_nothing_is_kept_the_base_may_be_multipliers(rt: HostRuntime) -> Result<(), Fail> {
+    let table = read_plain(
+        rt.alloc(),
+        b"ror-table 1\ncriterion q max\nalternative a 3\n",
+    )?;
+    let standing = [Numbered {
+        number: 7,
+        statement: Statement::AtLeast(0, 0),
+    }];
+    let drops: [(u32, Weights); 1] = [(7, (&[0], &[1]))];
+    let base = Given::Weights((&[], &[1]));
+    let found = said_of_repair(rt.alloc(), &table, &standing, &drops, base)?;
+    assert_eq!(rt; found.as_str(), "");
+    Ok(())
+}

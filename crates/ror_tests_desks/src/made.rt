@@ -1,0 +1,106 @@
+//! A table and statements that several tests use, and whether a desk may hold or be asked these.
+
+ghost use Rattle.std.specs.Prelude.{IsTrue};
+ghost use Rattle.std.specs.List.{AllByRecursion};
+ghost use Rattle.std.specs.List.Sorted.{IsStrictlyIncreasing};
+ghost use Rattle.ror_value.specs.Over.{IsValidIn, IsLawfulIn, IsAskedIn};
+ghost use Rattle.ror_statement.specs.Statements.{numbers_in};
+
+use ror_statement::{
+    MOST_ROWS, MOST_STATEMENTS, Numbered, Pair, Question, Statement, row_count, valid,
+    valid_question,
+};
+use ror_table::{Table, TableError, read_plain};
+use std::alloc::Global;
+
+const TABLE: &[u8] = b"ror-table 1
+criterion q max
+criterion p min
+classes 3
+alternative a 3 10
+alternative b 2 8
+alternative c 1 12
+";
+
+/// Three alternatives by two criteria of two steps each, with three classes.
+pub fn three_alternatives(alloc: Global) -> Result<Table, TableError> {
+    read_plain(alloc, TABLE)
+}
+
+pub const AB: Pair = Pair {
+    first: 0,
+    second: 1,
+};
+
+pub const BA: Pair = Pair {
+    first: 1,
+    second: 0,
+};
+
+pub const AC: Pair = Pair {
+    first: 0,
+    second: 2,
+};
+
+pub const BC: Pair = Pair {
+    first: 1,
+    second: 2,
+};
+
+/// Whether a desk may hold the list.
+pub fn is_lawful(table: &Table, list: &[Statement]) -> bool
+    ensures { IsTrue result → IsLawfulIn table.now list.now }
+{
+    list.len() <= MOST_STATEMENTS && row_count(list) <= MOST_ROWS && are_valid(table, list)
+}
+
+/// Whether all statements name what the table has.
+pub fn are_valid(table: &Table, list: &[Statement]) -> bool
+    ensures { IsTrue result → AllByRecursion (IsValidIn table.now) list.now }
+{
+    match list {
+        [] => true,
+        [first, rest @ ..] => {
+            valid(
+                first,
+                table.alternatives(),
+                table.criteria(),
+                table.classes(),
+            ) && are_valid(table, rest)
+        }
+    }
+}
+
+/// Whether the question names what the table has.
+pub fn is_asked(table: &Table, question: &Question) -> bool
+    ensures { IsTrue result → IsAskedIn table.now question.now }
+{
+    valid_question(
+        question,
+        table.alternatives(),
+        table.criteria(),
+        table.classes(),
+    )
+}
+
+/// Whether all questions name what the table has.
+pub fn are_asked(table: &Table, questions: &[Question]) -> bool
+    ensures { IsTrue result → AllByRecursion (IsAskedIn table.now) questions.now }
+{
+    match questions {
+        [] => true,
+        [first, rest @ ..] => is_asked(table, first) && are_asked(table, rest),
+    }
+}
+
+/// Whether each number is above the one before it.
+pub fn are_rising(standing: &[Numbered]) -> bool
+    ensures { IsTrue result → IsStrictlyIncreasing (numbers_in standing.now) }
+{
+    for place in 1..standing.len() {
+        if standing[place - 1].number >= standing[place].number {
+            return false;
+        }
+    }
+    true
+}

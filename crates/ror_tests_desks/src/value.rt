@@ -1,0 +1,93 @@
+//! Values, and what functions meet.
+
+use crate::made::{AB, AC, BA, BC, are_valid, three_alternatives};
+use ror_statement::{Scope, Statement};
+use ror_value::{ValueFault, ValueFunction};
+use std::test::Fail;
+
+#[test]
+fn values_are_sums_of_first_steps(rt: HostRuntime) -> Result<(), Fail> {
+    let table = three_alternatives(rt.alloc())?;
+    assert!(rt; table.alternatives() == 3 && table.criteria() == 2 && table.steps(0) == 2);
+    let function = ValueFunction::new(rt.alloc(), &table, &[1, 2, 3, 4])?;
+    assert_eq!(rt; function.total(), 10);
+    assert_eq!(rt; function.value(&table, 0), 6);
+    assert_eq!(rt; function.value(&table, 1), 8);
+    assert_eq!(rt; function.value(&table, 2), 0);
+    assert_eq!(rt; function.marginal(&table, 0, 2), 3);
+    assert!(rt; function.meets(&table, &[Statement::Prefer(1, 0)]));
+    Ok(())
+}
+
+#[test]
+fn the_first_fault_is_named(rt: HostRuntime) -> Result<(), Fail> {
+    let table = three_alternatives(rt.alloc())?;
+    let cases: [(&[i128], ValueFault); 3] = [
+        (&[0, -1, 0, 0, 0], ValueFault::Length),
+        (&[0, -1, -1, 0], ValueFault::Negative(1)),
+        (&[i128::MAX, 1, 0, 0], ValueFault::Total),
+    ];
+    for (steps, fault) in cases {
+        assert!(rt; ValueFunction::new(rt.alloc(), &table, steps).err() == Some(fault));
+    }
+    Ok(())
+}
+
+/// Lists, and whether they are met by the functions with the steps 1, 2, 3, 4; 0, 2^126, 0, 0; and 0, 0, 0, 2^127 - 1. Their
+/// values of a, b and c are 6, 8, 0; 2^126, 0, 0; and 0, 2^127 - 1, 0. By the second a is 2^126 above b and b as much below a,
+/// and the difference of these intensities, 2^127, is no number of 128 bits.
+const MET: [(&[Statement], [bool; 3]); 10] = [
+    (&[Statement::Prefer(0, 1)], [false, true, false]),
+    (&[Statement::AtLeast(2, 0)], [false, false, true]),
+    (&[Statement::Same(1, 2)], [false, true, false]),
+    (
+        &[Statement::Stronger(AB, BA, Scope::Whole)],
+        [false, true, false],
+    ),
+    // On q alone a is above b by 2, 2^126 and 0, and b above c by 1, 0 and 0.
+    (
+        &[Statement::Stronger(AB, BC, Scope::One(0))],
+        [true, true, false],
+    ),
+    // On p alone b is above a by 4, 0 and 2^127 - 1.
+    (
+        &[Statement::AsStrong(BA, AB, Scope::One(1))],
+        [true, true, true],
+    ),
+    (
+        &[Statement::EqualStrength(AC, AB, Scope::Whole)],
+        [false, true, false],
+    ),
+    (
+        &[Statement::Class(0, 2, 2), Statement::Class(1, 1, 1)],
+        [false, true, false],
+    ),
+    // The classes of the one are not all above those of the other.
+    (
+        &[Statement::Class(0, 1, 2), Statement::Class(1, 1, 1)],
+        [true, true, true],
+    ),
+    // A later statement counts as the first one does.
+    (
+        &[Statement::AtLeast(0, 2), Statement::Prefer(1, 0)],
+        [true, false, true],
+    ),
+];
+
+#[test]
+fn statements_are_met_by_what_they_say(rt: HostRuntime) -> Result<(), Fail> {
+    let table = three_alternatives(rt.alloc())?;
+    let small = ValueFunction::new(rt.alloc(), &table, &[1, 2, 3, 4])?;
+    let second = ValueFunction::new(rt.alloc(), &table, &[0, 1 << 126, 0, 0])?;
+    let last = ValueFunction::new(rt.alloc(), &table, &[0, 0, 0, i128::MAX])?;
+    for (list, met) in MET {
+        assert!(rt; are_valid(&table, list));
+        let found = [
+            small.meets(&table, list),
+            second.meets(&table, list),
+            last.meets(&table, list),
+        ];
+        assert_eq!(rt; found, met, "{list:?}");
+    }
+    Ok(())
+}
