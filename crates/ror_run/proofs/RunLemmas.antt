@@ -1,5 +1,5 @@
 -- How a run ends by what came of the work.
-use Rattle.std.proofs.Common.{◌≡◌, ◌≢◌, ℕ, ◌+◌, ◌<◌, ◌≤◌, ◌⊎◌, ◌∙◌, Bool, true, false, List, length, Option, Some, None, Ok, Err, IsErr, refl, sym, ap, subst, inl, inr, arith}
+use Rattle.std.proofs.Common.{◌≡◌, ◌≢◌, ℕ, ◌+◌, ◌<◌, ◌≤◌, ◌⊎◌, ◌∙◌, Bool, true, false, List, length, Option, Some, None, Ok, Err, IsErr, IsSome, refl, sym, ap, subst, inl, inr, arith}
 use Rattle.ror_io.specs.Files.{Files}
 use Rattle.ror_io.specs.Counts.{Rose, DidNotRise}
 use Rattle.ror_frame.specs.declared.status.Status.{Status}
@@ -10,7 +10,9 @@ use Rattle.ror_frame.specs.declared.stop.Stop.TheVariants as stops
 use Rattle.ror_frame.specs.States.{ShelfState, SinkState}
 use Rattle.ror_frame.specs.Stops.{Outcome, status_after, outcome_of, refused_status, HidesNone}
 use Rattle.ror_frame.specs.Courses.{Ending, Leads, Ends, Writes, CountsWrites, EndsAfter, LacksOne, LacksFirst, IsPure, IsWork}
-use Rattle.ror_words.specs.Words.{CheckNames, Task, Replay, Check, Generate, task_of}
+use Rattle.ror_words.specs.declared.words.CommandWord.{CommandWord}
+use Rattle.ror_words.specs.Words.{CheckNames, Task, Replay, Check, Generate, Given, task_by, task_of}
+use Rattle.ror_words.specs.Named.{command_text, IsAsked}
 use Rattle.ror_run.specs.Chores.{chore_of}
 use Rattle.ror_run.specs.Running.{files_named, WritesBy, IsRun}
 use Rattle.ror_frame.proofs.CourseLemmas.{IsDecided, one_ending, unbegun}
@@ -106,6 +108,13 @@ worked_run words task before now old new o is work = record {
 -- memory ran out while the words were read: nothing is fetched or written
 pub memory_run : (words : List (List ℕ)) (task : Task) (shelf : ShelfState) (out : SinkState) → task_of words ≡ Some task → IsRun words shelf shelf out out statuses.Memory
 memory_run words task shelf out is = worked_run words task shelf shelf out out (Err stops.Memory) is (unbegun (chore_of task).files (chore_of task).course shelf out)
+
+pub memory_asked : (words : List (List ℕ)) (command : CommandWord) (given : Given) (shelf : ShelfState) (out : SinkState) → IsAsked words command given → IsRun words shelf shelf out out statuses.Memory
+memory_asked words command given shelf out asked = by (task_by (command_text command) given) asked.0 asked.1
+  where
+    by : (o : Option Task) → task_of words ≡ o → IsSome o → IsRun words shelf shelf out out statuses.Memory
+    by (Some task) is some = memory_run words task shelf out is
+    by None is some = absurd (let p = some in cc)
 
 -- the words ask for nothing: nothing is fetched or written
 pub usage_run : (words : List (List ℕ)) (shelf : ShelfState) (out : SinkState) → task_of words ≡ None → IsRun words shelf shelf out out statuses.Usage
