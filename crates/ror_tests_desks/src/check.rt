@@ -4,10 +4,10 @@ ghost use Rattle.std.specs.Prelude.{IsTrue};
 ghost use Rattle.std.specs.List.{AllByRecursion};
 ghost use Rattle.ror_value.specs.Over.{IsAskedIn};
 
-use crate::made::{AB, AC, BA, BC, are_rising, is_asked, is_lawful, three_alternatives};
+use crate::made::{AB, AC, BA, BC, is_asked, is_lawful, may_stand, three_alternatives};
 use ror_check::{check_answer, check_answers, check_repair};
 use ror_proof::{Answer, Certificate, Dropped, Kept, read_answer};
-use ror_statement::{Numbered, Question, Scope, Statement, statements_in};
+use ror_statement::{Numbered, Question, Scope, Statement};
 use ror_system::{Multipliers, Solution};
 use ror_table::{Table, read_plain};
 use ror_text::Items;
@@ -125,21 +125,22 @@ const CHECKED: [(&[Statement], Question, &[u8], &str); 15] = [
     ),
 ];
 
-/// What a check of an answer with this text says: the fault, or nothing.
-fn said(
+/// Whether a check of an answer with this text says this: the fault, or nothing.
+fn is_said(
     alloc: Global,
     table: &Table,
     list: &[Statement],
     asked: &Question,
     text: &[u8],
-) -> Result<String, Fail> {
+    expected: &str,
+) -> Result<bool, Fail> {
     if !is_lawful(table, list) || !is_asked(table, asked) {
         return Err(Fail::new("the list is lawful and the question valid"));
     }
     let (answer, _) = read_answer(alloc, table, text, 0)?;
     match check_answer(alloc, table, list, asked, &answer) {
-        Ok(()) => Ok(String::new(alloc)),
-        Err(fault) => Ok(format!(in alloc; "{fault}")?),
+        Ok(()) => Ok(expected.is_empty()),
+        Err(fault) => Ok(format!(in alloc; "{fault}")?.as_str() == expected),
     }
 }
 
@@ -147,8 +148,8 @@ fn said(
 fn an_answer_is_accepted_with_its_proof_alone(rt: HostRuntime) -> Result<(), Fail> {
     let table = three_alternatives(rt.alloc())?;
     for (list, asked, text, expected) in CHECKED {
-        let found = said(rt.alloc(), &table, list, &asked, text)?;
-        assert_eq!(rt; found.as_str(), expected, "{asked:?} over {list:?}");
+        let is_said = is_said(rt.alloc(), &table, list, &asked, text, expected)?;
+        assert!(rt; is_said, "{asked:?} over {list:?}");
     }
     Ok(())
 }
@@ -163,25 +164,29 @@ fn are_asked(table: &Table, answers: &[Answer]) -> bool
     }
 }
 
-/// What a check of answers with these texts says: the fault, or nothing.
-fn said_of_all(
-    alloc: Global,
-    table: &Table,
-    list: &[Statement],
-    texts: &[&[u8]],
-) -> Result<String, Fail> {
+fn answers_of(alloc: Global, table: &Table, texts: &[&[u8]]) -> Result<Vec<Answer>, Fail> {
     let mut answers = Vec::new(alloc);
     for text in texts {
         let (answer, _) = read_answer(alloc, table, text, 0)?;
         answers.push(answer)?;
     }
-    let answers = answers.as_slice();
+    Ok(answers)
+}
+
+/// Whether a check of the answers says this: the fault, or nothing.
+fn is_said_of_all(
+    alloc: Global,
+    table: &Table,
+    list: &[Statement],
+    answers: &[Answer],
+    expected: &str,
+) -> Result<bool, Fail> {
     if !is_lawful(table, list) || answers.len() > 100 || !are_asked(table, answers) {
         return Err(Fail::new("the list is lawful and the questions valid, and they are few"));
     }
     match check_answers(alloc, table, list, answers) {
-        Ok(()) => Ok(String::new(alloc)),
-        Err(fault) => Ok(format!(in alloc; "{fault}")?),
+        Ok(()) => Ok(expected.is_empty()),
+        Err(fault) => Ok(format!(in alloc; "{fault}")?.as_str() == expected),
     }
 }
 
@@ -219,12 +224,23 @@ const OVER_ONE_BASE: [(&[&[u8]], &str); 5] = [
     ),
 ];
 
+/// Whether a check of answers with these texts, over the statement of a over b, says this.
+fn is_said_over_one_base(
+    alloc: Global,
+    table: &Table,
+    texts: &[&[u8]],
+    expected: &str,
+) -> Result<bool, Fail> {
+    let answers = answers_of(alloc, table, texts)?;
+    is_said_of_all(alloc, table, A_OVER_B, answers.as_slice(), expected)
+}
+
 #[test]
 fn each_answer_is_checked_over_one_base(rt: HostRuntime) -> Result<(), Fail> {
     let table = three_alternatives(rt.alloc())?;
     for (texts, expected) in OVER_ONE_BASE {
-        let found = said_of_all(rt.alloc(), &table, A_OVER_B, texts)?;
-        assert_eq!(rt; found.as_str(), expected);
+        let is_said = is_said_over_one_base(rt.alloc(), &table, texts, expected)?;
+        assert!(rt; is_said, "{expected}");
     }
     Ok(())
 }
@@ -262,14 +278,7 @@ fn certificate(alloc: Global, given: Given) -> Result<Certificate, AllocError> {
     }
 }
 
-/// What a check of a repair that drops these statements, with this base, says: the fault, or nothing.
-fn said_of_repair(
-    alloc: Global,
-    table: &Table,
-    standing: &[Numbered],
-    drops: &[(u32, Weights)],
-    base: Given,
-) -> Result<String, Fail> {
+fn dropped_of(alloc: Global, drops: &[(u32, Weights)]) -> Result<Items<Dropped>, AllocError> {
     let mut dropped = Vec::new(alloc);
     for (number, weights) in drops {
         let proof = multipliers(alloc, *weights)?;
@@ -278,18 +287,48 @@ fn said_of_repair(
             proof,
         })?;
     }
-    let kept = Kept {
-        dropped: dropped.into(),
-        base: certificate(alloc, base)?,
-    };
-    let list = statements_in(alloc, standing)?;
-    if !is_lawful(table, list.as_slice()) || !are_rising(standing) {
+    Ok(dropped.into())
+}
+
+fn kept_of(alloc: Global, drops: &[(u32, Weights)], base: Given) -> Result<Kept, AllocError> {
+    let base = certificate(alloc, base)?;
+    match dropped_of(alloc, drops) {
+        Ok(dropped) => Ok(Kept { dropped, base }),
+        Err(error) => {
+            drop(base);
+            Err(error)
+        }
+    }
+}
+
+/// Whether a check of the repair says this: the fault, or nothing.
+fn is_said_of_kept(
+    alloc: Global,
+    table: &Table,
+    standing: &[Numbered],
+    kept: &Kept,
+    expected: &str,
+) -> Result<bool, Fail> {
+    if !may_stand(alloc, table, standing)? {
         return Err(Fail::new("the list is lawful and the numbers rise"));
     }
-    match check_repair(alloc, table, standing, &kept) {
-        Ok(()) => Ok(String::new(alloc)),
-        Err(fault) => Ok(format!(in alloc; "{fault}")?),
+    match check_repair(alloc, table, standing, kept) {
+        Ok(()) => Ok(expected.is_empty()),
+        Err(fault) => Ok(format!(in alloc; "{fault}")?.as_str() == expected),
     }
+}
+
+/// Whether a check of a repair that drops these statements, with this base, says this.
+fn is_said_of_repair(
+    alloc: Global,
+    table: &Table,
+    standing: &[Numbered],
+    drops: &[(u32, Weights)],
+    base: Given,
+    expected: &str,
+) -> Result<bool, Fail> {
+    let kept = kept_of(alloc, drops, base)?;
+    is_said_of_kept(alloc, table, standing, &kept, expected)
 }
 
 /// a over b and b over a, which contradict each other, and that b is worth at least c.
@@ -350,8 +389,8 @@ const REPAIRS: [(&[(u32, Weights)], Given, &str); 6] = [
 fn a_repair_is_accepted_with_its_proof_alone(rt: HostRuntime) -> Result<(), Fail> {
     let table = three_alternatives(rt.alloc())?;
     for (drops, base, expected) in REPAIRS {
-        let found = said_of_repair(rt.alloc(), &table, STANDING, drops, base)?;
-        assert_eq!(rt; found.as_str(), expected, "{drops:?}");
+        let is_said = is_said_of_repair(rt.alloc(), &table, STANDING, drops, base, expected)?;
+        assert!(rt; is_said, "{expected}");
     }
     Ok(())
 }
@@ -369,7 +408,7 @@ fn where_nothing_is_kept_the_base_may_be_multipliers(rt: HostRuntime) -> Result<
     }];
     let drops: [(u32, Weights); 1] = [(7, (&[0], &[1]))];
     let base = Given::Weights((&[], &[1]));
-    let found = said_of_repair(rt.alloc(), &table, &standing, &drops, base)?;
-    assert_eq!(rt; found.as_str(), "");
+    let is_said = is_said_of_repair(rt.alloc(), &table, &standing, &drops, base, "")?;
+    assert!(rt; is_said);
     Ok(())
 }

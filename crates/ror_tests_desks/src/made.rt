@@ -1,17 +1,17 @@
 //! A table and statements that several tests use, and whether a desk may hold or be asked these.
 
-ghost use Rattle.std.specs.Prelude.{IsTrue};
+ghost use Rattle.std.specs.Prelude.{IsTrue, IfOk};
 ghost use Rattle.std.specs.List.{AllByRecursion};
 ghost use Rattle.std.specs.List.Sorted.{IsStrictlyIncreasing};
 ghost use Rattle.ror_value.specs.Over.{IsValidIn, IsLawfulIn, IsAskedIn};
-ghost use Rattle.ror_statement.specs.Statements.{numbers_in};
+ghost use Rattle.ror_statement.specs.Statements.{numbers_in, statements_in};
 
 use ror_statement::{
-    MOST_ROWS, MOST_STATEMENTS, Numbered, Pair, Question, Statement, row_count, valid,
-    valid_question,
+    MOST_ROWS, MOST_STATEMENTS, Numbered, Pair, Question, Statement, row_count, statements_in,
+    valid, valid_question,
 };
 use ror_table::{Table, TableError, read_plain};
-use std::alloc::Global;
+use std::alloc::{AllocError, Global};
 
 const TABLE: &[u8] = b"ror-table 1
 criterion q max
@@ -94,7 +94,7 @@ pub fn are_asked(table: &Table, questions: &[Question]) -> bool
 }
 
 /// Whether each number is above the one before it.
-pub fn are_rising(standing: &[Numbered]) -> bool
+fn are_rising(standing: &[Numbered]) -> bool
     ensures { IsTrue result → IsStrictlyIncreasing (numbers_in standing.now) }
 {
     for place in 1..standing.len() {
@@ -103,4 +103,13 @@ pub fn are_rising(standing: &[Numbered]) -> bool
         }
     }
     true
+}
+
+/// Whether a desk may hold the statements, with numbers that rise.
+pub fn may_stand(alloc: Global, table: &Table, standing: &[Numbered]) -> Result<bool, AllocError>
+    ensures { IfOk result (λ may. IsTrue may → IsLawfulIn table.now (statements_in standing.now)
+        × IsStrictlyIncreasing (numbers_in standing.now)) }
+{
+    let list = statements_in(alloc, standing)?;
+    Ok(is_lawful(table, list.as_slice()) && are_rising(standing))
 }

