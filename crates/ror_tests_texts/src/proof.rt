@@ -23,20 +23,19 @@ fn answer_of(alloc: Global, table: &Table, text: &[u8]) -> Result<Answer, Fail>
     Ok(answer)
 }
 
-/// The answer whose text this is, and the text that is printed of it.
-fn printed_again(alloc: Global, table: &Table, text: &[u8]) -> Result<(Answer, Vec<u8>), Fail> {
-    let answer = answer_of(alloc, table, text)?;
-    let question = answer.question;
+/// The text that is printed of the answer.
+fn printed(alloc: Global, table: &Table, answer: &Answer) -> Result<Vec<u8>, Fail>
+    requires { IsNarrowVerdict answer.now.verdict }
+{
     if !valid_question(
-        &question,
+        &answer.question,
         table.alternatives(),
         table.criteria(),
         table.classes(),
     ) {
         return Err(Fail::from("this question is valid"));
     }
-    let printed = print_answer(alloc, table, &answer)?;
-    Ok((answer, printed))
+    Ok(print_answer(alloc, table, answer)?)
 }
 
 /// Whether the verdict is that the number at this place of this system is too wide.
@@ -89,23 +88,41 @@ const QUESTIONS: [(&[u8], Question); 7] = [
     ),
 ];
 
+/// Whether the answer whose text this is answers the question, and is printed so again.
+fn is_asked_again(
+    alloc: Global,
+    table: &Table,
+    text: &[u8],
+    question: Question,
+) -> Result<bool, Fail> {
+    let answer = answer_of(alloc, table, text)?;
+    let printed = printed(alloc, table, &answer);
+    let is_asked = answer.question == question;
+    drop(answer);
+    let printed = printed?;
+    Ok(is_asked && printed.as_slice() == text)
+}
+
 #[test]
 fn each_form_of_question_is_read_and_printed_again(rt: HostRuntime) -> Result<(), Fail> {
     let table = three_alternatives(rt.alloc())?;
     for (text, question) in QUESTIONS {
-        let (answer, printed) = printed_again(rt.alloc(), &table, text)?;
-        assert!(rt; answer.question == question);
-        assert!(rt; printed.as_slice() == text);
+        assert!(rt; is_asked_again(rt.alloc(), &table, text, question)?);
     }
     Ok(())
+}
+
+fn question_of(alloc: Global, table: &Table, text: &[u8]) -> Result<Question, Fail> {
+    let answer = answer_of(alloc, table, text)?;
+    Ok(answer.question)
 }
 
 #[test]
 fn a_class_that_the_table_lacks_is_read(rt: HostRuntime) -> Result<(), Fail> {
     let table = three_alternatives(rt.alloc())?;
     let text = b"answer possible-class b 4294967295 yes\nbase solution 1\n";
-    let answer = answer_of(rt.alloc(), &table, text)?;
-    assert!(rt; answer.question == Question::PossibleClass(1, 4294967295));
+    let question = question_of(rt.alloc(), &table, text)?;
+    assert!(rt; question == Question::PossibleClass(1, 4294967295));
     Ok(())
 }
 
@@ -131,8 +148,12 @@ fn is_wide_again(
     number: u32,
     place: PlaceText,
 ) -> Result<bool, Fail> {
-    let (answer, printed) = printed_again(alloc, table, text)?;
-    Ok(is_wide(&answer.verdict, number, place) && printed.as_slice() == text)
+    let answer = answer_of(alloc, table, text)?;
+    let printed = printed(alloc, table, &answer);
+    let is_wide = is_wide(&answer.verdict, number, place);
+    drop(answer);
+    let printed = printed?;
+    Ok(is_wide && printed.as_slice() == text)
 }
 
 #[test]
@@ -156,7 +177,9 @@ fn no_part_follows_a_wide_line(rt: HostRuntime) -> Result<(), Fail> {
 /// The text that is printed of the repair whose text this is, and the place after it.
 fn repair_again(alloc: Global, text: &[u8]) -> Result<(Vec<u8>, usize), Fail> {
     let (kept, next) = read_kept(alloc, text, 0).ok().ok_or("this is a repair")?;
-    Ok((print_kept(alloc, &kept)?, next))
+    let printed = print_kept(alloc, &kept);
+    drop(kept);
+    Ok((printed?, next))
 }
 
 #[test]

@@ -9,7 +9,7 @@ use ror_statement::Question;
 use ror_system::Solution;
 use ror_table::Table;
 use ror_text::Items;
-use std::alloc::Global;
+use std::alloc::{AllocError, Global};
 use std::test::Fail;
 
 const REPORT: &[u8] =
@@ -60,25 +60,31 @@ fn a_revision_is_printed(rt: HostRuntime) -> Result<(), Fail> {
     Ok(())
 }
 
-#[test]
-fn answers_are_printed(rt: HostRuntime) -> Result<(), Fail> {
-    let table = three_alternatives(rt.alloc())?;
+/// A block of line 7 whose one answer is that some function agrees with all statements.
+fn block_of_one_answer(alloc: Global) -> Result<Block, AllocError> {
     let base = Certificate::Solution(Solution {
-        steps: Items::from(Vec::new(rt.alloc())),
+        steps: Items::from(Vec::new(alloc)),
     });
-    let parts = Items::from(Vec::new(rt.alloc()));
-    let mut answers = Vec::new(rt.alloc());
+    let parts = Items::from(Vec::new(alloc));
+    let mut answers = Vec::new(alloc);
     answers.push(Answer {
         question: Question::Consistent,
         verdict: Verdict::Yes(Proof { base, parts }),
     })?;
-    let block = Block {
+    Ok(Block {
         line: 7,
         body: Body::Answers(Items::from(answers)),
-    };
-    let text = print_block(rt.alloc(), &table, &block)?;
+    })
+}
+
+#[test]
+fn answers_are_printed(rt: HostRuntime) -> Result<(), Fail> {
+    let table = three_alternatives(rt.alloc())?;
+    let block = block_of_one_answer(rt.alloc())?;
+    let text = print_block(rt.alloc(), &table, &block);
+    drop(block);
     assert_eq!(rt;
-        text.as_slice(),
+        text?.as_slice(),
         b"line 7\nanswer consistent yes\nbase solution\n".as_slice()
     );
     Ok(())
