@@ -60,8 +60,8 @@ fn a_revision_is_printed(rt: HostRuntime) -> Result<(), Fail> {
     Ok(())
 }
 
-/// A block of line 7 whose one answer is that some function agrees with all statements.
-fn block_of_one_answer(alloc: Global) -> Result<Block, AllocError> {
+/// The text of a block of line 7 whose one answer is that some function agrees with all statements.
+fn printed_answer(alloc: Global, table: &Table) -> Result<Vec<u8>, AllocError> {
     let base = Certificate::Solution(Solution {
         steps: Items::from(Vec::new(alloc)),
     });
@@ -71,20 +71,21 @@ fn block_of_one_answer(alloc: Global) -> Result<Block, AllocError> {
         question: Question::Consistent,
         verdict: Verdict::Yes(Proof { base, parts }),
     })?;
-    Ok(Block {
+    let block = Block {
         line: 7,
         body: Body::Answers(Items::from(answers)),
-    })
+    };
+    let text = print_block(alloc, table, &block);
+    drop(block);
+    text
 }
 
 #[test]
 fn answers_are_printed(rt: HostRuntime) -> Result<(), Fail> {
     let table = three_alternatives(rt.alloc())?;
-    let block = block_of_one_answer(rt.alloc())?;
-    let text = print_block(rt.alloc(), &table, &block);
-    drop(block);
+    let text = printed_answer(rt.alloc(), &table)?;
     assert_eq!(rt;
-        text?.as_slice(),
+        text.as_slice(),
         b"line 7\nanswer consistent yes\nbase solution\n".as_slice()
     );
     Ok(())
