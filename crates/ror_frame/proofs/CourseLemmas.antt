@@ -71,120 +71,89 @@ unbegun names course shelf out = record {
   output = inl refl;
 }
 
+-- what is said of work that stops at its first file
+record IsStopped (course : Course) (name : List ℕ) (place : ℕ) (names : List (List ℕ)) (a b : ShelfState) (out : SinkState) (e : Stop) : Type 0 where
+  after : EndsAfter place (length (name ∷ names)) (Some (Err e)) 1
+  cause : e ≡ stops.ReadFault → Rose a.faults b.faults ⊎ LacksOne a.told (name ∷ names)
+  rises : a.faults < b.faults → e ≡ stops.ReadFault
+  pure : IsPure (Err e)
+  shown : (files : Files) → a.told ≡ Some files → DidNotRise a.faults b.faults → e ≢ stops.Memory → (d : Ending) × Leads files course d × Ends d (Some (Err e))
+  unwritten : CountsWrites out.faults out.faults (Err e)
+  nothing : Writes a.told a.faults b.faults course out.written out.written (Err e)
+
 -- the work stops at a file
 pub stopped : {A : Type 0} (name : List ℕ) (place : ℕ) (names : List (List ℕ)) (Reads : List ℕ → A → Type 0) (Refuses : List ℕ → Refusal → Type 0) (next : List ℕ → A → Course) (a b : ShelfState) (out : SinkState) (e : Stop) → IsFetch name (place + 1) Reads Refuses a b (Err e) → IsWork place (name ∷ names) (fetch A name Reads Refuses next) a b out out (Err e)
-stopped {A} name place names Reads Refuses next a b out e fetched = record {
-  never_falls = fetched.never_falls;
-  told_stays = fetched.told_stays;
-  fetched = (1, after e fetched.fetched, fetched.counted);
-  read_fault = λ is. cause e fetched.fetched (let p = is in cc);
-  rose = λ rose. let p = rises e fetched.fetched rose in cc;
-  lacking = λ lacks. refl;
-  first_lacking = λ lacks. inl (let p = fetched.missing lacks in cc, fetched.counted);
-  pure = pure e fetched.fetched;
-  shows = λ files is stayed other. shown e fetched.fetched files is stayed (λ same. other (let p = same in cc));
-  writes = unwritten e fetched.fetched;
-  output = nothing e fetched.fetched;
-}
+stopped {A} name place names Reads Refuses next a b out e fetched =
+    let had = by e fetched.fetched in
+    record {
+      never_falls = fetched.never_falls;
+      told_stays = fetched.told_stays;
+      fetched = (1, had.after, fetched.counted);
+      read_fault = λ is. had.cause (let p = is in cc);
+      rose = λ rose. let p = had.rises rose in cc;
+      lacking = λ lacks. refl;
+      first_lacking = λ lacks. inl (let p = fetched.missing lacks in cc, fetched.counted);
+      pure = had.pure;
+      shows = λ files is stayed other. had.shown files is stayed (λ same. other (let p = same in cc));
+      writes = had.unwritten;
+      output = had.nothing;
+    }
   where
-    after : (e : Stop) → Fetched {A = A} name (place + 1) Reads Refuses a.told a.faults b.faults (Err e) → EndsAfter place (length (name ∷ names)) (Some (Err e)) 1
-    after (stops.At r) had = (had.1, omega arith)
-    after stops.ReadFault had = (omega arith, omega arith)
-    after stops.WriteFault had = absurd had
-    after stops.Memory had = omega arith
-
-    cause : (e : Stop) → Fetched {A = A} name (place + 1) Reads Refuses a.told a.faults b.faults (Err e) → e ≡ stops.ReadFault → Rose a.faults b.faults ⊎ LacksOne a.told (name ∷ names)
-    cause (stops.At r) had is = absurd cc
-    cause stops.ReadFault (inl rose) is = inl rose
-    cause stops.ReadFault (inr lacks) is = inr (inl lacks)
-    cause stops.WriteFault had is = absurd had
-    cause stops.Memory had is = absurd cc
-
-    rises : (e : Stop) → Fetched {A = A} name (place + 1) Reads Refuses a.told a.faults b.faults (Err e) → a.faults < b.faults → e ≡ stops.ReadFault
-    rises (stops.At r) had rose = absurd (let same = had.0 in omega (arith, same, rose))
-    rises stops.ReadFault had rose = refl
-    rises stops.WriteFault had rose = absurd had
-    rises stops.Memory had rose = absurd (omega (arith, had, rose))
-
-    pure : (e : Stop) → Fetched {A = A} name (place + 1) Reads Refuses a.told a.faults b.faults (Err e) → IsPure (Err e)
-    pure (stops.At r) had = had.2
-    pure stops.ReadFault had = tt
-    pure stops.WriteFault had = tt
-    pure stops.Memory had = tt
-
-    shown : (e : Stop) → Fetched {A = A} name (place + 1) Reads Refuses a.told a.faults b.faults (Err e) → (files : Files) → a.told ≡ Some files → DidNotRise a.faults b.faults → e ≢ stops.Memory → (d : Ending) × Leads files (fetch A name Reads Refuses next) d × Ends d (Some (Err e))
-    shown (stops.At r) had files is stayed other =
-        let found = had.3 files is stayed in
-        (refused r, inr (found.0, found.1, inl (r, found.2, refl)), refl)
-    shown stops.ReadFault (inl rose) files is stayed other = absurd (never_both a.faults b.faults rose stayed)
-    shown stops.ReadFault (inr lacks) files is stayed other = (missing, inl (subst (λ (t : Option Files). Lacks t name) is lacks, refl), refl)
-    shown stops.WriteFault had files is stayed other = absurd had
-    shown stops.Memory had files is stayed other = absurd (other refl)
-
-    unwritten : (e : Stop) → Fetched {A = A} name (place + 1) Reads Refuses a.told a.faults b.faults (Err e) → CountsWrites out.faults out.faults (Err e)
-    unwritten (stops.At r) had = refl
-    unwritten stops.ReadFault had = refl
-    unwritten stops.WriteFault had = absurd had
-    unwritten stops.Memory had = refl
-
-    nothing : (e : Stop) → Fetched {A = A} name (place + 1) Reads Refuses a.told a.faults b.faults (Err e) → Writes a.told a.faults b.faults (fetch A name Reads Refuses next) out.written out.written (Err e)
-    nothing (stops.At r) had = refl
-    nothing stops.ReadFault had = refl
-    nothing stops.WriteFault had = absurd had
-    nothing stops.Memory had = inl refl
+    by : (e : Stop) → Fetched {A = A} name (place + 1) Reads Refuses a.told a.faults b.faults (Err e) → IsStopped (fetch A name Reads Refuses next) name place names a b out e
+    by (stops.At r) had = record {
+      after = (had.1, omega arith);
+      cause = λ is. absurd cc;
+      rises = λ rose. absurd (let same = had.0 in omega (arith, same, rose));
+      pure = had.2;
+      shown = λ files is stayed other. let found = had.3 files is stayed in (refused r, inr (found.0, found.1, inl (r, found.2, refl)), refl);
+      unwritten = refl;
+      nothing = refl;
+    }
+    by stops.ReadFault had = record {
+      after = (omega arith, omega arith);
+      cause = λ is. elim had [ inl rose ↦ inl rose | inr lacks ↦ inr (inl lacks) ];
+      rises = λ rose. refl;
+      pure = tt;
+      shown = λ files is stayed other. elim had [ inl rose ↦ absurd (never_both a.faults b.faults rose stayed) | inr lacks ↦ (missing, inl (subst (λ (t : Option Files). Lacks t name) is lacks, refl), refl) ];
+      unwritten = refl;
+      nothing = refl;
+    }
+    by stops.WriteFault had = absurd had
+    by stops.Memory had = record {
+      after = omega arith;
+      cause = λ is. absurd cc;
+      rises = λ rose. absurd (omega (arith, had, rose));
+      pure = tt;
+      shown = λ files is stayed other. absurd (other refl);
+      unwritten = refl;
+      nothing = inl refl;
+    }
 
 -- nothing is fetched any more: an output is due
 pub finished : (place : ℕ) (output : Output) (shelf : ShelfState) (old new : SinkState) (outcome : Outcome) → WritesDue output old new outcome → IsWork place [] (finish output) shelf shelf old new outcome
-finished place output shelf old new outcome due = record {
-  never_falls = omega arith;
-  told_stays = refl;
-  fetched = (0, after outcome due, refl);
-  read_fault = λ is. absurd (subst (WritesDue output old new) is due);
-  rose = λ rose. absurd (omega (arith, rose));
-  lacking = λ lacks. absurd lacks;
-  first_lacking = λ lacks. absurd lacks;
-  pure = pure outcome due;
-  shows = λ files is stayed other. (done output.tells, refl, shown outcome due other);
-  writes = counts outcome due;
-  output = written outcome due;
-}
+finished place output shelf old new outcome due =
+    let had = by outcome due in
+    record {
+      never_falls = omega arith;
+      told_stays = refl;
+      fetched = (0, had.0, refl);
+      read_fault = λ is. absurd (subst (WritesDue output old new) is due);
+      rose = λ rose. absurd (omega (arith, rose));
+      lacking = λ lacks. absurd lacks;
+      first_lacking = λ lacks. absurd lacks;
+      pure = had.1;
+      shows = λ files is stayed other. (done output.tells, refl, had.2 other);
+      writes = had.3;
+      output = had.4;
+    }
   where
-    after : (outcome : Outcome) → WritesDue output old new outcome → EndsAfter place 0 (Some outcome) 0
-    after (Ok wide) due = refl
-    after (Err (stops.At r)) due = absurd due
-    after (Err stops.ReadFault) due = absurd due
-    after (Err stops.WriteFault) due = refl
-    after (Err stops.Memory) due = omega arith
-
-    pure : (outcome : Outcome) → WritesDue output old new outcome → IsPure outcome
-    pure (Ok wide) due = tt
-    pure (Err (stops.At r)) due = absurd due
-    pure (Err stops.ReadFault) due = absurd due
-    pure (Err stops.WriteFault) due = tt
-    pure (Err stops.Memory) due = tt
-
-    shown : (outcome : Outcome) → WritesDue output old new outcome → outcome ≢ Err stops.Memory → Ends (done output.tells) (Some outcome)
-    shown (Ok wide) due other = due.1
-    shown (Err (stops.At r)) due other = absurd due
-    shown (Err stops.ReadFault) due other = absurd due
-    shown (Err stops.WriteFault) due other = tt
-    shown (Err stops.Memory) due other = absurd (other refl)
-
-    counts : (outcome : Outcome) → WritesDue output old new outcome → CountsWrites old.faults new.faults outcome
-    counts (Ok wide) due = due.0
-    counts (Err (stops.At r)) due = absurd due
-    counts (Err stops.ReadFault) due = absurd due
-    counts (Err stops.WriteFault) due = (due.0, due.1)
-    counts (Err stops.Memory) (inl same) = let p = same in cc
-    counts (Err stops.Memory) (inr front) = front.0
-
-    written : (outcome : Outcome) → WritesDue output old new outcome → Writes shelf.told shelf.faults shelf.faults (finish output) old.written new.written outcome
-    written (Ok wide) due = (due.2, due.3, due.4)
-    written (Err (stops.At r)) due = absurd due
-    written (Err stops.ReadFault) due = absurd due
-    written (Err stops.WriteFault) due = (due.2, due.3, due.4)
-    written (Err stops.Memory) (inl same) = inl (let p = same in cc)
-    written (Err stops.Memory) (inr front) = inr (front.1, front.2, front.3, front.4, front.5)
+    by : (outcome : Outcome) → WritesDue output old new outcome → EndsAfter place 0 (Some outcome) 0 × IsPure outcome × (outcome ≢ Err stops.Memory → Ends (done output.tells) (Some outcome)) × CountsWrites old.faults new.faults outcome × Writes shelf.told shelf.faults shelf.faults (finish output) old.written new.written outcome
+    by (Ok wide) due = (refl, tt, (λ other. due.1), due.0, (due.2, due.3, due.4))
+    by (Err (stops.At r)) due = absurd due
+    by (Err stops.ReadFault) due = absurd due
+    by (Err stops.WriteFault) due = (refl, tt, (λ other. tt), (due.0, due.1), (due.2, due.3, due.4))
+    by (Err stops.Memory) (inl same) = let p = same in (omega arith, tt, (λ other. absurd (other refl)), cc, inl cc)
+    by (Err stops.Memory) (inr due) = (omega arith, tt, (λ other. absurd (other refl)), due.0, inr (due.1, due.2, due.3, due.4, due.5))
 
 -- a file was read, and the work went on
 pub went_on : {A : Type 0} (name : List ℕ) (place : ℕ) (names : List (List ℕ)) (Reads : List ℕ → A → Type 0) (Refuses : List ℕ → Refusal → Type 0) (next : List ℕ → A → Course) (a b c : ShelfState) (old new : SinkState) (x : A) (outcome : Outcome) → (fetched : IsFetch name (place + 1) Reads Refuses a b (Ok x)) → IsWork (place + 1) names (next fetched.fetched.1 x) b c old new outcome → IsWork place (name ∷ names) (fetch A name Reads Refuses next) a c old new outcome

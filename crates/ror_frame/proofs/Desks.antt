@@ -1,7 +1,7 @@
--- The desks that a session begins with.
-use Rattle.std.proofs.Common.{◌≡◌, ℕ, ◌≤◌, List, [], ◌∷◌, ◌++◌, refl, sym, subst, arith}
+-- The desks that a session begins with, and the report of the blocks of its lines.
+use Rattle.std.proofs.Common.{◌≡◌, ℕ, ◌≤◌, List, [], ◌∷◌, ◌++◌, length, refl, sym, ap, subst, arith}
 use Rattle.std.specs.Prelude.{zero, suc, replicate}
-use Rattle.std.specs.List.{AllByRecursion}
+use Rattle.std.specs.List.{AllByRecursion, flat_map}
 use Rattle.ror_statement.specs.declared.statement.Statement.{Statement}
 use Rattle.ror_table.specs.Table.{DecisionTable}
 use Rattle.ror_value.specs.declared.input.Input.{Input}
@@ -10,7 +10,18 @@ use Rattle.ror_history.specs.History.{Revision, statements_of}
 use Rattle.ror_history.proofs.HistoryLemmas.{with_numbers_from-statements}
 use Rattle.ror_history.proofs.TurnLemmas.{next_number-first}
 use Rattle.ror_session.specs.declared.limits.TheConstants.{MOST_LINES}
-use Rattle.ror_bench.specs.Bench.{IsLawfulThroughout, LeavesNumbers}
+use Rattle.ror_session.specs.declared.session.Line.{Line}
+use Rattle.ror_report.specs.declared.block.Block.{Block}
+use Rattle.ror_report.specs.Text.{block_text, header_text, end_text}
+use Rattle.ror_bench.specs.Allowed.{given_at}
+use Rattle.ror_bench.specs.Bench.{Workbench, IsLawfulBench, IsLawfulThroughout, LeavesNumbers}
+use Rattle.ror_bench.specs.Blocks.{IsBlockOf}
+use Rattle.ror_bench.specs.Replays.{AreBlocksAt, IsReplayedReport}
+use Rattle.ror_bench.specs.Reports.{accepted_of}
+use Rattle.ror_bench.proofs.ReportProofs.{as_many}
+use Rattle.ror_bench.proofs.ReplayLemmas.{replayed_proved}
+use Rattle.ror_bench.proofs.Truth.{report_true}
+use Rattle.ror_frame.specs.Inputs.{IsReportOf}
 
 -- a list that may stand at a desk is lawful there from the first line on
 begun : (t : DecisionTable) (opening : List Statement) → IsLawfulIn t opening → IsLawfulThroughout t (record { opening = opening; surviving = [] })
@@ -35,3 +46,18 @@ numbers_left i (suc n) lines lawful few =
     let next = next_number-first i.opening in
     let statements = lawful.few in
     (omega (arith, next, statements, few), numbers_left i n lines lawful few)
+
+-- the text of a report of blocks
+abbrev pub text_of : Workbench → List Line → List Block → List ℕ
+text_of bench lines blocks = header_text ++ (flat_map (block_text bench.table) blocks ++ end_text (length lines))
+
+pub replayed : (most : ℕ) (bench : Workbench) (lines : List Line) (blocks : List Block) → AreBlocksAt most bench lines blocks → IsReplayedReport most bench lines (text_of bench lines blocks) (accepted_of blocks)
+replayed most bench lines blocks made =
+    let count = as_many (IsBlockOf (given_at most) bench.table) bench [] lines blocks made.given in
+    record { blocks = blocks; made = made; text = ap (λ n. header_text ++ (flat_map (block_text bench.table) blocks ++ end_text n)) count; counted = refl }
+
+pub reported : (most : ℕ) (bench : Workbench) (lines : List Line) (blocks : List Block) → IsLawfulBench bench → AreBlocksAt most bench lines blocks → IsReportOf most bench lines (text_of bench lines blocks) (accepted_of blocks)
+reported most bench lines blocks lawful made =
+    let given = replayed most bench lines blocks made in
+    let proved = replayed_proved most bench lines (text_of bench lines blocks) (accepted_of blocks) given in
+    record { given = given; checked = record { proved = proved; blocks_true = report_true bench lines (text_of bench lines blocks) (accepted_of blocks) lawful proved } }

@@ -1,5 +1,6 @@
 -- Reading the bytes of a table and of a session.
 use Rattle.std.proofs.Common.{◌≡◌, ℕ, ◌<◌, Bool, List, length, Ok, Err, Result, Option, IfSome, refl}
+use Rattle.std.proofs.lemmas.Bool.{lt-ltb}
 use Rattle.ror_text.specs.declared.lines.TheConstants.{MOST_TEXT_BYTES}
 use Rattle.ror_text.specs.Reading.{Gives}
 use Rattle.ror_table.specs.declared.fault.TableError.{TableError}
@@ -18,7 +19,14 @@ use Rattle.ror_frame.specs.declared.stop.Refusal.TheVariants as refusals
 use Rattle.ror_frame.specs.Courses.{Course, IsTooLong}
 use Rattle.ror_frame.specs.Inputs.{ReadsTable, RefusesTable, ReadsSession, RefusesSession, over_inputs}
 use Rattle.ror_frame.proofs.CourseLemmas.{IsDecided}
-use Rattle.ror_frame.proofs.LongTexts.{input_of-long, session_of-long}
+
+input_of-long : (bytes : List ℕ) (best_first : Bool) → MOST_TEXT_BYTES < length bytes → input_of bytes best_first ≡ Err (record { kind = kinds.TooLong; line = 0 })
+unfolding input_of
+input_of-long bytes best_first long = rw (lt-ltb MOST_TEXT_BYTES (length bytes) long) refl
+
+session_of-long : (bytes : List ℕ) → MOST_TEXT_BYTES < length bytes → session_of bytes ≡ Err session_faults.TooLong
+unfolding session_of
+session_of-long bytes long = rw (lt-ltb MOST_TEXT_BYTES (length bytes) long) refl
 
 pub long_table : (best_first : Bool) (bytes : List ℕ) (r : Refusal) → IsTooLong MOST_TEXT_BYTES (refusals.BadTable (record { kind = kinds.TooLong; line = 0 })) bytes r → RefusesTable best_first bytes r
 long_table best_first bytes r long = (record { kind = kinds.TooLong; line = 0 }, long.0, input_of-long bytes best_first long.1)

@@ -1,5 +1,4 @@
 pub mod PrintLemmas
-pub mod LongTexts
 pub mod Desks
 pub mod CourseLemmas
 pub mod FetchLemmas

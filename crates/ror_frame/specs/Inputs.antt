@@ -3,6 +3,7 @@ use Rattle.std.specs.Prelude.{◌≡◌, ℕ, Bool, List, [], ◌∷◌, length,
 use Rattle.ror_table.specs.declared.fault.TableFault.{TableFault}
 use Rattle.ror_value.specs.declared.input.Input.{Input}
 use Rattle.ror_xmcda.specs.Input.{input_of}
+use Rattle.ror_session.specs.declared.session.Line.{Line}
 use Rattle.ror_session.specs.declared.session.Session.{Session}
 use Rattle.ror_session.specs.declared.session.SessionFault.{SessionFault}
 use Rattle.ror_session.specs.Session.{session_of}
@@ -20,13 +21,13 @@ use Rattle.ror_frame.specs.Courses.{Output, Course, finish, fetch, Chore}
 abbrev pub bench_for : Input → Session → Workbench
 bench_for i s = bench_of i (length s.desks)
 
--- The text is the report of the session: a block for each line, in order, with answers and repairs that may be given where no
--- number passes most: no number of a certificate does, and each that is called too wide is one that does. Each that isn't too
--- wide has a proof: an answer is true of all compatible value functions, and a repair drops what the repair over these drops.
-pub record IsReportOf (most : ℕ) (i : Input) (s : Session) (text : List ℕ)
+-- The text is the report of the lines: a block for each, in order, with answers and repairs that may be given where no number
+-- passes most: no number of a certificate does, and each that is called too wide is one that does. Each that isn't too wide has a
+-- proof: an answer is true of all compatible value functions, and a repair drops what the repair over these drops.
+pub record IsReportOf (most : ℕ) (bench : Workbench) (lines : List Line) (text : List ℕ)
     (accepted : Accepted) : Type 0 where
-  pub given : IsReplayedReport most (bench_for i s) s.lines text accepted
-  pub checked : IsAcceptedReport (bench_for i s) s.lines text accepted
+  pub given : IsReplayedReport most bench lines text accepted
+  pub checked : IsAcceptedReport bench lines text accepted
 
 -- ---- what their bytes are read as
 

@@ -19,6 +19,7 @@ use Rattle.ror_bench.specs.declared.report.Accepted.{Accepted}
 use Rattle.ror_bench.specs.declared.report.Rejection.{Rejection}
 use Rattle.ror_bench.specs.declared.report.Reason.{Reason}
 use Rattle.ror_bench.specs.declared.report.Reason.TheVariants as reasons
+use Rattle.ror_words.specs.Commands.{usage_text}
 use Rattle.ror_frame.specs.declared.status.Status.{Status}
 use Rattle.ror_frame.specs.declared.status.Status.TheVariants as statuses
 
@@ -68,14 +69,7 @@ kind_text kinds.TooLong = codes "TooLong"
 kind_text kinds.Unclosed = codes "Unclosed"
 kind_text kinds.Mismatched = codes "Mismatched"
 kind_text (kinds.Unsupported kind) = codes "Unsupported " ++ unsupported_text kind
-
-abbrev pub session_text : SessionFault → List ℕ
-session_text sessions.NotUtf8 = codes "NotUtf8"
-session_text (sessions.BadLine n) = codes "BadLine line " ++ decimal n
-session_text sessions.TooManyLines = codes "TooManyLines"
-session_text sessions.TooLong = codes "TooLong"
-session_text (sessions.TooManyDesks n) = codes "TooManyDesks line " ++ decimal n
-session_text sessions.Memory = codes "Memory"
+kind_text kinds.WideScale = codes "WideScale"
 
 abbrev pub reject_text : Reject → List ℕ
 reject_text rejects.Length = codes "Length"
@@ -118,17 +112,16 @@ table_line f =
     codes "bad table: " ++ kind_text f.kind ++ codes " line " ++ decimal f.line ++ codes "\n"
 
 abbrev pub session_line : SessionFault → List ℕ
-session_line f = codes "bad session: " ++ session_text f ++ codes "\n"
+session_line sessions.NotUtf8 = codes "bad session: NotUtf8\n"
+session_line (sessions.BadLine n) = codes "bad session: BadLine line " ++ decimal n ++ codes "\n"
+session_line sessions.TooManyLines = codes "bad session: TooManyLines\n"
+session_line sessions.TooLong = codes "bad session: TooLong\n"
+session_line (sessions.TooManyDesks n) = codes "bad session: TooManyDesks line " ++ decimal n ++ codes "\n"
+session_line sessions.Memory = codes "bad session: Memory\n"
 
 abbrev pub rejection_line : Rejection → List ℕ
 rejection_line r =
     codes "rejected: block " ++ decimal r.block ++ codes " " ++ reason_text r.reason ++ codes "\n"
-
--- the commands, each with its options
-abbrev pub usage_text : List ℕ
-usage_text =
-    codes "usage: ror replay TABLE SESSION [--bits 15|31|63|127] [--best-first]"
-    ++ codes " | ror check TABLE SESSION REPORT [--best-first]" ++ codes " | ror generate NUMBER\n"
 
 -- the line of a status; nothing where the work was done
 unfoldable pub status_text : Status → List ℕ

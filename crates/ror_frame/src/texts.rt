@@ -3,7 +3,7 @@
 ghost use Rattle.std.specs.Prelude.{◌≡◌, ◌++◌};
 ghost use Rattle.ror_table.specs.declared.fault.TableKind.TheVariants.{Unsupported};
 ghost use Rattle.ror_frame.specs.Printing.{Prints};
-ghost use Rattle.ror_frame.specs.Statuses.{kind_text, reject_text, fault_text, repair_fault_text, reason_text, table_line, session_line, rejection_line, usage_text, status_text, accepted_text};
+ghost use Rattle.ror_frame.specs.Statuses.{kind_text, reject_text, fault_text, repair_fault_text, reason_text, table_line, session_line, rejection_line, status_text, accepted_text};
 
 use crate::status::Status;
 use itoa::{Buffer, Integer};
@@ -13,6 +13,7 @@ use ror_io::{Sink, SinkFault, write_all, write_pieces};
 use ror_session::SessionFault;
 use ror_system::Reject;
 use ror_table::{Kind, TableFault, TableKind, What};
+use ror_words::usage;
 
 /// Writes the line of the status; nothing where the work was done.
 #[tactic(auto, unfolding(crate::specs::Statuses::status_text))]
@@ -22,7 +23,7 @@ pub fn write_status<S: Sink>(sink: &mut S, status: &Status) -> Result<(), SinkFa
 {
     match status {
         Status::Done | Status::DoneWide => Ok(()),
-        Status::Usage => write_usage(sink),
+        Status::Usage => write_text(sink, usage().as_bytes()),
         Status::BadTable(fault) => write_table_fault(sink, fault),
         Status::BadSession(fault) => write_session_fault(sink, fault),
         Status::Rejected(rejection) => write_rejection(sink, rejection),
@@ -48,21 +49,6 @@ pub fn write_accepted<S: Sink>(sink: &mut S, accepted: Accepted) -> Result<(), S
             b" wide ",
             wide.format(accepted.wide).as_bytes(),
             b"\n",
-        ],
-    )
-}
-
-/// The commands, each with its options.
-fn write_usage<S: Sink>(sink: &mut S) -> Result<(), SinkFault>
-    ensures { Prints (S.faults sink.old) (S.faults sink.new)
-        (S.written sink.old) (S.written sink.new) usage_text result }
-{
-    write_pieces(
-        sink,
-        &[
-            b"usage: ror replay TABLE SESSION [--bits 15|31|63|127] [--best-first]",
-            b" | ror check TABLE SESSION REPORT [--best-first]",
-            b" | ror generate NUMBER\n",
         ],
     )
 }
@@ -113,8 +99,39 @@ fn write_table_fault<S: Sink>(sink: &mut S, fault: &TableFault) -> Result<(), Si
     ensures { Prints (S.faults sink.old) (S.faults sink.new)
         (S.written sink.old) (S.written sink.new) (table_line fault.now) result }
 {
-    write_pair(sink, b"bad table: ", kind_name(fault.kind).as_bytes())?;
-    write_numbered(sink, b" line ", fault.line, b"\n")
+    write_named(
+        sink,
+        b"bad table: ",
+        kind_name(fault.kind).as_bytes(),
+        b" line ",
+        fault.line,
+        b"\n",
+    )
+}
+
+/// Writes a name and a number, each between two texts.
+fn write_named<'a, S: Sink, N: Integer>(
+    sink: &mut S,
+    before: &'a [u8],
+    name: &'a [u8],
+    between: &'a [u8],
+    number: N,
+    after: &'a [u8],
+) -> Result<(), SinkFault>
+    ensures { Prints (S.faults sink.old) (S.faults sink.new) (S.written sink.old) (S.written sink.new)
+        (before.now ++ name.now ++ between.now ++ N.text number ++ after.now) result }
+{
+    let mut digits = Buffer::new();
+    write_pieces(
+        sink,
+        &[
+            before,
+            name,
+            between,
+            digits.format(number).as_bytes(),
+            after,
+        ],
+    )
 }
 
 fn kind_name(kind: TableKind) -> &'static str
@@ -141,6 +158,7 @@ fn kind_name(kind: TableKind) -> &'static str
         TableKind::Unclosed => "Unclosed",
         TableKind::Mismatched => "Mismatched",
         TableKind::Unsupported(kind) => unsupported_name(kind),
+        TableKind::WideScale => "WideScale",
     }
 }
 
@@ -222,13 +240,16 @@ fn write_check_fault<S: Sink>(sink: &mut S, fault: &CheckFault) -> Result<(), Si
         CheckFault::WrongQuestion => write_text(sink, b"WrongQuestion"),
         CheckFault::WrongVerdict => write_text(sink, b"WrongVerdict"),
         CheckFault::PartCount => write_text(sink, b"PartCount"),
-        CheckFault::Base(reject) => {
-            write_text(sink, b"base ")?;
-            write_reject(sink, reject)
-        }
+        CheckFault::Base(reject) => write_reject(sink, b"base ", b"", b"", reject),
         CheckFault::Part(part, reject) => {
-            write_numbered(sink, b"part ", *part, b" ")?;
-            write_reject(sink, reject)
+            let mut digits = Buffer::new();
+            write_reject(
+                sink,
+                b"part ",
+                digits.format(*part).as_bytes(),
+                b" ",
+                reject,
+            )
         }
         CheckFault::Memory => write_text(sink, b"Memory"),
     }
@@ -242,29 +263,58 @@ fn write_repair_fault<S: Sink>(sink: &mut S, fault: &RepairCheckFault) -> Result
         RepairCheckFault::WrongList => write_text(sink, b"WrongList"),
         RepairCheckFault::WrongKind => write_text(sink, b"WrongKind"),
         RepairCheckFault::Dropped(number, reject) => {
-            write_numbered(sink, b"dropped ", *number, b" ")?;
-            write_reject(sink, reject)
+            let mut digits = Buffer::new();
+            write_reject(
+                sink,
+                b"dropped ",
+                digits.format(*number).as_bytes(),
+                b" ",
+                reject,
+            )
         }
-        RepairCheckFault::Base(reject) => {
-            write_text(sink, b"base ")?;
-            write_reject(sink, reject)
-        }
+        RepairCheckFault::Base(reject) => write_reject(sink, b"base ", b"", b"", reject),
         RepairCheckFault::Memory => write_text(sink, b"Memory"),
     }
 }
 
-fn write_reject<S: Sink>(sink: &mut S, reject: &Reject) -> Result<(), SinkFault>
-    ensures { Prints (S.faults sink.old) (S.faults sink.new)
-        (S.written sink.old) (S.written sink.new) (reject_text reject.now) result }
+/// Writes why a certificate is refused, after three texts.
+fn write_reject<'a, S: Sink>(
+    sink: &mut S,
+    front: &'a [u8],
+    number: &'a [u8],
+    back: &'a [u8],
+    reject: &Reject,
+) -> Result<(), SinkFault>
+    ensures { Prints (S.faults sink.old) (S.faults sink.new) (S.written sink.old) (S.written sink.new)
+        (front.now ++ number.now ++ back.now ++ reject_text reject.now) result }
 {
     match reject {
-        Reject::Length => write_text(sink, b"Length"),
-        Reject::Negative(place) => write_number(sink, b"Negative ", *place),
-        Reject::Total => write_text(sink, b"Total"),
-        Reject::RowWide(place) => write_number(sink, b"RowWide ", *place),
-        Reject::Row(place) => write_number(sink, b"Row ", *place),
-        Reject::NoStrict => write_text(sink, b"NoStrict"),
-        Reject::ColumnWide(place) => write_number(sink, b"ColumnWide ", *place),
-        Reject::Column(place) => write_number(sink, b"Column ", *place),
+        Reject::Length => write_pieces(sink, &[front, number, back, b"Length"]),
+        Reject::Negative(k) => write_placed(sink, front, number, back, b"Negative ", *k),
+        Reject::Total => write_pieces(sink, &[front, number, back, b"Total"]),
+        Reject::RowWide(k) => write_placed(sink, front, number, back, b"RowWide ", *k),
+        Reject::Row(k) => write_placed(sink, front, number, back, b"Row ", *k),
+        Reject::NoStrict => write_pieces(sink, &[front, number, back, b"NoStrict"]),
+        Reject::ColumnWide(k) => write_placed(sink, front, number, back, b"ColumnWide ", *k),
+        Reject::Column(k) => write_placed(sink, front, number, back, b"Column ", *k),
     }
+}
+
+/// Writes a place after four texts.
+fn write_placed<'a, S: Sink, N: Integer>(
+    sink: &mut S,
+    front: &'a [u8],
+    number: &'a [u8],
+    back: &'a [u8],
+    name: &'a [u8],
+    place: N,
+) -> Result<(), SinkFault>
+    ensures { Prints (S.faults sink.old) (S.faults sink.new) (S.written sink.old) (S.written sink.new)
+        (front.now ++ number.now ++ back.now ++ (name.now ++ N.text place)) result }
+{
+    let mut digits = Buffer::new();
+    write_pieces(
+        sink,
+        &[front, number, back, name, digits.format(place).as_bytes()],
+    )
 }

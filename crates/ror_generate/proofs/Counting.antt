@@ -81,16 +81,10 @@ accepted_more blocks block =
 -- ---- what is counted of answers
 
 split_one : (v : Verdict) → cond {A = ℕ} (beq (is_wide v) false) 1 0 ≡ cond (is_yes v) 1 0 + cond (is_no v) 1 0 + cond (is_contradiction v) 1 0
-split_one (verdicts.Yes proof) = refl
-split_one (verdicts.No proof) = refl
-split_one (verdicts.Contradiction proof) = refl
-split_one (verdicts.Wide system note) = refl
+split_one v = grind arith
 
 wide_one : (v : Verdict) → cond {A = ℕ} (beq (is_wide v) true) 1 0 ≡ cond (is_too_wide v) 1 0
-wide_one (verdicts.Yes proof) = refl
-wide_one (verdicts.No proof) = refl
-wide_one (verdicts.Contradiction proof) = refl
-wide_one (verdicts.Wide system note) = refl
+wide_one v = grind arith
 
 proved_are : (xs : List Answer) → (answers_passed xs).answers ≡ (verdicts_of xs).yes + (verdicts_of xs).no + (verdicts_of xs).contradiction
 proved_are [] = refl
@@ -204,10 +198,10 @@ same_counts a b p q p' q' e d = cc
 -- ---- no other fault than want of memory comes where the second bench is as the first
 
 pub only_memory : (e : BlockFault) → (e ≢ faults.Memory → ⊥) → e ≡ faults.Memory
+only_memory faults.Memory other = refl
 only_memory faults.WrongBlock other = absurd (other (λ is. cc))
 only_memory (faults.Answer k fault) other = absurd (other (λ is. cc))
 only_memory (faults.Repair fault) other = absurd (other (λ is. cc))
-only_memory faults.Memory other = refl
 
 -- ---- answer by answer
 

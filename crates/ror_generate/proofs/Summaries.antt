@@ -5,8 +5,6 @@ use Rattle.std.specs.declared.alloc.AllocError.{AllocError}
 use Rattle.std.specs.List.{AllByRecursion, flat_map, range_with_len}
 use Rattle.std.proofs.lemmas.List.{length-replicate}
 use Rattle.ror_text.proofs.Everywhere.{all-append}
-use Rattle.ror_report.specs.declared.block.Block.{Block}
-use Rattle.ror_report.specs.Text.{block_text, header_text, end_text}
 use Rattle.ror_session.specs.declared.limits.TheConstants.{MOST_LINES}
 use Rattle.ror_session.specs.declared.session.Asked.TheVariants.{Consistent, Relation}
 use Rattle.ror_session.specs.declared.session.Command.{Command}
@@ -16,47 +14,33 @@ use Rattle.ror_session.specs.declared.session.Session.{Session}
 use Rattle.ror_table.specs.Table.{DecisionTable}
 use Rattle.ror_value.specs.declared.input.Input.{Input}
 use Rattle.ror_value.specs.Over.{IsLawfulIn}
+use Rattle.ror_report.specs.Text.{block_text, header_text, end_text}
 use Rattle.ror_bench.specs.Allowed.{given_at}
-use Rattle.ror_bench.specs.Bench.{Workbench, bench_of, LeavesNumbers}
 use Rattle.ror_bench.specs.Blocks.{IsBlockOf}
+use Rattle.ror_bench.proofs.ReportProofs.{as_many}
+use Rattle.ror_bench.specs.Bench.{Workbench, bench_of, LeavesNumbers}
 use Rattle.ror_bench.specs.Generated.{seed_after, stated_from, generated_statements, generated_commands, lines_from, generated_table, generated_session, generated}
-use Rattle.ror_bench.specs.Replays.{AreBlocksAt, IsReplayedReport}
 use Rattle.ror_bench.specs.Reports.{NamesADesk, accepted_of}
 use Rattle.ror_bench.proofs.GeneratedSession.{generated_lawful}
-use Rattle.ror_bench.proofs.ReportProofs.{as_many}
-use Rattle.ror_bench.proofs.ReplayLemmas.{replayed_proved}
-use Rattle.ror_bench.proofs.Truth.{report_true}
 use Rattle.ror_generate.specs.declared.summary.Summary.{Summary}
 use Rattle.ror_generate.specs.Generating.{summary_text, IsSummaryOf, IsNoRepair, IsSummed}
 use Rattle.ror_generate.specs.Generating.{most}
-use Rattle.ror_frame.specs.Inputs.{bench_for, IsReportOf}
-use Rattle.ror_frame.proofs.Desks.{lawful_desks, numbers_left}
-
--- ---- a report of the blocks
-
-abbrev report_of : Input → Session → List Block → List ℕ
-report_of i s blocks = header_text ++ (flat_map (block_text i.table) blocks ++ end_text (length s.lines))
-
-replayed : (i : Input) (s : Session) (blocks : List Block) → AreBlocksAt most (bench_for i s) s.lines blocks → IsReplayedReport most (bench_for i s) s.lines (report_of i s blocks) (accepted_of blocks)
-replayed i s blocks made =
-    let count = as_many (IsBlockOf (given_at most) i.table) (bench_for i s) [] s.lines blocks made.given in
-    record { blocks = blocks; made = made; text = ap (λ n. header_text ++ (flat_map (block_text i.table) blocks ++ end_text n)) count; counted = refl }
-
-reported : (i : Input) (s : Session) (blocks : List Block) → IsLawfulIn i.table i.opening → AreBlocksAt most (bench_for i s) s.lines blocks → IsReportOf most i s (report_of i s blocks) (accepted_of blocks)
-reported i s blocks lawful made =
-    let given = replayed i s blocks made in
-    let proved = replayed_proved most (bench_for i s) s.lines (report_of i s blocks) (accepted_of blocks) given in
-    record { given = given; checked = record { proved = proved; blocks_true = report_true (bench_for i s) s.lines (report_of i s blocks) (accepted_of blocks) (lawful_desks i (length s.desks) lawful) proved } }
+use Rattle.ror_frame.specs.Inputs.{bench_for}
+use Rattle.ror_frame.proofs.Desks.{lawful_desks, numbers_left, text_of, reported}
 
 pub summary_is : (number : ℕ) (summary : Summary) → IsSummed (bench_for (generated number).input (generated number).session) (generated number).session.lines summary → IsSummaryOf number (summary_text number summary.verdicts) (nat_lt 0 summary.verdicts.wide)
-unfolding reported replayed
 summary_is number summary summed =
     let i = (generated number).input in
     let s = (generated number).session in
+    let lawful = lawful_desks i (length s.desks) (generated_lawful number).opening in
+    let count = as_many (IsBlockOf (given_at most) i.table) (bench_for i s) [] s.lines summed.blocks summed.made.given in
     record {
-      report = report_of i s summed.blocks;
+      report = text_of (bench_for i s) s.lines summed.blocks;
       accepted = accepted_of summed.blocks;
-      is = reported i s summed.blocks (generated_lawful number).opening summed.made;
+      is = record {
+        given = record { blocks = summed.blocks; made = summed.made; text = ap (λ n. header_text ++ (flat_map (block_text i.table) summed.blocks ++ end_text n)) count; counted = refl };
+        checked = (reported most (bench_for i s) s.lines summed.blocks lawful summed.made).checked;
+      };
       verdicts = summary.verdicts;
       counted = summed.verdicts;
       text_is = refl;

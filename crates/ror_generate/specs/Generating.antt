@@ -19,7 +19,7 @@ use Rattle.ror_frame.specs.Courses.{Output, finish, Chore}
 use Rattle.ror_frame.specs.Statuses.{accepted_text}
 use Rattle.ror_pivot.specs.Answers.{most_of}
 use Rattle.ror_pivot.specs.declared.note.Bits.TheVariants.{B127}
-use Rattle.ror_frame.specs.Inputs.{IsReportOf}
+use Rattle.ror_frame.specs.Inputs.{bench_for, IsReportOf}
 
 -- the greatest value of a number at the width of such a report
 abbrev pub most : ℕ
@@ -100,7 +100,8 @@ summary_text number v =
 pub record IsSummaryOf (number : ℕ) (text : List ℕ) (wide : Bool) : Type 0 where
   pub report : List ℕ
   pub accepted : Accepted
-  pub is : IsReportOf most (generated number).input (generated number).session report accepted
+  pub is : IsReportOf most (bench_for (generated number).input (generated number).session)
+      (generated number).session.lines report accepted
   pub verdicts : Verdicts
   pub counted : verdicts ≡ verdicts_of (answers_in is.given.blocks)
   pub text_is : text ≡ summary_text number verdicts

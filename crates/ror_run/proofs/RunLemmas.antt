@@ -10,25 +10,16 @@ use Rattle.ror_frame.specs.declared.stop.Stop.TheVariants as stops
 use Rattle.ror_frame.specs.States.{ShelfState, SinkState}
 use Rattle.ror_frame.specs.Stops.{Outcome, status_after, outcome_of, refused_status, HidesNone}
 use Rattle.ror_frame.specs.Courses.{Ending, Leads, Ends, Writes, CountsWrites, EndsAfter, LacksOne, LacksFirst, IsPure, IsWork}
-use Rattle.ror_words.specs.declared.words.CommandWord.{CommandWord}
-use Rattle.ror_words.specs.Words.{CheckNames, Task, Replay, Check, Generate, Given, task_by, task_of}
-use Rattle.ror_words.specs.Named.{command_text, IsAsked}
+use Rattle.ror_words.specs.Words.{Task, task_of}
 use Rattle.ror_run.specs.Chores.{chore_of}
 use Rattle.ror_run.specs.Running.{files_named, WritesBy, IsRun}
 use Rattle.ror_frame.proofs.CourseLemmas.{IsDecided, one_ending, unbegun}
-use Rattle.ror_run.proofs.ChoreLemmas.{decided_chore}
+use Rattle.ror_run.proofs.ChoreLemmas.{decided_chore, three_files}
 
 -- ---- a status tells the outcome
 
 outcome_after : (o : Outcome) → outcome_of (status_after o) ≡ Some o
-outcome_after (Ok true) = refl
-outcome_after (Ok false) = refl
-outcome_after (Err (stops.At (refusals.BadTable fault))) = refl
-outcome_after (Err (stops.At (refusals.BadSession fault))) = refl
-outcome_after (Err (stops.At (refusals.Rejected rejection))) = refl
-outcome_after (Err stops.ReadFault) = refl
-outcome_after (Err stops.WriteFault) = refl
-outcome_after (Err stops.Memory) = refl
+outcome_after o = grind arith
 
 told_by : (o p : Outcome) (s : Status) → status_after o ≡ s → outcome_of s ≡ Some p → o ≡ p
 told_by o p s is tells = let q = sym (outcome_after o) ∙ ap outcome_of is ∙ tells in cc
@@ -42,26 +33,12 @@ refusal_told r = outcome_after (Err (stops.At r))
 -- ---- what standard output counts
 
 never_falls : (before now : ℕ) (o : Outcome) → CountsWrites before now o → before ≤ now
-never_falls before now (Ok wide) counts = omega (arith, counts)
-never_falls before now (Err (stops.At r)) counts = omega (arith, counts)
-never_falls before now (Err stops.ReadFault) counts = omega (arith, counts)
-never_falls before now (Err stops.WriteFault) counts = counts.0
-never_falls before now (Err stops.Memory) counts = omega (arith, counts)
+never_falls before now o counts = grind (arith, counts)
 
 where_rose : (before now : ℕ) (o : Outcome) → CountsWrites before now o → before < now → o ≡ Err stops.WriteFault
-where_rose before now (Ok wide) counts rose = absurd (omega (arith, counts, rose))
-where_rose before now (Err (stops.At r)) counts rose = absurd (omega (arith, counts, rose))
-where_rose before now (Err stops.ReadFault) counts rose = absurd (omega (arith, counts, rose))
-where_rose before now (Err stops.WriteFault) counts rose = refl
-where_rose before now (Err stops.Memory) counts rose = absurd (omega (arith, counts, rose))
+where_rose before now o counts rose = grind (arith, counts, rose)
 
 -- ---- the run
-
--- only a check has three files
-three_files : (task : Task) → 3 ≤ length (chore_of task).files → (names : CheckNames) × (task ≡ Check names)
-three_files (Replay names bits) three = absurd (omega (arith, three))
-three_files (Check names) three = (names, refl)
-three_files (Generate number) three = absurd (omega (arith, three))
 
 -- the words ask for the task: the run is the work on it
 pub worked_run : (words : List (List ℕ)) (task : Task) (before now : ShelfState) (old new : SinkState) (o : Outcome) → task_of words ≡ Some task → IsWork 0 (chore_of task).files (chore_of task).course before now old new o → IsRun words before now old new (status_after o)
@@ -86,13 +63,12 @@ worked_run words task before now old new o is work = record {
   rejects = λ n refused.
       let at = told_by o (Err (stops.At (refusals.Rejected n))) _ refused refl in
       let after = subst (λ (p : Outcome). EndsAfter 0 (length (chore_of task).files) (Some p) work.fetched.0) at work.fetched.1 in
-      let check = three_files task (omega (arith, after.0, after.1)) in
-      (check.0, is ∙ ap Some check.1);
+      (task, is, three_files task.command task.given (omega (arith, after.0, after.1)));
   shows = shows;
   decided = λ files mine told named stayed other e leads.
       let shown = shows files mine told named stayed other in
-      subst (λ (d : Ending). Ends d (outcome_of (status_after o))) (one_ending files (chore_of mine).course shown.0 e (decided_chore mine) shown.1 leads) shown.2;
-  one_ending = λ files mine d e named first second. one_ending files (chore_of mine).course d e (decided_chore mine) first second;
+      subst (λ (d : Ending). Ends d (outcome_of (status_after o))) (one_ending files (chore_of mine).course shown.0 e (decided_chore mine.command mine.given) shown.1 leads) shown.2;
+  one_ending = λ files mine d e named first second. one_ending files (chore_of mine).course d e (decided_chore mine.command mine.given) first second;
   output = rw (outcome_after o) (subst (λ (t : Option Task). WritesBy before.told before.faults now.faults t old.written new.written (Some o)) (sym is) work.output);
 }
   where
@@ -108,13 +84,6 @@ worked_run words task before now old new o is work = record {
 -- memory ran out while the words were read: nothing is fetched or written
 pub memory_run : (words : List (List ℕ)) (task : Task) (shelf : ShelfState) (out : SinkState) → task_of words ≡ Some task → IsRun words shelf shelf out out statuses.Memory
 memory_run words task shelf out is = worked_run words task shelf shelf out out (Err stops.Memory) is (unbegun (chore_of task).files (chore_of task).course shelf out)
-
-pub memory_asked : (words : List (List ℕ)) (command : CommandWord) (given : Given) (shelf : ShelfState) (out : SinkState) → IsAsked words command given → IsRun words shelf shelf out out statuses.Memory
-memory_asked words command given shelf out asked = by (task_by (command_text command) given) asked.0 asked.1
-  where
-    by : (o : Option Task) → task_of words ≡ o → IsSome o → IsRun words shelf shelf out out statuses.Memory
-    by (Some task) is some = memory_run words task shelf out is
-    by None is some = absurd (let p = some in cc)
 
 -- the words ask for nothing: nothing is fetched or written
 pub usage_run : (words : List (List ℕ)) (shelf : ShelfState) (out : SinkState) → task_of words ≡ None → IsRun words shelf shelf out out statuses.Usage

@@ -1,11 +1,22 @@
 -- What each command does.
-use Rattle.ror_words.specs.Words.{Task, Replay, Check, Generate}
+use Rattle.std.specs.Prelude.{Bool, true, false}
+use Rattle.ror_words.specs.declared.table.CommandWord.{CommandWord}
+use Rattle.ror_words.specs.declared.table.CommandWord.TheVariants.{Replay, Check, Generate}
+use Rattle.ror_words.specs.Words.{Task, Given, inputs_in, name_at, number_of, width_given}
 use Rattle.ror_frame.specs.Courses.{Chore}
 use Rattle.ror_work.specs.Replaying.{replay_chore}
 use Rattle.ror_work.specs.Checking.{check_chore}
 use Rattle.ror_generate.specs.Generating.{generate_chore}
 
+abbrev pub chore_by : CommandWord → Given → Chore
+chore_by Replay given = replay_chore (inputs_in given) (width_given given)
+chore_by Check given = check_chore (inputs_in given) (name_at 2 given)
+chore_by Generate given = generate_chore (number_of given)
+
 abbrev pub chore_of : Task → Chore
-chore_of (Replay names bits) = replay_chore names bits
-chore_of (Check names) = check_chore names
-chore_of (Generate number) = generate_chore number
+chore_of task = chore_by task.command task.given
+
+-- the commands that judge a report
+abbrev pub judges : CommandWord → Bool
+judges Check = true
+judges _ = false

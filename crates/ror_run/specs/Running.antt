@@ -1,5 +1,5 @@
 -- When each status comes, and what a run writes.
-use Rattle.std.specs.Prelude.{◌≡◌, ◌≢◌, ℕ, ◌<◌, ◌≤◌, ◌⊎◌, ◌↔◌, List, [], length, Option, Some, None}
+use Rattle.std.specs.Prelude.{◌≡◌, ◌≢◌, ℕ, ◌<◌, ◌≤◌, ◌⊎◌, ◌↔◌, true, List, [], length, Option, Some, None}
 use Rattle.ror_io.specs.Files.{Files}
 use Rattle.ror_io.specs.Counts.{Rose, DidNotRise, next_count, count_after}
 use Rattle.ror_io.specs.Writing.{Grew, GrewShort}
@@ -11,8 +11,8 @@ use Rattle.ror_frame.specs.States.{ShelfState, SinkState}
 use Rattle.ror_frame.specs.Stops.{Outcome, outcome_of, refused_status, HidesNone}
 use Rattle.ror_frame.specs.Statuses.{status_text}
 use Rattle.ror_frame.specs.Courses.{Ending, Leads, Ends, Writes, EndsAfter, LacksOne, LacksFirst}
-use Rattle.ror_words.specs.Words.{CheckNames, Task, Check, task_of}
-use Rattle.ror_run.specs.Chores.{chore_of}
+use Rattle.ror_words.specs.Words.{Task, task_of}
+use Rattle.ror_run.specs.Chores.{chore_of, judges}
 
 -- the names of the files that a task has
 abbrev pub files_named : Option Task → List (List ℕ)
@@ -78,9 +78,9 @@ pub record IsRun (words : List (List ℕ)) (before now : ShelfState) (old new : 
       → ((status ≡ statuses.ReadFault) × (now.fetches ≡ next_count before.fetches))
       ⊎ ((status ≡ statuses.Memory) × (now.fetches ≡ before.fetches))
   pub pure : (refusal : Refusal) → status ≡ refused_status refusal → HidesNone refusal
-  -- only a check rejects
+  -- only a command that judges a report rejects
   pub rejects : (rejection : Rejection) → status ≡ statuses.Rejected rejection
-      → (names : CheckNames) × (task_of words ≡ Some (Check names))
+      → (task : Task) × (task_of words ≡ Some task) × (judges task.command ≡ true)
   -- what the files lead to, which is one thing, and decides the status
   pub shows : ShowsFiles before.told before.faults now.faults words status
   pub decided : DecidesStatus before.told before.faults now.faults words status

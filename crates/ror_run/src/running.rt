@@ -3,15 +3,17 @@
 ghost use Rattle.std.specs.Prelude.{◌≡◌, ◌≤◌, ℕ, List, Some, map};
 ghost use Rattle.std.specs.String.{string_bytes};
 ghost use Rattle.ror_frame.specs.States.{shelf_state, sink_state};
-ghost use Rattle.ror_words.specs.Words.{task_of};
+ghost use Rattle.ror_words.specs.Words.{task_of, task_with};
 ghost use Rattle.ror_words.specs.WordTable.{IsByTable};
-ghost use Rattle.ror_words.specs.Named.{given_with, task_with, IsAsked, Suit, HasShortNumber};
+ghost use Rattle.ror_words.specs.Named.{row_with, given_with, IsTaken};
+ghost use Rattle.ror_frame.specs.Courses.{IsWork};
+ghost use Rattle.ror_run.specs.Chores.{chore_by};
 ghost use Rattle.ror_run.specs.Running.{IsRun, Says};
 
-use ror_frame::{Status, write_status};
+use ror_frame::{Status, Stop, write_status};
 use ror_generate::generate;
 use ror_io::{Shelf, Sink};
-use ror_words::{Arguments, CommandWord, Task, read_task, words_in_table};
+use ror_words::{Arguments, CommandWord, Row, read_arguments, words_in_table};
 use ror_work::{check_files, replay_files};
 use std::alloc::Global;
 
@@ -53,7 +55,7 @@ fn status_of<F: Shelf, O: Sink>(
         (sink_state (O.written out.new) (O.faults out.new)) result }
 {
     match words_in_table(words) {
-        Some((command, arguments)) => status_with(alloc, command, &arguments, shelf, out),
+        Some((row, arguments)) => status_with(alloc, row, &arguments, shelf, out),
         None => Status::Usage,
     }
 }
@@ -61,13 +63,13 @@ fn status_of<F: Shelf, O: Sink>(
 /// The status of a command with these arguments.
 fn status_with<F: Shelf, O: Sink>(
     alloc: Global,
-    command: CommandWord,
+    row: Row,
     arguments: &Arguments<'_>,
     shelf: &mut F,
     out: &mut O,
 ) -> Status
-    requires { Suit command (given_with arguments.now) }
-    ensures run { (words : List (List ℕ)) → IsAsked words command (given_with arguments.now) → IsRun words
+    requires { IsTaken row (given_with arguments.now) }
+    ensures run { (words : List (List ℕ)) → task_of words ≡ Some (task_with (row_with row) (given_with arguments.now)) → IsRun words
         (shelf_state (F.told shelf.old) (F.faults shelf.old) (F.fetch_count shelf.old))
         (shelf_state (F.told shelf.new) (F.faults shelf.new) (F.fetch_count shelf.new))
         (sink_state (O.written out.old) (O.faults out.old))
@@ -76,26 +78,33 @@ fn status_with<F: Shelf, O: Sink>(
     let Ok(form) = arguments.normal_form(alloc) else {
         return Status::Memory;
     };
-    match read_task(alloc, command, form.as_slice()) {
-        Ok(task) => status_by(alloc, task, shelf, out),
+    match read_arguments(alloc, row, form.as_slice()) {
+        Ok(found) => Status::after(work_on(alloc, row.command, &found, shelf, out)),
         Err(_) => Status::Memory,
     }
 }
 
-/// The status of a task, after the work on it.
-fn status_by<F: Shelf, O: Sink>(alloc: Global, task: Task<'_>, shelf: &mut F, out: &mut O) -> Status
-    requires { HasShortNumber task }
-    ensures run { (words : List (List ℕ)) → task_of words ≡ Some (task_with task.entry) → IsRun words
+/// The work of a command: whether anything is too wide, or where it stopped.
+fn work_on<F: Shelf, O: Sink>(
+    alloc: Global,
+    command: CommandWord,
+    arguments: &Arguments<'_>,
+    shelf: &mut F,
+    out: &mut O,
+) -> Result<bool, Stop>
+    ensures { IsWork 0 (chore_by command (given_with arguments.now)).files (chore_by command (given_with arguments.now)).course
         (shelf_state (F.told shelf.old) (F.faults shelf.old) (F.fetch_count shelf.old))
         (shelf_state (F.told shelf.new) (F.faults shelf.new) (F.fetch_count shelf.new))
         (sink_state (O.written out.old) (O.faults out.old))
         (sink_state (O.written out.new) (O.faults out.new)) result }
 {
-    match task {
-        Task::Replay(names, bits) => Status::after(replay_files(alloc, &names, bits, shelf, out)),
-        Task::Check(names, report) => {
-            Status::after(check_files(alloc, &names, report, shelf, out))
+    match command {
+        CommandWord::Replay => {
+            replay_files(alloc, &arguments.inputs(), arguments.width(), shelf, out)
         }
-        Task::Generate(number) => Status::after(generate(alloc, number, out)),
+        CommandWord::Check => {
+            check_files(alloc, &arguments.inputs(), arguments.name(2), shelf, out)
+        }
+        CommandWord::Generate => generate(alloc, arguments.number(), out),
     }
 }

@@ -1,3 +1,2 @@
-pub mod Giving
-pub mod Table
+pub mod WordLemmas
 pub mod Reading

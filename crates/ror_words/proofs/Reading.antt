@@ -1,151 +1,102 @@
 -- What `clap` finds in words in normal form.
-use Rattle.std.proofs.Common.{rules, ◌≡◌, ◌∙◌, refl, ap, sym, subst, ℕ, Bool, true, false, List, [], ◌∷◌, Option, Some, None, IsSome, codes, if◌then◌else◌}
-use Rattle.std.specs.Option.{option_map, option_and_then}
-use Rattle.clap.specs.Words.{Row, takes, matches_of, rows_of, is_simple, first_of, one_of, first_value, one_text}
+use Rattle.std.proofs.Common.{◌≡◌, ◌∙◌, refl, ap, sym, subst, ℕ, ◌<◌, ◌≤◌, inl, inr, arith, Bool, true, false, not, ◌||◌, ◌==◌, nat_lt, List, [], ◌∷◌, length, Option, Some, None, is_some, codes}
+use Rattle.std.specs.Option.{option_map}
+use Rattle.std.specs.List.{list_all}
+use Rattle.std.specs.Str.{bytes_eq}
+use Rattle.std.proofs.lemmas.Bool.{eqb-true, ltb-true}
+use Rattle.clap.specs.Words.{App, Text, takes, matches_of, rows_of, is_simple, first_of, one_of, all_of}
 use Rattle.clap.specs.declared.parser.matches.Found.{Found}
 use Rattle.clap.proofs.OnLiterals.{clap_on_literals}
-use Rattle.clap.proofs.WalkLemmas.{first_value-rows, one_text-rows}
+use Rattle.clap.proofs.WalkLemmas.{first_value-rows, one_text-rows, raw_values-rows}
 use Rattle.ror_pivot.specs.declared.note.Bits.{Bits}
-use Rattle.ror_pivot.specs.declared.note.Bits.TheVariants.{B15, B31, B63, B127}
-use Rattle.ror_words.specs.declared.words.CommandWord.{CommandWord}
-use Rattle.ror_words.specs.declared.words.CommandWord.TheVariants as commands
-use Rattle.ror_words.specs.Words.{Task, Given, width_text, width_of, width_or_widest, replay_named, check_named, generate_named, unless_given, task_by, normal_form}
-use Rattle.ror_words.specs.Named.{command_text, Suit}
-use Rattle.ror_words.specs.Commands.{app_for, flag_text, task_found, HasFlag, AreAsked}
+use Rattle.ror_words.specs.declared.table.Row as rows
+use Rattle.ror_words.specs.Commands.{Row, table}
+use Rattle.ror_words.specs.Words.{Given, width_text, normal_form, is_number, suits}
+use Rattle.ror_words.specs.Named.{row_with}
+use Rattle.ror_words.specs.Matches.{app_by, app_for, Tells, IsFound, AreForm}
+use Rattle.ror_words.proofs.WordLemmas.{both, has_few, found_keeps, few_taken}
 
 -- ---- what stands in the matches
 
-abbrev form : Option Bits → Bool → List (List ℕ) → List (List ℕ)
-form bits best_first names = normal_form (record { names = names; bits = bits; best_first = best_first })
+pub record IsRead (app : App) (words : List Text) (given : Given) : Type 0 where
+  pub taken : takes app words ≡ true
+  pub names : all_of (codes "names") (matches_of app words) ≡ Some given.names
+  pub bits : first_of (codes "bits") (matches_of app words) ≡ option_map width_text given.bits
+  pub best_first : Tells (one_of (codes "best-first") (matches_of app words)) given.best_first
 
-abbrev found_by : CommandWord → List (List ℕ) → List Row
-found_by command words = matches_of (app_for command) words
+abbrev IsShape : List ℕ → Bool → Bool → List Text → Option Bits → Bool → Type 0
+IsShape word bits best_first names b f = IsRead (app_by word bits best_first (length names)) (normal_form (record { names = names; bits = b; best_first = f })) (record { names = names; bits = b; best_first = f })
 
-replay_found : (bits : Option Bits) (f : Bool) (t s : List ℕ) → (takes (app_for commands.Replay) (form bits f (t ∷ s ∷ [])) ≡ true)
-    × (first_of (codes "TABLE") (found_by commands.Replay (form bits f (t ∷ s ∷ []))) ≡ Some t)
-    × (first_of (codes "SESSION") (found_by commands.Replay (form bits f (t ∷ s ∷ []))) ≡ Some s)
-    × (first_of (codes "bits") (found_by commands.Replay (form bits f (t ∷ s ∷ []))) ≡ option_map width_text bits)
-    × (one_of (codes "best-first") (found_by commands.Replay (form bits f (t ∷ s ∷ []))) ≡ Some (flag_text f))
+-- words of each shape that a row may have: one to three names, and each option
+shape : (word : List ℕ) (tb tf : Bool) (names : List Text) (b : Option Bits) (f : Bool) → (tb || not (is_some b)) ≡ true → (tf || not f) ≡ true → 0 < length names → length names ≤ 3 → IsShape word tb tf names b f
 unfolding clap_on_literals
-replay_found None false t s = (refl, refl, refl, refl, refl)
-replay_found None true t s = (refl, refl, refl, refl, refl)
-replay_found (Some B15) false t s = (refl, refl, refl, refl, refl)
-replay_found (Some B15) true t s = (refl, refl, refl, refl, refl)
-replay_found (Some B31) false t s = (refl, refl, refl, refl, refl)
-replay_found (Some B31) true t s = (refl, refl, refl, refl, refl)
-replay_found (Some B63) false t s = (refl, refl, refl, refl, refl)
-replay_found (Some B63) true t s = (refl, refl, refl, refl, refl)
-replay_found (Some B127) false t s = (refl, refl, refl, refl, refl)
-replay_found (Some B127) true t s = (refl, refl, refl, refl, refl)
+shape word tb tf [] b f bits best some few = absurd (omega (arith, some))
+shape word tb tf (x ∷ y ∷ z ∷ w ∷ names) b f bits best some few = absurd (omega (arith, few))
+shape word false tf names (Some b) f bits best some few = absurd cc
+shape word tb false names b true bits best some few = absurd cc
+shape word false false (x ∷ []) None false bits best some few = record { taken = refl; names = refl; bits = refl; best_first = inr (refl, refl) }
+shape word false true (x ∷ []) None false bits best some few = record { taken = refl; names = refl; bits = refl; best_first = inl refl }
+shape word false true (x ∷ []) None true bits best some few = record { taken = refl; names = refl; bits = refl; best_first = inl refl }
+shape word true false (x ∷ []) None false bits best some few = record { taken = refl; names = refl; bits = refl; best_first = inr (refl, refl) }
+shape word true true (x ∷ []) None false bits best some few = record { taken = refl; names = refl; bits = refl; best_first = inl refl }
+shape word true true (x ∷ []) None true bits best some few = record { taken = refl; names = refl; bits = refl; best_first = inl refl }
+shape word true false (x ∷ []) (Some b) false bits best some few = record { taken = refl; names = refl; bits = refl; best_first = inr (refl, refl) }
+shape word true true (x ∷ []) (Some b) false bits best some few = record { taken = refl; names = refl; bits = refl; best_first = inl refl }
+shape word true true (x ∷ []) (Some b) true bits best some few = record { taken = refl; names = refl; bits = refl; best_first = inl refl }
+shape word false false (x ∷ y ∷ []) None false bits best some few = record { taken = refl; names = refl; bits = refl; best_first = inr (refl, refl) }
+shape word false true (x ∷ y ∷ []) None false bits best some few = record { taken = refl; names = refl; bits = refl; best_first = inl refl }
+shape word false true (x ∷ y ∷ []) None true bits best some few = record { taken = refl; names = refl; bits = refl; best_first = inl refl }
+shape word true false (x ∷ y ∷ []) None false bits best some few = record { taken = refl; names = refl; bits = refl; best_first = inr (refl, refl) }
+shape word true true (x ∷ y ∷ []) None false bits best some few = record { taken = refl; names = refl; bits = refl; best_first = inl refl }
+shape word true true (x ∷ y ∷ []) None true bits best some few = record { taken = refl; names = refl; bits = refl; best_first = inl refl }
+shape word true false (x ∷ y ∷ []) (Some b) false bits best some few = record { taken = refl; names = refl; bits = refl; best_first = inr (refl, refl) }
+shape word true true (x ∷ y ∷ []) (Some b) false bits best some few = record { taken = refl; names = refl; bits = refl; best_first = inl refl }
+shape word true true (x ∷ y ∷ []) (Some b) true bits best some few = record { taken = refl; names = refl; bits = refl; best_first = inl refl }
+shape word false false (x ∷ y ∷ z ∷ []) None false bits best some few = record { taken = refl; names = refl; bits = refl; best_first = inr (refl, refl) }
+shape word false true (x ∷ y ∷ z ∷ []) None false bits best some few = record { taken = refl; names = refl; bits = refl; best_first = inl refl }
+shape word false true (x ∷ y ∷ z ∷ []) None true bits best some few = record { taken = refl; names = refl; bits = refl; best_first = inl refl }
+shape word true false (x ∷ y ∷ z ∷ []) None false bits best some few = record { taken = refl; names = refl; bits = refl; best_first = inr (refl, refl) }
+shape word true true (x ∷ y ∷ z ∷ []) None false bits best some few = record { taken = refl; names = refl; bits = refl; best_first = inl refl }
+shape word true true (x ∷ y ∷ z ∷ []) None true bits best some few = record { taken = refl; names = refl; bits = refl; best_first = inl refl }
+shape word true false (x ∷ y ∷ z ∷ []) (Some b) false bits best some few = record { taken = refl; names = refl; bits = refl; best_first = inr (refl, refl) }
+shape word true true (x ∷ y ∷ z ∷ []) (Some b) false bits best some few = record { taken = refl; names = refl; bits = refl; best_first = inl refl }
+shape word true true (x ∷ y ∷ z ∷ []) (Some b) true bits best some few = record { taken = refl; names = refl; bits = refl; best_first = inl refl }
 
-check_found : (f : Bool) (t s r : List ℕ) → (takes (app_for commands.Check) (form None f (t ∷ s ∷ r ∷ [])) ≡ true)
-    × (first_of (codes "TABLE") (found_by commands.Check (form None f (t ∷ s ∷ r ∷ []))) ≡ Some t)
-    × (first_of (codes "SESSION") (found_by commands.Check (form None f (t ∷ s ∷ r ∷ []))) ≡ Some s)
-    × (first_of (codes "REPORT") (found_by commands.Check (form None f (t ∷ s ∷ r ∷ []))) ≡ Some r)
-    × (one_of (codes "best-first") (found_by commands.Check (form None f (t ∷ s ∷ r ∷ []))) ≡ Some (flag_text f))
-unfolding clap_on_literals
-check_found false t s r = (refl, refl, refl, refl, refl)
-check_found true t s r = (refl, refl, refl, refl, refl)
-
-generate_found : (n : List ℕ) → (takes (app_for commands.Generate) (form None false (n ∷ [])) ≡ true)
-    × (first_of (codes "NUMBER") (found_by commands.Generate (form None false (n ∷ []))) ≡ Some n)
-unfolding clap_on_literals
-generate_found n = (refl, refl)
+form_read : (row : Row) (given : Given) → has_few row ≡ true → suits row given ≡ true → IsRead (app_for row) (normal_form given) given
+form_read row given few taken =
+    let some = both (nat_lt 0 (length row.names)) (nat_lt (length row.names) 4) few in
+    let a = both (length given.names == length row.names) _ taken in
+    let b = both (not row.numbers || list_all is_number given.names) _ a.1 in
+    let c = both (row.bits || not (is_some given.bits)) (row.best_first || not given.best_first) b.1 in
+    let same = eqb-true (length given.names) (length row.names) a.0 in
+    let most = ltb-true (length row.names) 4 some.1 in
+    let least = ltb-true 0 (length row.names) some.0 in
+    subst (λ (n : ℕ). IsRead (app_by row.word row.bits row.best_first n) (normal_form given) given) same (shape row.word row.bits row.best_first given.names given.bits given.best_first c.0 c.1 (omega arith) (omega arith))
 
 -- ---- what it means
 
-text_is : (found : Found) (rows : List Row) (id : List ℕ) (r : Option (List ℕ)) → rows_of found ≡ rows → first_of id rows ≡ r → first_value found id ≡ r
-text_is found rows id r same is = first_value-rows found id ∙ ap (first_of id) same ∙ is
+read_of : (row : rows.Row) (given : Given) (words : List Text) → AreForm row given words → IsRead (app_for (row_with row)) words given
+read_of row given words form =
+    let few = (both (bytes_eq row.word.now form.1.0) (has_few (row_with row)) (found_keeps (λ r. bytes_eq r.word form.1.0) has_few table (row_with row) refl form.1.1)).1 in
+    subst (λ (ws : List Text). IsRead (app_for (row_with row)) ws given) (sym form.0) (form_read (row_with row) given few form.1.2)
 
-flag_is : (found : Found) (rows : List Row) (id : List ℕ) (r : Option (List ℕ)) → rows_of found ≡ rows → one_of id rows ≡ r → one_text found id ≡ r
-flag_is found rows id r same is = one_text-rows found id ∙ ap (one_of id) same ∙ is
+pub simple_form : (row : rows.Row) (given : Given) (words : List Text) → AreForm row given words → is_simple (app_for (row_with row)) ≡ true
+simple_form row given words form =
+    (both (is_simple (app_for (row_with row))) _ (read_of row given words form).taken).0
 
-width_read : (bits : Option Bits) → option_and_then width_of (option_map width_text bits) ≡ bits
-width_read None = refl
-width_read (Some B15) = refl
-width_read (Some B31) = refl
-width_read (Some B63) = refl
-width_read (Some B127) = refl
+pub form_taken : (row : rows.Row) (given : Given) (words : List Text) → AreForm row given words → takes (app_for (row_with row)) words ≡ true
+form_taken row given words form = (read_of row given words form).taken
 
--- the command takes the words, and what it finds in them asks for the task
-pub record IsRead (command : CommandWord) (words : List (List ℕ)) (task : Task) : Type 0 where
-  pub taken : takes (app_for command) words ≡ true
-  pub read : (found : Found) → rows_of found ≡ found_by command words → (f : Bool) × HasFlag command f found × (task_found command f found ≡ Some task)
+told : (o p : Option Text) (f : Bool) → o ≡ p → Tells p f → Tells o f
+told o p f same tells = subst (λ (q : Option Text). Tells q f) (sym same) tells
 
-replay_read : (bits : Option Bits) (f : Bool) (names : List (List ℕ)) (task : Task) → replay_named (width_or_widest bits) f names ≡ Some task → IsRead commands.Replay (form bits f names) task
-replay_read bits f [] task is = absurd cc
-replay_read bits f (t ∷ []) task is = absurd cc
-replay_read bits f (t ∷ s ∷ []) task is =
-    let facts = replay_found bits f t s in
+pub form_found : (row : rows.Row) (given : Given) (words : List Text) (found : Found) → AreForm row given words → rows_of found ≡ matches_of (app_for (row_with row)) words → IsFound given found
+form_found row given words found form same =
+    let read = read_of row given words form in
+    let few = (both (bytes_eq row.word.now form.1.0) (has_few (row_with row)) (found_keeps (λ r. bytes_eq r.word form.1.0) has_few table (row_with row) refl form.1.1)).1 in
     record {
-      taken = facts.0;
-      read = λ found same.
-          let table = text_is found _ (codes "TABLE") _ same facts.1 in
-          let session = text_is found _ (codes "SESSION") _ same facts.2 in
-          let width = text_is found _ (codes "bits") _ same facts.3 in
-          (f, flag_is found _ (codes "best-first") _ same facts.4, rw (table, session, width, width_read bits) is);
+      names = raw_values-rows found (codes "names") ∙ ap (all_of (codes "names")) same ∙ read.names;
+      few = few_taken (row_with row) given few form.1.2;
+      bits = first_value-rows found (codes "bits") ∙ ap (first_of (codes "bits")) same ∙ read.bits;
+      best_first = told _ _ given.best_first (one_text-rows found (codes "best-first") ∙ ap (one_of (codes "best-first")) same) read.best_first;
     }
-replay_read bits f (t ∷ s ∷ r ∷ names) task is = absurd cc
-
-check_read : (bits : Option Bits) (f : Bool) (names : List (List ℕ)) (task : Task) → unless_given bits (check_named f names) ≡ Some task → IsRead commands.Check (form bits f names) task
-check_read (Some b) f names task is = absurd cc
-check_read None f [] task is = absurd cc
-check_read None f (t ∷ []) task is = absurd cc
-check_read None f (t ∷ s ∷ []) task is = absurd cc
-check_read None f (t ∷ s ∷ r ∷ []) task is =
-    let facts = check_found f t s r in
-    record {
-      taken = facts.0;
-      read = λ found same.
-          let table = text_is found _ (codes "TABLE") _ same facts.1 in
-          let session = text_is found _ (codes "SESSION") _ same facts.2 in
-          let report = text_is found _ (codes "REPORT") _ same facts.3 in
-          (f, flag_is found _ (codes "best-first") _ same facts.4, rw (table, session, report) is);
-    }
-check_read None f (t ∷ s ∷ r ∷ q ∷ names) task is = absurd cc
-
-generate_read : (bits : Option Bits) (f : Bool) (names : List (List ℕ)) (task : Task) → unless_given bits (if f then None else generate_named names) ≡ Some task → IsRead commands.Generate (form bits f names) task
-generate_read (Some b) f names task is = absurd cc
-generate_read None true names task is = absurd cc
-generate_read None false [] task is = absurd cc
-generate_read None false (n ∷ []) task is =
-    let facts = generate_found n in
-    record {
-      taken = facts.0;
-      read = λ found same.
-          let number = text_is found _ (codes "NUMBER") _ same facts.1 in
-          (false, tt, rw number is);
-    }
-generate_read None false (n ∷ m ∷ names) task is = absurd cc
-
-pub form_read : (command : CommandWord) (given : Given) (task : Task) → task_by (command_text command) given ≡ Some task → IsRead command (normal_form given) task
-form_read commands.Replay given task is = replay_read given.bits given.best_first given.names task is
-form_read commands.Check given task is = check_read given.bits given.best_first given.names task is
-form_read commands.Generate given task is = generate_read given.bits given.best_first given.names task is
-
--- ---- words that are asked
-
-some_value : {A : Type 0} (o : Option A) → IsSome o → (x : A) × (o ≡ Some x)
-some_value (Some x) is = (x, refl)
-some_value None is = absurd cc
-
-pub asked_taken : (command : CommandWord) (words : List (List ℕ)) → AreAsked command words → takes (app_for command) words ≡ true
-asked_taken command words asked =
-    let task = some_value _ asked.2 in
-    subst (λ (ws : List (List ℕ)). takes (app_for command) ws ≡ true) (sym asked.1) (form_read command asked.0 task.0 task.1).taken
-
--- what is found asks for what the words do
-pub asks : (command : CommandWord) (words : List (List ℕ)) (found : Found) (given : Given) → rows_of found ≡ found_by command words → words ≡ normal_form given → Suit command given → (f : Bool) × HasFlag command f found × (task_by (command_text command) given ≡ task_found command f found)
-asks command words found given rows form suits =
-    let task = some_value _ suits in
-    let read = (form_read command given task.0 task.1).read found (rows ∙ ap (found_by command) form) in
-    (read.0, read.1, task.1 ∙ sym read.2)
-
-pub some_found : {A B : Type 0} (f : A → B) (o : Option A) (p q : Option B) → option_map f o ≡ p → q ≡ p → IsSome q → IsSome o
-some_found f (Some x) p q is same some = search rules
-some_found f None p q is same some = absurd cc
-
-pub simple : (command : CommandWord) → is_simple (app_for command) ≡ true
-simple commands.Replay = refl
-simple commands.Check = refl
-simple commands.Generate = refl

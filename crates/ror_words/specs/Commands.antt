@@ -1,89 +1,62 @@
--- The commands as `clap` reads them: which words each knows, and what the words that it found ask for.
-use Rattle.std.specs.Prelude.{◌≡◌, ℕ, Bool, true, List, ◌∷◌, [], Option, Some, codes, if◌then◌else◌}
-use Rattle.std.specs.Option.{option_map, option_and_then}
-use Rattle.clap.specs.Words.{App, Rule, new_app, new_rule, with_rule, first_value, one_text}
-use Rattle.clap.specs.Simple.{on_top}
-use Rattle.clap.specs.declared.parser.matches.Found.{Found}
-use Rattle.clap.specs.declared.builder.action.ArgAction.TheVariants.{SetTrue}
-use Rattle.ror_text.specs.Numbers.{count_of}
-use Rattle.ror_pivot.specs.declared.note.Bits.{Bits}
-use Rattle.ror_words.specs.declared.words.CommandWord.{CommandWord}
-use Rattle.ror_words.specs.declared.words.CommandWord.TheVariants as commands
-use Rattle.ror_words.specs.Words.{InputNames, Task, Replay, Check, Generate, Given, width_of, width_or_widest, task_by, normal_form}
-use Rattle.ror_words.specs.Named.{command_text, Suit}
+-- The table of commands: the word of each, the names after it, and its options.
+use Rattle.std.specs.Prelude.{ℕ, Bool, true, false, List, [], ◌∷◌, ◌++◌, Option, codes, if◌then◌else◌}
+use Rattle.std.specs.List.{find, flat_map}
+use Rattle.std.specs.Str.{bytes_eq}
+use Rattle.ror_words.specs.declared.table.CommandWord.{CommandWord}
+use Rattle.ror_words.specs.declared.table.CommandWord.TheVariants.{Replay, Check, Generate}
 
--- ---- the words that each knows
+-- A row of it: the command, its word, what the usage line calls the names after it, in order, whether these are numbers and not
+-- names of files, and which options it takes.
+pub record Row : Type 0 where
+  pub command : CommandWord
+  pub word : List ℕ
+  pub names : List (List ℕ)
+  pub numbers : Bool
+  pub bits : Bool
+  pub best_first : Bool
 
--- a command that takes no word as the program's name, and has no words for help and version
-abbrev pub bare_app : List ℕ → App
-bare_app name = on_top (λ s. record s {
-  no_binary_name = true;
-  disable_help_flag = true;
-  disable_version_flag = true;
-}) (new_app name)
+abbrev pub table : List Row
+table = record {
+  command = Replay;
+  word = codes "replay";
+  names = codes "TABLE" ∷ codes "SESSION" ∷ [];
+  numbers = false;
+  bits = true;
+  best_first = true;
+} ∷ record {
+  command = Check;
+  word = codes "check";
+  names = codes "TABLE" ∷ codes "SESSION" ∷ codes "REPORT" ∷ [];
+  numbers = false;
+  bits = false;
+  best_first = true;
+} ∷ record {
+  command = Generate;
+  word = codes "generate";
+  names = codes "NUMBER" ∷ [];
+  numbers = true;
+  bits = false;
+  best_first = false;
+} ∷ []
 
-abbrev pub name_rule : List ℕ → Rule
-name_rule id = record (new_rule id) { required = true }
+abbrev pub row_for : List ℕ → Option Row
+row_for word = find (λ row. bytes_eq row.word word) table
 
-abbrev pub bits_rule : Rule
-bits_rule = record (new_rule (codes "bits")) { long = Some (codes "bits") }
+-- ---- the usage line
 
-abbrev pub best_first_rule : Rule
-best_first_rule = record (new_rule (codes "best-first")) {
-  long = Some (codes "best-first");
-  action = Some SetTrue;
-}
+abbrev pub option_usage : Bool → List ℕ → List ℕ
+option_usage taken text = if taken then text else []
 
--- each further name is needed, in order
-abbrev pub with_names : List (List ℕ) → App → App
-with_names [] app = app
-with_names (id ∷ ids) app = with_names ids (with_rule app (name_rule id))
+-- a command, its names, and its options
+abbrev pub row_usage : Row → List ℕ
+row_usage row = codes "ror " ++ row.word ++ flat_map (λ name. codes " " ++ name) row.names
+    ++ option_usage row.bits (codes " [--bits 15|31|63|127]") ++ option_usage row.best_first (codes " [--best-first]")
 
--- the command with its options and names
-abbrev pub app_for : CommandWord → App
-app_for commands.Replay = with_names (codes "TABLE" ∷ codes "SESSION" ∷ [])
-    (with_rule (with_rule (bare_app (codes "replay")) bits_rule) best_first_rule)
-app_for commands.Check = with_names (codes "TABLE" ∷ codes "SESSION" ∷ codes "REPORT" ∷ [])
-    (with_rule (bare_app (codes "check")) best_first_rule)
-app_for commands.Generate = with_names (codes "NUMBER" ∷ []) (bare_app (codes "generate"))
+-- the commands of the table, with bars between
+abbrev pub rows_usage : List Row → List ℕ
+rows_usage [] = []
+rows_usage (row ∷ []) = row_usage row
+rows_usage (row ∷ rows) = row_usage row ++ codes " | " ++ rows_usage rows
 
--- ---- what they found
-
--- the text that stands for a flag which is given, or isn't
-abbrev pub flag_text : Bool → List ℕ
-flag_text best_first = if best_first then codes "true" else codes "false"
-
-abbrev pub inputs_found : Bool → Found → Option InputNames
-inputs_found best_first found = option_and_then (λ table. option_map (λ session. record {
-  table = table;
-  session = session;
-  best_first = best_first;
-}) (first_value found (codes "SESSION"))) (first_value found (codes "TABLE"))
-
-abbrev pub bits_found : Found → Option Bits
-bits_found found = option_and_then width_of (first_value found (codes "bits"))
-
-abbrev pub task_found : CommandWord → Bool → Found → Option Task
-task_found commands.Replay best_first found =
-    option_map (λ inputs. Replay inputs (width_or_widest (bits_found found))) (inputs_found best_first found)
-task_found commands.Check best_first found = option_and_then (λ inputs.
-    option_map (λ report. Check (record { inputs = inputs; report = report })) (first_value found (codes "REPORT")))
-    (inputs_found best_first found)
-task_found commands.Generate best_first found =
-    option_map Generate (option_and_then count_of (first_value found (codes "NUMBER")))
-
--- a command with the flag `--best-first` finds it in what was found, given or not
-abbrev pub HasFlag : CommandWord → Bool → Found → Type 0
-HasFlag commands.Generate best_first found = Unit {0}
-HasFlag _ best_first found = one_text found (codes "best-first") ≡ Some (flag_text best_first)
-
--- ---- words in normal form
-
--- they ask for something
-abbrev pub AreAsked : CommandWord → List (List ℕ) → Type 0
-AreAsked command words = (given : Given) × (words ≡ normal_form given) × Suit command given
-
--- and this is what they ask for
-abbrev pub AskFor : CommandWord → List (List ℕ) → Task → Type 0
-AskFor command words task = (given : Given) → words ≡ normal_form given → Suit command given
-    → task_by (command_text command) given ≡ Some task
+abbrev pub usage_text : List ℕ
+usage_text = codes "usage: " ++ rows_usage table ++ codes "\n"

@@ -1,4 +1,5 @@
+pub mod Commands
 pub mod Words
 pub mod WordTable
 pub mod Named
-pub mod Commands
+pub mod Matches

@@ -1,29 +1,15 @@
 -- The words of a command line.
-use Rattle.std.specs.Prelude.{ℕ, Bool, true, false, ◌&&◌, not, List, [], ◌∷◌, ◌++◌, length, slice_index, nat_lt, ◌==◌, Option, Some, None, codes, if◌then◌else◌}
+use Rattle.std.specs.Prelude.{ℕ, Bool, true, false, ◌&&◌, ◌||◌, not, List, [], ◌∷◌, ◌++◌, length, slice_index, slice_index_or, nat_lt, ◌==◌, Option, Some, None, is_some, unwrap_or, codes, if◌then◌else◌}
 use Rattle.std.specs.Option.{option_map, option_and_then, option_map_or}
 use Rattle.std.specs.List.{list_all, find}
 use Rattle.std.specs.Str.{bytes_eq}
 use Rattle.ror_text.specs.Numbers.{count_of}
 use Rattle.ror_pivot.specs.declared.note.Bits.{Bits}
 use Rattle.ror_pivot.specs.declared.note.Bits.TheVariants.{B15, B31, B63, B127}
-
--- the files that a session is read from, by name, and whether the ranks of the table's categories begin with the best one
-pub record InputNames : Type 0 where
-  pub table : List ℕ
-  pub session : List ℕ
-  pub best_first : Bool
-
--- those, and the report that is checked
-pub record CheckNames : Type 0 where
-  pub inputs : InputNames
-  pub report : List ℕ
-
--- what the words ask for: that the report of a session is written, at a width; that one is checked; or that the session that
--- is made from a number is replayed and checked
-pub data Task : Type 0 where
-  Replay : InputNames → Bits → Task
-  Check : CheckNames → Task
-  Generate : ℕ → Task
+use Rattle.ror_words.specs.declared.table.CommandWord.{CommandWord}
+use Rattle.ror_words.specs.declared.words.Place.{Place}
+use Rattle.ror_words.specs.declared.words.Place.TheVariants.{Anything, Width, Names}
+use Rattle.ror_words.specs.Commands.{Row, row_for}
 
 -- ---- words
 
@@ -63,78 +49,112 @@ pub record Given : Type 0 where
   pub bits : Option Bits
   pub best_first : Bool
 
-abbrev pub names_alone : List (List ℕ) → Given
-names_alone names = record { names = names; bits = None; best_first = false }
+-- What the words ask for: a command, with what is given after it.
+pub record Task : Type 0 where
+  pub command : CommandWord
+  pub given : Given
 
-abbrev pub with_name : List ℕ → Given → Given
-with_name name given = record given { names = name ∷ given.names }
+-- a name, from 0; one that isn't there is empty
+abbrev pub name_at : ℕ → Given → List ℕ
+name_at k given = slice_index_or given.names k []
+
+-- the number that the first name is
+abbrev pub number_of : Given → ℕ
+number_of given = unwrap_or (count_of (name_at 0 given)) 0
+
+-- without `--bits` the width is 127
+abbrev pub width_given : Given → Bits
+width_given given = unwrap_or given.bits B127
+
+-- the files that a session is read from, by name, and whether the ranks of the table's categories begin with the best one
+pub record InputNames : Type 0 where
+  pub table : List ℕ
+  pub session : List ℕ
+  pub best_first : Bool
+
+abbrev pub inputs_in : Given → InputNames
+inputs_in given = record { table = name_at 0 given; session = name_at 1 given; best_first = given.best_first }
+
+-- ---- reading them
+
+abbrev pub none_given : Given
+none_given = record { names = []; bits = None; best_first = false }
+
+-- no command has more than three names
+abbrev pub with_name : List ℕ → Given → Option Given
+with_name name given =
+    if nat_lt (length given.names) 3 then Some (record given { names = given.names ++ name ∷ [] }) else None
 
 -- an option stands at most once
 abbrev pub with_best_first : Given → Option Given
 with_best_first given = if given.best_first then None else Some (record given { best_first = true })
 
 abbrev pub with_bits : Bits → Given → Option Given
-with_bits bits given = option_map_or (λ _. None) given.bits (Some (record given { bits = Some bits }))
+with_bits bits given = if is_some given.bits then None else Some (record given { bits = Some bits })
 
--- after `--` each word is a name
-abbrev pub give_names : List (List ℕ) → Option Given
-give_names names = if list_all is_named names then Some (names_alone names) else None
+-- what was given so far, and what stands next: anything, the width that `--bits` announced, or, after `--`, names alone
+pub record Reading : Type 0 where
+  pub given : Given
+  pub place : Place
 
--- The words are read from left to right. Where a width is due, `--bits` stands before them. That they give this exactly where
--- they are written so is said by WordTable, and is a clause of `run`.
-abbrev pub given_in : Bool → List (List ℕ) → Option Given
-given_in due [] = if due then None else Some (names_alone [])
-given_in due (word ∷ words) =
-    if due then option_and_then (λ bits. option_and_then (with_bits bits) (given_in false words)) (width_of word)
-    else if bytes_eq word (codes "--") then give_names words
-    else if bytes_eq word (codes "--best-first") then option_and_then with_best_first (given_in false words)
-    else if bytes_eq word (codes "--bits") then given_in true words
-    else option_map_or (λ bits. option_and_then (with_bits bits) (given_in false words)) (joined_width_of word)
-    (if is_name word then option_map (with_name word) (given_in false words) else None)
+abbrev pub reading_at : Place → Given → Reading
+reading_at place given = record { given = given; place = place }
 
--- ---- the commands
+-- what comes of a word
+abbrev pub taken_first : List ℕ → Given → Option Reading
+taken_first word given =
+    if bytes_eq word (codes "--") then Some (reading_at Names given)
+    else if bytes_eq word (codes "--best-first") then option_map (reading_at Anything) (with_best_first given)
+    else if bytes_eq word (codes "--bits") then Some (reading_at Width given)
+    else option_map_or (λ bits. option_map (reading_at Anything) (with_bits bits given)) (joined_width_of word)
+    (if is_name word then option_map (reading_at Anything) (with_name word given) else None)
 
--- a replay has two names, a check three, and a number to generate from is one, of 1 to 9 digits
-abbrev pub replay_named : Bits → Bool → List (List ℕ) → Option Task
-replay_named bits best_first (table ∷ session ∷ []) = Some (Replay (record {
-  table = table;
-  session = session;
-  best_first = best_first;
-}) bits)
-replay_named bits best_first names = None
+abbrev pub taken_at : Place → List ℕ → Given → Option Reading
+taken_at Anything word given = taken_first word given
+taken_at Width word given =
+    option_and_then (λ bits. option_map (reading_at Anything) (with_bits bits given)) (width_of word)
+taken_at Names word given = if is_named word then option_map (reading_at Names) (with_name word given) else None
 
-abbrev pub check_named : Bool → List (List ℕ) → Option Task
-check_named best_first (table ∷ session ∷ report ∷ []) = Some (Check (record {
-  inputs = record { table = table; session = session; best_first = best_first };
-  report = report;
-}))
-check_named best_first names = None
+abbrev pub taken : List ℕ → Reading → Option Reading
+taken word reading = taken_at reading.place word reading.given
 
-abbrev pub generate_named : List (List ℕ) → Option Task
-generate_named (number ∷ []) = option_map Generate (count_of number)
-generate_named names = None
+-- The words are read from left to right. That they give this exactly where they are written so is said by WordTable, and is a
+-- clause of `run`.
+abbrev pub read_on : Reading → List (List ℕ) → Option Reading
+read_on reading [] = Some reading
+read_on reading (word ∷ words) = option_and_then (λ next. read_on next words) (taken word reading)
 
--- without `--bits` the width is 127
-abbrev pub width_or_widest : Option Bits → Bits
-width_or_widest None = B127
-width_or_widest (Some bits) = bits
+abbrev pub given_at_end : Place → Given → Option Given
+given_at_end Width given = None
+given_at_end _ given = Some given
 
--- a command that takes no such option
-abbrev pub unless_given : {A : Type 0} → Option A → Option Task → Option Task
-unless_given given task = option_map_or (λ _. None) given task
+abbrev pub given_from : Reading → List (List ℕ) → Option Given
+given_from reading words = option_and_then (λ end. given_at_end end.place end.given) (read_on reading words)
 
-abbrev pub task_by : List ℕ → Given → Option Task
-task_by command given =
-    if bytes_eq command (codes "replay") then replay_named (width_or_widest given.bits) given.best_first given.names
-    else if bytes_eq command (codes "check") then unless_given given.bits (check_named given.best_first given.names)
-    else if bytes_eq command (codes "generate") then unless_given given.bits
-    (if given.best_first then None else generate_named given.names)
-    else None
+abbrev pub given_in : List (List ℕ) → Option Given
+given_in words = given_from (reading_at Anything none_given) words
 
--- what the words ask for; None of words that are not in the table
+-- ---- what the words ask for
+
+-- a number has 1 to 9 digits
+abbrev pub is_number : List ℕ → Bool
+is_number word = is_some (count_of word)
+
+-- the command takes these options, and these names
+abbrev pub suits : Row → Given → Bool
+suits row given = (length given.names == length row.names)
+    && ((not row.numbers || list_all is_number given.names)
+    && ((row.bits || not (is_some given.bits)) && (row.best_first || not given.best_first)))
+
+abbrev pub task_with : Row → Given → Task
+task_with row given = record { command = row.command; given = given }
+
+-- None of words that are not in the table
 unfoldable pub task_of : List (List ℕ) → Option Task
 task_of [] = None
-task_of (command ∷ words) = option_and_then (task_by command) (given_in false words)
+task_of (word ∷ words) =
+    option_and_then (λ row. option_and_then (λ given.
+    if suits row given then Some (task_with row given) else None) (given_in words)) (row_for word)
 
 -- ---- the normal form
 

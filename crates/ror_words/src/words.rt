@@ -1,11 +1,14 @@
 //! The words of a command line: whether they are in the table of words, and their normal form.
 
-ghost use Rattle.std.specs.Prelude.{◌≡◌, ◌≢◌, ◌≤◌, ◌+◌, ◌++◌, ◌⊎◌, [], ◌∷◌, length, map, true, false, is_some, MatchOption, IfSome, IfOk, OnSome, Some, None};
-ghost use Rattle.std.specs.String.{string_bytes};
+ghost use Rattle.std.specs.Prelude.{◌≡◌, ◌<◌, ◌^◌, ◌||◌, not, map, MatchOption, OnSome, IfOk, Some, None};
 ghost use Rattle.std.specs.List.{list_all};
-ghost use Rattle.ror_words.specs.Words.{Given, generate_named, given_in, is_name, is_named, width_of, joined_width_of, names_alone, task_by, task_of, normal_form, bits_word};
-ghost use Rattle.ror_words.specs.Named.{given_with, given_after, IsNoTask, IsAsked, command_text};
+ghost use Rattle.std.specs.Option.{option_map};
+ghost use Rattle.std.specs.String.{string_bytes};
+ghost use Rattle.ror_words.specs.Words.{name_at, number_of, width_given, inputs_in, is_named, is_name, width_of, joined_width_of, bits_word, none_given, with_name, with_best_first, with_bits, reading_at, taken, taken_first, read_on, given_in, is_number, suits, task_of, normal_form};
+ghost use Rattle.ror_words.specs.Named.{inputs_of, row_with, given_with, reading_with, IsAsked};
+ghost use Rattle.ror_words.specs.declared.words.Place.TheVariants.{Anything};
 
+use crate::table::{Row, row_for};
 use arrayvec::ArrayVec;
 use ror_pivot::Bits;
 use ror_text::numbers::read_count;
@@ -20,42 +23,38 @@ pub struct FileNames<'a> {
     pub best_first: bool,
 }
 
-/// What the words ask for.
-#[derive(Debug, Drop)]
-pub enum Task<'a> {
-    /// The report of the session is written, at this width.
-    Replay(FileNames<'a>, Bits),
-    /// The report with this name is checked.
-    Check(FileNames<'a>, &'a str),
-    /// The session that is made from this number is replayed, and each block is checked.
-    Generate(u32),
-}
-
-/// The first of the words.
-#[derive(Clone, Copy, Debug)]
-pub enum CommandWord {
-    /// `replay`.
-    Replay,
-    /// `check`.
-    Check,
-    /// `generate`.
-    Generate,
-}
-
 /// What the words after a command give: names, of which no command has more than three, and options.
 #[derive(Drop)]
 pub struct Arguments<'a> {
     /// The names, in order.
-    pub names: ArrayVec<&'a str, 3>,
+    pub(crate) names: ArrayVec<&'a str, 3>,
     /// The width, where one is given.
-    pub bits: Option<Bits>,
+    pub(crate) bits: Option<Bits>,
     /// Whether `--best-first` is given.
-    pub best_first: bool,
+    pub(crate) best_first: bool,
+}
+
+/// What may stand next.
+#[derive(Clone, Copy)]
+enum Place {
+    /// A name or an option.
+    Anything,
+    /// The width that `--bits` announced.
+    Width,
+    /// A name.
+    Names,
+}
+
+/// What was given so far, and what may stand next.
+#[derive(Drop)]
+struct Reading<'a> {
+    given: Arguments<'a>,
+    place: Place,
 }
 
 impl<'a> Arguments<'a> {
     fn new() -> Arguments<'a>
-        ensures { given_with result ≡ names_alone [] }
+        ensures { given_with result ≡ none_given }
     {
         Arguments {
             names: ArrayVec::new(),
@@ -64,71 +63,18 @@ impl<'a> Arguments<'a> {
         }
     }
 
-    /// Takes what the word gives, with a width after it where one is due, and says which words are left; `None` where no
-    /// command takes such words.
-    fn take(&mut self, word: &'a str, rest: &'a [String]) -> Option<&'a [String]>
-        ensures some { IfSome result (λ left. given_after (given_with self.new) (map string_bytes left.now)
-            ≡ given_after (given_with self.old) (word.entry.now ∷ map string_bytes rest.entry.now)) }
-        ensures none { result ≡ None
-            → IsNoTask (given_after (given_with self.old) (word.entry.now ∷ map string_bytes rest.entry.now)) }
-        ensures fewer { IfSome result (λ left. length left.now ≤ length rest.entry.now) }
-    {
-        if word == "--" {
-            self.take_names(rest)?;
-            return Some(&[]);
-        }
-        if word == "--best-first" {
-            self.take_best_first()?;
-            return Some(rest);
-        }
-        if word == "--bits" {
-            let (value, rest) = rest.split_first()?;
-            self.take_bits(width_of(value)?)?;
-            return Some(rest);
-        }
-        if let Some(bits) = joined_width_of(word) {
-            self.take_bits(bits)?;
-            return Some(rest);
-        }
-        if !is_name(word) {
-            return None;
-        }
-        self.take_name(word)?;
-        Some(rest)
-    }
-
     /// Takes one more name.
     fn take_name(&mut self, name: &'a str) -> Option<()>
-        ensures some { OnSome result (given_with self.new ≡ record (given_with self.old)
-            { names = (given_with self.old).names ++ name.entry.now ∷ [] }) }
-        ensures none { result ≡ None → 3 ≤ length (given_with self.old).names }
+        ensures some { OnSome result (with_name name.entry.now (given_with self.old) ≡ Some (given_with self.new)) }
+        ensures none { result ≡ None → with_name name.entry.now (given_with self.old) ≡ None }
     {
         self.names.try_push(name).ok()
     }
 
-    /// Takes further names, of which none is empty.
-    fn take_names(&mut self, names: &'a [String]) -> Option<()>
-        ensures some { OnSome result ((given_with self.new ≡ record (given_with self.old)
-            { names = (given_with self.old).names ++ map string_bytes names.entry.now })
-            × (list_all is_named (map string_bytes names.entry.now) ≡ true)) }
-        ensures none { result ≡ None
-            → (4 ≤ length (given_with self.old).names + length names.entry.now)
-            ⊎ (list_all is_named (map string_bytes names.entry.now) ≡ false) }
-    {
-        if !are_named(names) {
-            return None;
-        }
-        for name in names {
-            self.take_name(name)?;
-        }
-        Some(())
-    }
-
     /// Takes `--bits`, if it is the first.
     fn take_bits(&mut self, bits: Bits) -> Option<()>
-        ensures some { OnSome result ((self.old.bits ≡ None)
-            × (given_with self.new ≡ record (given_with self.old) { bits = Some bits })) }
-        ensures none { result ≡ None → self.old.bits ≢ None }
+        ensures some { OnSome result (with_bits bits (given_with self.old) ≡ Some (given_with self.new)) }
+        ensures none { result ≡ None → with_bits bits (given_with self.old) ≡ None }
     {
         if self.bits.is_some() {
             return None;
@@ -139,9 +85,8 @@ impl<'a> Arguments<'a> {
 
     /// Takes `--best-first`, if it is the first.
     fn take_best_first(&mut self) -> Option<()>
-        ensures some { OnSome result ((self.old.best_first ≡ false)
-            × (given_with self.new ≡ record (given_with self.old) { best_first = true })) }
-        ensures none { result ≡ None → self.old.best_first ≡ true }
+        ensures some { OnSome result (with_best_first (given_with self.old) ≡ Some (given_with self.new)) }
+        ensures none { result ≡ None → with_best_first (given_with self.old) ≡ None }
     {
         if self.best_first {
             return None;
@@ -151,16 +96,55 @@ impl<'a> Arguments<'a> {
     }
 
     /// Whether the command takes these options, and these names.
-    fn suit(&self, command: CommandWord) -> bool
-        ensures { result ≡ is_some (task_by (command_text command) (given_with self.now)) }
+    fn suit(&self, row: &Row) -> bool
+        ensures { result ≡ suits (row_with row.now) (given_with self.now) }
     {
-        match command {
-            CommandWord::Replay => self.names.len() == 2,
-            CommandWord::Check => self.bits.is_none() && self.names.len() == 3,
-            CommandWord::Generate => {
-                self.bits.is_none() && !self.best_first && is_number(self.names.as_slice())
-            }
+        if self.names.len() != row.names.len() {
+            return false;
         }
+        if !fit(self.names.as_slice(), row.numbers) {
+            return false;
+        }
+        if !may_stand(self.bits.is_some(), row.bits) {
+            return false;
+        }
+        may_stand(self.best_first, row.best_first)
+    }
+
+    /// The name at a place, from 0; empty where there is none.
+    pub fn name(&self, place: usize) -> &'a str
+        ensures { result.now ≡ name_at place (given_with self.now) }
+    {
+        match self.names.as_slice().get(place) {
+            Some(name) => name,
+            None => "",
+        }
+    }
+
+    /// The files of a session, which are the first two names.
+    pub fn inputs(&self) -> FileNames<'a>
+        ensures { inputs_of result ≡ inputs_in (given_with self.now) }
+    {
+        FileNames {
+            table: self.name(0),
+            session: self.name(1),
+            best_first: self.best_first,
+        }
+    }
+
+    /// The number that the first name is.
+    pub fn number(&self) -> u32
+        ensures value { result ≡ number_of (given_with self.now) }
+        ensures short { result < 10 ^ 9 }
+    {
+        read_count(self.name(0).as_bytes()).unwrap_or(0)
+    }
+
+    /// The width, which is 127 where none is given.
+    pub fn width(&self) -> Bits
+        ensures { result ≡ width_given (given_with self.now) }
+    {
+        self.bits.unwrap_or(Bits::B127)
     }
 
     /// The normal form of the words: the options, `--`, and the names.
@@ -180,31 +164,78 @@ impl<'a> Arguments<'a> {
     }
 }
 
-/// The command and what the words after it give, where the words are in the table.
-pub fn words_in_table(words: &[String]) -> Option<(CommandWord, Arguments<'_>)>
-    ensures some { IfSome result (λ r. IsAsked (map string_bytes words.now) r.0 (given_with r.1)) }
-    ensures none { result ≡ None → task_of (map string_bytes words.now) ≡ None }
-{
-    let (command, rest) = words.split_first()?;
-    let command = command_in(command)?;
-    let arguments = arguments_in(rest)?;
-    if arguments.suit(command) {
-        Some((command, arguments))
-    } else {
-        None
+impl<'a> Reading<'a> {
+    /// Takes the words, one after another; `None` where no command takes such words.
+    fn take_all(&mut self, words: &'a [String]) -> Option<()>
+        ensures some { OnSome result (read_on (reading_with self.old) (map string_bytes words.entry.now) ≡ Some (reading_with self.new)) }
+        ensures none { result ≡ None → read_on (reading_with self.old) (map string_bytes words.entry.now) ≡ None }
+    {
+        let mut left = words;
+        'words: while let Some((word, rest)) = left.split_first() {
+            self.take(word)?;
+            left = rest;
+        }
+        Some(())
+    }
+
+    /// Takes one word.
+    fn take(&mut self, word: &'a str) -> Option<()>
+        ensures some { OnSome result (taken word.entry.now (reading_with self.old) ≡ Some (reading_with self.new)) }
+        ensures none { result ≡ None → taken word.entry.now (reading_with self.old) ≡ None }
+    {
+        match self.place {
+            Place::Anything => self.take_first(word),
+            Place::Width => {
+                self.place = Place::Anything;
+                self.given.take_bits(width_of(word)?)
+            }
+            Place::Names => {
+                if word.is_empty() {
+                    return None;
+                }
+                self.given.take_name(word)
+            }
+        }
+    }
+
+    /// Takes a word where anything may stand.
+    fn take_first(&mut self, word: &'a str) -> Option<()>
+        requires { (reading_with self.old).place ≡ Anything }
+        ensures some { OnSome result (taken_first word.entry.now (given_with self.old.given) ≡ Some (reading_with self.new)) }
+        ensures none { result ≡ None → taken_first word.entry.now (given_with self.old.given) ≡ None }
+    {
+        if word == "--" {
+            self.place = Place::Names;
+            return Some(());
+        }
+        if word == "--best-first" {
+            return self.given.take_best_first();
+        }
+        if word == "--bits" {
+            self.place = Place::Width;
+            return Some(());
+        }
+        if let Some(bits) = joined_width_of(word) {
+            return self.given.take_bits(bits);
+        }
+        if !is_name(word) {
+            return None;
+        }
+        self.given.take_name(word)
     }
 }
 
-/// The command with this name.
-fn command_in(word: &str) -> Option<CommandWord>
-    ensures { MatchOption result ((given : Given) → task_by word.now given ≡ None) (λ c. word.now ≡ command_text c) }
+/// The command and what the words after it give, where the words are in the table.
+#[tactic(auto, unfolding(crate::specs::Words::task_of))]
+pub fn words_in_table(words: &[String]) -> Option<(Row, Arguments<'_>)>
+    ensures { MatchOption result (task_of (map string_bytes words.now) ≡ None)
+        (λ r. IsAsked (map string_bytes words.now) r.0 (given_with r.1)) }
 {
-    if word == "replay" {
-        Some(CommandWord::Replay)
-    } else if word == "check" {
-        Some(CommandWord::Check)
-    } else if word == "generate" {
-        Some(CommandWord::Generate)
+    let (word, rest) = words.split_first()?;
+    let row = row_for(word)?;
+    let arguments = arguments_in(rest)?;
+    if arguments.suit(&row) {
+        Some((row, arguments))
     } else {
         None
     }
@@ -212,32 +243,42 @@ fn command_in(word: &str) -> Option<CommandWord>
 
 /// What the words give, where some command may take it.
 fn arguments_in(words: &[String]) -> Option<Arguments<'_>>
-    ensures some { IfSome result (λ arguments. given_in false (map string_bytes words.now) ≡ Some (given_with arguments)) }
-    ensures none { result ≡ None → IsNoTask (given_in false (map string_bytes words.now)) }
+    ensures { option_map given_with result ≡ given_in (map string_bytes words.now) }
 {
-    let mut arguments = Arguments::new();
-    let mut left = words;
-    'words: while let Some((word, rest)) = left.split_first() {
-        left = arguments.take(word, rest)?;
-    }
-    Some(arguments)
-}
-
-/// Whether the names are one number of 1 to 9 digits.
-fn is_number(names: &[&str]) -> bool
-    ensures { result ≡ is_some (generate_named (map (λ name. name.now) names.now)) }
-{
-    match names {
-        [number] => read_count(number.as_bytes()).is_some(),
-        _ => false,
+    let mut reading = Reading {
+        given: Arguments::new(),
+        place: Place::Anything,
+    };
+    let read = reading.take_all(words);
+    match (read, reading.place) {
+        (None, _) | (Some(()), Place::Width) => None,
+        _ => Some(reading.given),
     }
 }
 
-/// Whether none of the words is empty.
-fn are_named(words: &[String]) -> bool
-    ensures { result ≡ list_all (λ word. is_named (string_bytes word)) words.now }
+/// Whether an option may stand there as it does: it is taken, or isn't given.
+fn may_stand(given: bool, taken: bool) -> bool
+    ensures { result ≡ (taken || not given) }
 {
-    words.iter().all(|word| !word.is_empty())
+    taken || !given
+}
+
+/// Whether the names are numbers of 1 to 9 digits, if they should be.
+fn fit(names: &[&str], numbers: bool) -> bool
+    ensures { result ≡ (not numbers || list_all is_number (map (λ name. name.now) names.now)) }
+{
+    if !numbers {
+        return true;
+    }
+    are_numbers(names)
+}
+
+fn are_numbers(names: &[&str]) -> bool
+    ensures { result ≡ list_all (λ name. is_number name.now) names.now }
+{
+    names
+        .iter()
+        .all(|name| read_count(name.as_bytes()).is_some())
 }
 
 /// Whether the word isn't empty and, if it begins with `-`, has no other byte.

@@ -1,5 +1,5 @@
 -- A report is proved, or rejected for one thing.
-use Rattle.std.proofs.Common.{◌≡◌, ◌≢◌, ℕ, ◌≤◌, Bool, List, length, Ok, Err, IfOk, IfErr, Result, refl, sym, ap, subst, ◌∙◌, inl, inr, arith}
+use Rattle.std.proofs.Common.{◌≡◌, ℕ, ◌≤◌, Bool, List, length, Ok, Err, refl, sym, ap, subst, ◌∙◌, arith}
 use Rattle.ror_table.specs.Table.{IsTable}
 use Rattle.ror_value.specs.declared.input.Input.{Input}
 use Rattle.ror_value.specs.Over.{IsLawfulIn}
@@ -18,7 +18,7 @@ use Rattle.ror_bench.proofs.ReportProofs.{rejected_not_proved}
 use Rattle.ror_bench.proofs.UniqueLemmas.{one_count, one_rejection}
 use Rattle.ror_bench.proofs.Truth.{report_true}
 use Rattle.ror_pivot.specs.declared.note.Bits.{Bits}
-use Rattle.ror_words.specs.Words.{InputNames, CheckNames}
+use Rattle.ror_words.specs.Words.{InputNames}
 use Rattle.ror_frame.specs.declared.stop.Refusal.{Refusal}
 use Rattle.ror_frame.specs.declared.stop.Refusal.TheVariants as refusals
 use Rattle.ror_frame.specs.declared.stop.Stop.TheVariants as stops
@@ -29,7 +29,7 @@ use Rattle.ror_frame.specs.Inputs.{bench_for}
 use Rattle.ror_frame.proofs.CourseLemmas.{IsDecided}
 use Rattle.ror_frame.proofs.InputLemmas.{decided_inputs}
 use Rattle.ror_frame.proofs.Desks.{lawful_desks}
-use Rattle.ror_work.specs.Checking.{ProvesReport, IsRejectionOf, too_long, at_fault, RejectsReport, RefusesReport, line_output, accepted_output, check_chore}
+use Rattle.ror_work.specs.Checking.{ProvesReport, IsRejectionOf, too_long, at_fault, RefusesReport, line_output, accepted_output, check_chore}
 use Rattle.ror_pivot.specs.Answers.{most_of}
 use Rattle.ror_work.specs.Replaying.{report_output, replay_chore}
 
@@ -49,13 +49,13 @@ one_refusal : (i : Input) (s : Session) (bytes : List ℕ) (q r : Refusal) → R
 one_refusal i s bytes q r a b =
     a.1 ∙ ap refusals.Rejected (one_rejection_of (bench_for i s) s.lines bytes a.0 b.0 a.2 b.2) ∙ sym b.1
 
-pub decided_check : (names : CheckNames) → IsDecided (check_chore names).course
-decided_check names = decided_inputs names.inputs (λ i s. fetch Accepted names.report (ProvesReport i s) (RefusesReport i s) (λ bytes x. finish (accepted_output i s bytes x))) (λ table i s read bytes.
-    let is_table = input_table table names.inputs.best_first i read in
+pub decided_check : (names : InputNames) (report : List ℕ) → IsDecided (check_chore names report).course
+decided_check names report = decided_inputs names (λ i s. fetch Accepted report (ProvesReport i s) (RefusesReport i s) (λ bytes x. finish (accepted_output i s bytes x))) (λ table i s read bytes.
+    let is_table = input_table table names.best_first i read in
     ((λ x y p q. one_count (bench_for i s) s.lines bytes x y is_table p.1 q.1), (λ q r a b. one_refusal i s bytes q r a b), (λ x r p a. rejection_or_proof (bench_for i s) s.lines bytes a.0 x is_table a.2 p.0 p.1), λ x p. tt))
 
 pub decided_replay : (names : InputNames) (bits : Bits) → IsDecided (replay_chore names bits).course
-decided_replay names bits = decided_inputs names (λ i s. finish (report_output (most_of bits) i s)) (λ table i s read. tt)
+decided_replay names bits = decided_inputs names (λ i s. finish (report_output (most_of bits) (bench_for i s) s.lines)) (λ table i s read. tt)
 
 -- ---- steps of a check
 

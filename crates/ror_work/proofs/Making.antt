@@ -1,6 +1,6 @@
 -- A report that is written block by block: what is written when one more is, and where it stops.
 use Rattle.std.proofs.lemmas.List.{take_all, take-append-drop, take_more}
-use Rattle.std.proofs.Common.{append-nil, ◌≡◌, ℕ, ◌+◌, ◌<◌, ◌≤◌, Bool, true, false, ◌||◌, List, [], ◌∷◌, ◌++◌, length, take, drop, get_or, Ok, Err, refl, sym, ap, ◌∙◌, subst, inl, inr, arith}
+use Rattle.std.proofs.Common.{append-nil, ◌≡◌, ℕ, ◌+◌, ◌<◌, ◌≤◌, Bool, true, false, ◌||◌, List, [], ◌∷◌, ◌++◌, length, take, drop, get_or, Option, Ok, Err, refl, sym, ap, ◌∙◌, subst, inr, arith}
 use Rattle.std.specs.Prelude.{nat_lt, cond}
 use Rattle.std.specs.Bool.{beq}
 use Rattle.std.specs.List.{flat_map, list_any, sum_by, count_by}
@@ -10,11 +10,8 @@ use Rattle.ror_check.specs.Proof.{is_wide}
 use Rattle.ror_session.specs.declared.session.Line.{Line}
 use Rattle.ror_report.specs.declared.block.Block.{Block}
 use Rattle.ror_report.specs.declared.block.Body.{Body}
-use Rattle.ror_report.specs.declared.block.Body.TheVariants as bodies
 use Rattle.ror_report.specs.Text.{block_text, header_text, end_text, IsPrintableBlock}
 use Rattle.ror_table.specs.Table.{DecisionTable}
-use Rattle.ror_value.specs.declared.input.Input.{Input}
-use Rattle.ror_session.specs.declared.session.Session.{Session}
 use Rattle.ror_io.specs.Counts.{Rose}
 use Rattle.ror_io.specs.Writing.{Grew, GrewShort}
 use Rattle.ror_io.proofs.Writes.{Grew-none, Grew-append, GrewShort-more, GrewShort-after}
@@ -23,16 +20,14 @@ use Rattle.ror_bench.specs.Bench.{Workbench, revisions_at, HoldTheSame, IsLawful
 use Rattle.ror_bench.specs.Blocks.{passed_of, IsBlockOf, with_block}
 use Rattle.ror_bench.specs.Reports.{accepted_of}
 use Rattle.ror_bench.proofs.MakingLemmas.{IsMade, made_nothing, made_more, text_more}
-use Rattle.ror_bench.specs.Replays.{AreBlocksAt, IsReplayedReport, IsBegunReport, some_lines, all_lines}
-use Rattle.ror_bench.proofs.ReportProofs.{as_many, sums}
-use Rattle.ror_bench.proofs.ReplayLemmas.{replayed_proved}
-use Rattle.ror_bench.proofs.Truth.{report_true}
+use Rattle.ror_bench.specs.Replays.{IsBegunReport, some_lines, all_lines}
+use Rattle.ror_bench.proofs.ReportProofs.{sums}
+use Rattle.ror_frame.proofs.Desks.{replayed, reported}
 use Rattle.ror_frame.specs.declared.stop.Stop.{Stop}
 use Rattle.ror_frame.specs.declared.stop.Stop.TheVariants as stops
-use Rattle.ror_frame.specs.States.{SinkState}
-use Rattle.ror_frame.specs.Inputs.{bench_for}
+use Rattle.ror_frame.specs.States.{SinkState, sink_state}
 use Rattle.ror_frame.specs.Courses.{WritesDue}
-use Rattle.ror_work.specs.Replaying.{is_wide_body, has_wide, AreFirstBlocks, report_output, MakesBlocks}
+use Rattle.ror_work.specs.Replaying.{is_wide_body, has_wide, AreFirstBlocks, report_output, WritesText, MakesBlocks}
 
 -- ---- whether anything is too wide
 
@@ -40,11 +35,7 @@ some_of_either : (m n : ℕ) → nat_lt 0 (m + n) ≡ (nat_lt 0 m || nat_lt 0 n)
 some_of_either m n = grind arith
 
 one_wide : (x : Answer) → is_wide x.verdict ≡ nat_lt 0 (cond (beq (is_wide x.verdict) true) 1 0)
-one_wide x = by (is_wide x.verdict)
-  where
-    by : (b : Bool) → b ≡ nat_lt 0 (cond (beq b true) 1 0)
-    by true = refl
-    by false = refl
+one_wide x = grind arith
 
 wide_answers : (xs : List Answer) → list_any (λ x. is_wide x.verdict) xs ≡ nat_lt 0 (count_by (λ x. beq (is_wide x.verdict) true) xs)
 wide_answers [] = refl
@@ -53,14 +44,7 @@ wide_answers (x ∷ xs) =
     ap (λ b. b || list_any (λ x. is_wide x.verdict) xs) (one_wide x) ∙ ap (λ b. nat_lt 0 (f x) || b) (wide_answers xs) ∙ sym (some_of_either (f x) (sum_by f xs)) ∙ ap (nat_lt 0) (sym (sums f x xs))
 
 wide_body : (body : Body) → is_wide_body body ≡ nat_lt 0 (passed_of body).wide
-wide_body (bodies.Added n) = refl
-wide_body (bodies.Withdrawn n) = refl
-wide_body (bodies.Replaced n) = refl
-wide_body bodies.Undone = refl
-wide_body (bodies.Repaired kept) = refl
-wide_body (bodies.RepairWide n note) = refl
-wide_body (bodies.Answers xs) = wide_answers xs
-wide_body (bodies.Refused fault) = refl
+wide_body body = grind (arith, wide_answers)
 
 pub wide_blocks : (bs : List Block) → list_any has_wide bs ≡ nat_lt 0 (accepted_of bs).wide
 wide_blocks [] = refl
@@ -94,11 +78,15 @@ one_written most start lines bench moved old between new wide line block were wi
     }
   where
     or_false : (b : Bool) → (b || false) ≡ b
-    or_false true = refl
-    or_false false = refl
+    or_false b = grind arith
+
+-- the first lines' blocks, where more lines are left
+pub first_blocks : (most : ℕ) (start : Workbench) (lines : List Line) (n : ℕ) (bench : Workbench) (old new : SinkState) (wide : Bool) (were : AreWritten most start (take n lines) bench old new wide) → AreFirstBlocks most start lines (flat_map (block_text start.table) were.blocks)
+first_blocks most start lines n bench old new wide were =
+    record { taken = take n lines; left = drop n lines; blocks = were.blocks; split = sym (take-append-drop n lines); made = were.made.blocks_are; text_is = refl }
 
 -- one block more was made, and only a front of it written
-pub block_cut : (most : ℕ) (start : Workbench) (lines : List Line) (i : ℕ) (bench moved : Workbench) (old between new : SinkState) (wide : Bool) (line : Line) (block : Block) → i < length lines → line ≡ get_or lines i line → AreWritten most start (take i lines) bench old between wide → line.desk < length start.state → IsBlockOf (given_at most) bench.table (revisions_at bench line.desk) line block → IsPrintableBlock bench.table block → HoldTheSame moved (with_block bench line block) → between.faults ≤ new.faults → Rose between.faults new.faults → GrewShort between.written new.written (block_text bench.table block) → MakesBlocks most start lines old new (Err stops.WriteFault)
+block_cut : (most : ℕ) (start : Workbench) (lines : List Line) (i : ℕ) (bench moved : Workbench) (old between new : SinkState) (wide : Bool) (line : Line) (block : Block) → i < length lines → line ≡ get_or lines i line → AreWritten most start (take i lines) bench old between wide → line.desk < length start.state → IsBlockOf (given_at most) bench.table (revisions_at bench line.desk) line block → IsPrintableBlock bench.table block → HoldTheSame moved (with_block bench line block) → between.faults ≤ new.faults → Rose between.faults new.faults → GrewShort between.written new.written (block_text bench.table block) → MakesBlocks most start lines old new (Err stops.WriteFault)
 block_cut most start lines i bench moved old between new wide line block within item were named is text moves up rose short =
     let same : block_text bench.table block ≡ block_text start.table block = ap (λ (t : DecisionTable). block_text t block) were.made.after.table in
     let blocks = were.blocks ++ block ∷ [] in
@@ -118,76 +106,65 @@ block_cut most start lines i bench moved old between new wide line block within 
       subst (GrewShort old.written new.written) (sym (text_more start.table were.blocks block)) (GrewShort-after old.written between.written new.written (flat_map (block_text start.table) were.blocks) (block_text start.table block) were.grew (subst (GrewShort between.written new.written) same short)),
     )
 
--- the first lines' blocks, where more lines are left
-pub first_blocks : (most : ℕ) (start : Workbench) (lines : List Line) (n : ℕ) (bench : Workbench) (old new : SinkState) (wide : Bool) (were : AreWritten most start (take n lines) bench old new wide) → AreFirstBlocks most start lines (flat_map (block_text start.table) were.blocks)
-first_blocks most start lines n bench old new wide were =
-    record { taken = take n lines; left = drop n lines; blocks = were.blocks; split = sym (take-append-drop n lines); made = were.made.blocks_are; text_is = refl }
+-- one block more was made, and was not written, whole or at all
+pub block_stopped : (most : ℕ) (start : Workbench) (lines : List Line) (i : ℕ) (bench moved : Workbench) (old between new : SinkState) (wide : Bool) (line : Line) (block : Block) (stop : Stop) → i < length lines → line ≡ get_or lines i line → AreWritten most start (take i lines) bench old between wide → line.desk < length start.state → IsBlockOf (given_at most) bench.table (revisions_at bench line.desk) line block → IsPrintableBlock bench.table block → HoldTheSame moved (with_block bench line block) → WritesText {A = Unit {0}} (block_text bench.table block) between.faults new.faults between.written new.written (Err stop) → MakesBlocks most start lines old new (Err stop)
+block_stopped most start lines i bench moved old between new wide line block (stops.At r) within item were named is text moves stopped = stopped
+block_stopped most start lines i bench moved old between new wide line block stops.ReadFault within item were named is text moves stopped = stopped
+block_stopped most start lines i bench moved old between new wide line block stops.WriteFault within item were named is text moves stopped = block_cut most start lines i bench moved old between new wide line block within item were named is text moves stopped.0 stopped.1 stopped.2
+block_stopped most start lines i bench moved old between new wide line block stops.Memory within item were named is text moves stopped =
+    (stopped.0 ∙ were.faults, _, first_blocks most start lines i bench old between wide were, rw stopped.1 were.grew)
 
 -- ---- the report of a session
 
-module _ (most : ℕ) (i : Input) (s : Session) where
-  begins : (text : List ℕ) → AreFirstBlocks most (bench_for i s) s.lines text → IsBegunReport most (bench_for i s) s.lines (header_text ++ text)
+module _ (most : ℕ) (bench : Workbench) (lines : List Line) where
+  begins : (text : List ℕ) → AreFirstBlocks most bench lines text → IsBegunReport most bench lines (header_text ++ text)
   begins text first = some_lines first.taken first.left first.blocks first.split first.made (ap (λ (l : List ℕ). header_text ++ l) first.text_is)
 
-  no_blocks : AreFirstBlocks most (bench_for i s) s.lines []
-  no_blocks = record { taken = []; left = s.lines; blocks = []; split = refl; made = record { printable = tt; given = tt }; text_is = refl }
+  no_blocks : AreFirstBlocks most bench lines []
+  no_blocks = record { taken = []; left = lines; blocks = []; split = refl; made = record { printable = tt; given = tt }; text_is = refl }
 
-  -- memory ran out before anything was written
-  pub unwritten : (out : SinkState) → WritesDue (report_output most i s) out out (Err stops.Memory)
-  unwritten out = inl refl
+  -- memory ran out where this stood there
+  front : (x y : ℕ) (old new : Option (List ℕ)) (text : List ℕ) → y ≡ x → Grew old new text → IsBegunReport most bench lines text → WritesDue (report_output most bench lines) (sink_state old x) (sink_state new y) (Err stops.Memory)
+  front x y old new text same grew begun = inr (same, refl, text, length text, begun, subst (Grew old new) (sym (take_all (length text) text (omega arith))) grew)
 
   -- the header was not written
-  pub header_cut : (old new : SinkState) → old.faults ≤ new.faults → Rose old.faults new.faults → GrewShort old.written new.written header_text → WritesDue (report_output most i s) old new (Err stops.WriteFault)
-  header_cut old new up rose short = (up, rose, header_text ++ [], begins [] no_blocks, GrewShort-more old.written new.written header_text [] short)
+  pub header_cut : (x y : ℕ) (old new : Option (List ℕ)) → x ≤ y → Rose x y → GrewShort old new header_text → WritesDue (report_output most bench lines) (sink_state old x) (sink_state new y) (Err stops.WriteFault)
+  header_cut x y old new up rose short = (up, rose, header_text ++ [], begins [] no_blocks, GrewShort-more old new header_text [] short)
 
   -- after the header the blocks were written, or were not
-  pub blocks_cut : (old between new : SinkState) (stop : Stop) → between.faults ≡ old.faults → Grew old.written between.written header_text → MakesBlocks most (bench_for i s) s.lines between new (Err stop) → WritesDue (report_output most i s) old new (Err stop)
-  blocks_cut old between new (stops.At r) same header makes = absurd makes
-  blocks_cut old between new stops.ReadFault same header makes = absurd makes
-  blocks_cut old between new stops.WriteFault same header makes =
-      (subst (λ n. n ≤ new.faults) same makes.0, subst (λ n. Rose n new.faults) same makes.1, header_text ++ makes.2, begins makes.2 makes.3, GrewShort-after old.written between.written new.written header_text makes.2 header makes.4)
-  blocks_cut old between new stops.Memory same header makes =
-      let text = header_text ++ makes.1 in
-      inr (makes.0 ∙ same, refl, text, length text, begins makes.1 makes.2, subst (Grew old.written new.written) (sym (take_all (length text) text (omega arith))) (Grew-append old.written between.written new.written header_text makes.1 header makes.3))
-
-  -- the blocks of all lines
-  all_blocks : (blocks : List Block) → AreBlocksAt most (bench_for i s) s.lines blocks → AreFirstBlocks most (bench_for i s) s.lines (flat_map (block_text i.table) blocks)
-  all_blocks blocks made = record { taken = s.lines; left = []; blocks = blocks; split = sym (append-nil s.lines); made = made; text_is = refl }
-
-  whole : (blocks : List Block) → AreBlocksAt most (bench_for i s) s.lines blocks → IsReplayedReport most (bench_for i s) s.lines (header_text ++ (flat_map (block_text i.table) blocks ++ end_text (length s.lines))) (accepted_of blocks)
-  whole blocks made =
-      let count = as_many (IsBlockOf (given_at most) i.table) (bench_for i s) [] s.lines blocks made.given in
-      record { blocks = blocks; made = made; text = ap (λ n. header_text ++ (flat_map (block_text i.table) blocks ++ end_text n)) count; counted = refl }
+  pub blocks_cut : (x y z : ℕ) (old between new : Option (List ℕ)) (stop : Stop) → y ≡ x → Grew old between header_text → MakesBlocks most bench lines (sink_state between y) (sink_state new z) (Err stop) → WritesDue (report_output most bench lines) (sink_state old x) (sink_state new z) (Err stop)
+  blocks_cut x y z old between new (stops.At r) same header makes = absurd makes
+  blocks_cut x y z old between new stops.ReadFault same header makes = absurd makes
+  blocks_cut x y z old between new stops.WriteFault same header makes =
+      (subst (λ n. n ≤ z) same makes.0, subst (λ n. Rose n z) same makes.1, header_text ++ makes.2, begins makes.2 makes.3, GrewShort-after old between new header_text makes.2 header makes.4)
+  blocks_cut x y z old between new stops.Memory same header makes =
+      front x z old new (header_text ++ makes.1) (makes.0 ∙ same) (Grew-append old between new header_text makes.1 header makes.3) (begins makes.1 makes.2)
 
   -- the end was not made
-  pub end_unmade : (old between new : SinkState) (wide : Bool) → between.faults ≡ old.faults → Grew old.written between.written header_text → MakesBlocks most (bench_for i s) s.lines between new (Ok wide) → WritesDue (report_output most i s) old new (Err stops.Memory)
-  end_unmade old between new wide same header makes =
-      let blocks = makes.1 in
-      let text = header_text ++ flat_map (block_text i.table) blocks in
-      inr (makes.0 ∙ same, refl, text, length text, begins (flat_map (block_text i.table) blocks) (all_blocks blocks makes.2), subst (Grew old.written new.written) (sym (take_all (length text) text (omega arith))) (Grew-append old.written between.written new.written header_text (flat_map (block_text i.table) blocks) header makes.4))
+  pub end_unmade : (x y z : ℕ) (old between new : Option (List ℕ)) (wide : Bool) → y ≡ x → Grew old between header_text → MakesBlocks most bench lines (sink_state between y) (sink_state new z) (Ok wide) → WritesDue (report_output most bench lines) (sink_state old x) (sink_state new z) (Err stops.Memory)
+  end_unmade x y z old between new wide same header makes =
+      let text = flat_map (block_text bench.table) makes.1 in
+      let first : AreFirstBlocks most bench lines text = record { taken = lines; left = []; blocks = makes.1; split = sym (append-nil lines); made = makes.2; text_is = refl } in
+      front x z old new (header_text ++ text) (makes.0 ∙ same) (Grew-append old between new header_text text header makes.4) (begins text first)
 
   -- it was not written
-  pub end_cut : (old between after new : SinkState) (wide : Bool) → between.faults ≡ old.faults → Grew old.written between.written header_text → MakesBlocks most (bench_for i s) s.lines between after (Ok wide) → after.faults ≤ new.faults → Rose after.faults new.faults → GrewShort after.written new.written (end_text (length s.lines)) → WritesDue (report_output most i s) old new (Err stops.WriteFault)
-  end_cut old between after new wide same header makes up rose short =
-      let blocks = makes.1 in
-      let whole_text = flat_map (block_text i.table) blocks ++ end_text (length s.lines) in (
-        subst (λ n. n ≤ new.faults) (makes.0 ∙ same) up,
-        subst (λ n. Rose n new.faults) (makes.0 ∙ same) rose,
-        header_text ++ whole_text,
-        all_lines (accepted_of blocks) (whole blocks makes.2),
-        GrewShort-after old.written between.written new.written header_text whole_text header (GrewShort-after between.written after.written new.written (flat_map (block_text i.table) blocks) (end_text (length s.lines)) makes.4 short),
+  pub end_cut : (x y z w : ℕ) (old between after new : Option (List ℕ)) (wide : Bool) → y ≡ x → Grew old between header_text → MakesBlocks most bench lines (sink_state between y) (sink_state after z) (Ok wide) → z ≤ w → Rose z w → GrewShort after new (end_text (length lines)) → WritesDue (report_output most bench lines) (sink_state old x) (sink_state new w) (Err stops.WriteFault)
+  end_cut x y z w old between after new wide same header makes up rose short =
+      let text = flat_map (block_text bench.table) makes.1 in (
+        subst (λ n. n ≤ w) (makes.0 ∙ same) up,
+        subst (λ n. Rose n w) (makes.0 ∙ same) rose,
+        header_text ++ (text ++ end_text (length lines)),
+        all_lines (accepted_of makes.1) (replayed most bench lines makes.1 makes.2),
+        GrewShort-after old between new header_text (text ++ end_text (length lines)) header (GrewShort-after between after new text (end_text (length lines)) makes.4 short),
       )
 
   -- all was written
-  pub report_whole : (old between after new : SinkState) (wide : Bool) → IsLawfulBench (bench_for i s) → between.faults ≡ old.faults → Grew old.written between.written header_text → MakesBlocks most (bench_for i s) s.lines between after (Ok wide) → new.faults ≡ after.faults → Grew after.written new.written (end_text (length s.lines)) → WritesDue (report_output most i s) old new (Ok wide)
-  report_whole old between after new wide lawful same header makes kept ended =
-      let blocks = makes.1 in
-      let whole_text = flat_map (block_text i.table) blocks ++ end_text (length s.lines) in
-      let report = whole blocks makes.2 in
-      let proved = replayed_proved most (bench_for i s) s.lines (header_text ++ whole_text) (accepted_of blocks) report in (
+  pub report_whole : (x y z w : ℕ) (old between after new : Option (List ℕ)) (wide : Bool) → IsLawfulBench bench → y ≡ x → Grew old between header_text → MakesBlocks most bench lines (sink_state between y) (sink_state after z) (Ok wide) → w ≡ z → Grew after new (end_text (length lines)) → WritesDue (report_output most bench lines) (sink_state old x) (sink_state new w) (Ok wide)
+  report_whole x y z w old between after new wide lawful same header makes kept ended =
+      let rest = flat_map (block_text bench.table) makes.1 ++ end_text (length lines) in (
         kept ∙ makes.0 ∙ same,
         tt,
-        header_text ++ whole_text,
-        (accepted_of blocks, record { given = report; checked = record { proved = proved; blocks_true = report_true (bench_for i s) s.lines (header_text ++ whole_text) (accepted_of blocks) lawful proved } }, makes.3),
-        Grew-append old.written between.written new.written header_text whole_text header (Grew-append between.written after.written new.written (flat_map (block_text i.table) blocks) (end_text (length s.lines)) makes.4 ended),
+        header_text ++ rest,
+        (accepted_of makes.1, reported most bench lines makes.1 lawful makes.2, makes.3),
+        Grew-append old between new header_text rest header (Grew-append between after new (flat_map (block_text bench.table) makes.1) (end_text (length lines)) makes.4 ended),
       )

@@ -9,7 +9,7 @@ use Rattle.ror_bench.specs.declared.report.Reason.TheVariants.{TooLong}
 use Rattle.ror_bench.specs.declared.report.TheConstants.{MOST_REPORT_BYTES}
 use Rattle.ror_bench.specs.Bench.{Workbench}
 use Rattle.ror_bench.specs.Reports.{IsProvedReport, IsAcceptedReport, IsRejectedFor}
-use Rattle.ror_words.specs.Words.{CheckNames}
+use Rattle.ror_words.specs.Words.{InputNames}
 use Rattle.ror_frame.specs.declared.stop.Refusal.{Refusal}
 use Rattle.ror_frame.specs.declared.stop.Refusal.TheVariants as refusals
 use Rattle.ror_frame.specs.Statuses.{accepted_text}
@@ -53,5 +53,5 @@ abbrev pub accepted_output : Input → Session → List ℕ → Accepted → Out
 accepted_output i s bytes accepted = line_output (nat_lt 0 accepted.wide) (accepted_text accepted)
     (IsAcceptedReport (bench_for i s) s.lines bytes accepted)
 
-abbrev pub check_chore : CheckNames → Chore
-check_chore names = judging_chore names.inputs names.report ProvesReport RejectsReport accepted_output
+abbrev pub check_chore : InputNames → List ℕ → Chore
+check_chore names report = judging_chore names report ProvesReport RejectsReport accepted_output

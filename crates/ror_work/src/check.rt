@@ -3,7 +3,7 @@
 ghost use Rattle.std.specs.Prelude.{◌≤◌, length, nat_lt};
 ghost use Rattle.ror_value.specs.Over.{IsLawfulIn};
 ghost use Rattle.ror_session.specs.Sound.{IsSound};
-ghost use Rattle.ror_words.specs.Named.{check_of};
+ghost use Rattle.ror_words.specs.Named.{inputs_of};
 ghost use Rattle.ror_frame.specs.States.{shelf_state, sink_state};
 ghost use Rattle.ror_frame.specs.Statuses.{accepted_text};
 ghost use Rattle.ror_frame.specs.Courses.{IsFetch, ReadAs, WritesDue, IsWork};
@@ -30,8 +30,8 @@ pub fn check_files<F: Shelf, O: Sink>(
     shelf: &mut F,
     out: &mut O,
 ) -> Result<bool, Stop>
-    ensures { IsWork 0 (check_chore (check_of names.now report.now)).files
-        (check_chore (check_of names.now report.now)).course
+    ensures { IsWork 0 (check_chore (inputs_of names.now) report.now).files
+        (check_chore (inputs_of names.now) report.now).course
         (shelf_state (F.told shelf.old) (F.faults shelf.old) (F.fetch_count shelf.old))
         (shelf_state (F.told shelf.new) (F.faults shelf.new) (F.fetch_count shelf.new))
         (sink_state (O.written out.old) (O.faults out.old))

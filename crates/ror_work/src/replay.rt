@@ -4,18 +4,18 @@ ghost use Rattle.std.specs.Prelude.{◌≡◌, ◌≤◌, length};
 ghost use Rattle.std.specs.List.{AllByRecursion, list_any};
 ghost use Rattle.ror_check.specs.Proof.{is_wide};
 ghost use Rattle.ror_session.specs.declared.limits.TheConstants.{MOST_LINES};
-ghost use Rattle.ror_session.specs.declared.session.Session as sessions;
 ghost use Rattle.ror_session.specs.Sound.{IsSound};
-ghost use Rattle.ror_value.specs.declared.input.Input as inputs;
 ghost use Rattle.ror_value.specs.Over.{IsLawfulIn};
 ghost use Rattle.ror_bench.specs.Bench.{IsLawfulBench, LeavesNumbers};
+ghost use Rattle.ror_bench.specs.Blocks.{HasText};
 ghost use Rattle.ror_bench.specs.Reports.{NamesADesk};
+ghost use Rattle.ror_report.specs.Text.{block_text};
 ghost use Rattle.ror_words.specs.Named.{inputs_of};
 ghost use Rattle.ror_frame.specs.States.{shelf_state, sink_state};
 ghost use Rattle.ror_frame.specs.Courses.{WritesDue, IsWork};
 ghost use Rattle.ror_frame.specs.Inputs.{bench_for};
 ghost use Rattle.ror_pivot.specs.Answers.{most_of};
-ghost use Rattle.ror_work.specs.Replaying.{report_output, replay_chore, MakesBlocks, has_wide};
+ghost use Rattle.ror_work.specs.Replaying.{report_output, replay_chore, WritesText, MakesBlocks, has_wide};
 
 use ror_bench::Bench;
 use ror_frame::{Stop, fetch_session, fetch_table};
@@ -24,6 +24,7 @@ use ror_pivot::Bits;
 use ror_proof::{Answer, Verdict};
 use ror_report::{Block, Body, header, print_block, print_end};
 use ror_session::{Line, Session};
+use ror_table::Table;
 use ror_words::FileNames;
 use ror_xmcda::Input;
 use std::alloc::Global;
@@ -64,7 +65,8 @@ fn write_report<O: Sink>(
 ) -> Result<bool, Stop>
     requires lawful { IsLawfulIn input.table input.opening }
     requires sound { IsSound session.now }
-    ensures { WritesDue (report_output (most_of bits) input session.now) (sink_state (O.written out.old) (O.faults out.old))
+    ensures { WritesDue (report_output (most_of bits) (bench_for input session.now) session.now.lines)
+        (sink_state (O.written out.old) (O.faults out.old))
         (sink_state (O.written out.new) (O.faults out.new)) result }
 {
     let desks = session.desks.len() as u32;
@@ -83,8 +85,8 @@ fn write_lines<O: Sink>(
     requires desks { AllByRecursion (NamesADesk (length bench.old.state)) lines.now }
     requires numbers { AllByRecursion (LeavesNumbers (length lines.now)) bench.old.state }
     requires few { length lines.now ≤ MOST_LINES }
-    ensures { (i : inputs.Input) (s : sessions.Session) → bench.old ≡ bench_for i s → lines.now ≡ s.lines → IsLawfulBench (bench_for i s)
-        → WritesDue (report_output (most_of bits) i s) (sink_state (O.written out.old) (O.faults out.old))
+    requires lawful { IsLawfulBench bench.old }
+    ensures { WritesDue (report_output (most_of bits) bench.old lines.now) (sink_state (O.written out.old) (O.faults out.old))
         (sink_state (O.written out.new) (O.faults out.new)) result }
 {
     write_all(out, header())?;
@@ -110,11 +112,30 @@ fn write_blocks<O: Sink>(
     let mut wide = false;
     for line in lines {
         let block = bench.step(line, bits)?;
-        let text = print_block(alloc, bench.table(), &block)?;
-        write_all(out, text.as_slice())?;
-        wide = wide || has_wide(&block);
+        let written = write_block(alloc, bench.table(), &block, out);
+        let here = has_wide(&block);
+        // What is dropped on some paths alone takes long to prove.
+        drop(block);
+        written?;
+        wide = wide || here;
     }
     Ok(wide)
+}
+
+/// Writes the text of a block.
+fn write_block<O: Sink>(
+    alloc: Global,
+    table: &Table,
+    block: &Block,
+    out: &mut O,
+) -> Result<(), Stop>
+    requires { HasText table.now block.now }
+    ensures { WritesText (block_text table.now block.now) (O.faults out.old) (O.faults out.new)
+        (O.written out.old) (O.written out.new) result }
+{
+    let text = print_block(alloc, table, block)?;
+    write_all(out, text.as_slice())?;
+    Ok(())
 }
 
 /// Whether an answer of the block is too wide, or its repair.

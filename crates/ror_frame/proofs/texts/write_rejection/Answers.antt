@@ -1,7 +1,7 @@
-use Rattle.std.proofs.Common.{◌++◌, refl, codes, decimal, append_assoc}
+use Rattle.std.proofs.Common.{◌++◌, Ok, Err, refl, codes, decimal, append_assoc}
 use Rattle.std.proofs.lemmas.Result.{err_from_is_err_and}
 use Rattle.ror_frame.specs.Statuses.{reason_text}
-use Rattle.ror_frame.proofs.PrintLemmas.{cut, follow, both, follow_cut}
+use Rattle.ror_frame.proofs.PrintLemmas.{cut, follow}
 use Rattle.ror_frame.proofs.texts.write_rejection.Goals as goal
 
 pub returns-in_err-write_numbered : goal.returns-in_err-write_numbered
@@ -12,8 +12,8 @@ returns-in_err-write_numbered g c =
 pub returns-in_err-write_reason : goal.returns-in_err-write_reason
 returns-in_err-write_reason g c =
     let p = err_from_is_err_and c.from_residual-in_err-write_reason.result c.from_residual-in_err-write_reason.ensures.1 in
-    rw p.1 (follow_cut _ _ _ _ _ _ _ _ _ _ c.in_ok-write_numbered.ensures c.in_err-write_reason.ensures refl)
+    rw p.1 (cut _ _ _ _ _ _ _ (follow {A = Unit {0}} {E = Unit {0}} _ _ _ _ _ _ _ _ _ (Err tt) c.in_ok-write_numbered.ensures c.in_err-write_reason.ensures refl) refl)
 
 pub returns : goal.returns
 returns g c =
-    follow _ _ _ _ _ _ _ _ _ _ (both _ _ _ _ _ _ _ _ c.in_ok-write_numbered.ensures c.in_ok-write_reason.ensures) c.write_text.ensures refl
+    follow _ _ _ _ _ _ _ _ _ _ (follow {A = Unit {0}} {E = Unit {0}} _ _ _ _ _ _ _ _ _ (Ok tt) c.in_ok-write_numbered.ensures c.in_ok-write_reason.ensures refl) c.write_text.ensures refl

@@ -1,8 +1,8 @@
-use Rattle.std.proofs.Common.{List, ℕ, ◌++◌, sym, ap, refl, append_assoc}
+use Rattle.std.proofs.Common.{List, ℕ, ◌++◌, Ok, Err, sym, ap, refl, append_assoc}
 use Rattle.std.proofs.lemmas.Result.{err_from_is_err_and}
 use Rattle.ror_generate.specs.Generating.{generated_line, verdict_line, accepted_by}
 use Rattle.ror_frame.specs.Statuses.{accepted_text}
-use Rattle.ror_frame.proofs.PrintLemmas.{cut, follow, both, follow_cut}
+use Rattle.ror_frame.proofs.PrintLemmas.{cut, follow}
 use Rattle.ror_generate.proofs.summary.write_summary.Goals as goal
 
 pub returns-in_err-write_generated : goal.returns-in_err-write_generated
@@ -14,9 +14,9 @@ returns-in_err-write_generated g c =
 pub returns-in_err-write_verdicts : goal.returns-in_err-write_verdicts
 returns-in_err-write_verdicts g c =
     let p = err_from_is_err_and c.from_residual-in_err-write_verdicts.result c.from_residual-in_err-write_verdicts.ensures.1 in
-    rw p.1 (follow_cut _ _ _ _ _ _ _ _ _ _ c.in_ok-write_generated.ensures c.in_err-write_verdicts.ensures refl)
+    rw p.1 (cut _ _ _ _ _ _ _ (follow {A = Unit {0}} {E = Unit {0}} _ _ _ _ _ _ _ _ _ (Err tt) c.in_ok-write_generated.ensures c.in_err-write_verdicts.ensures refl) refl)
 
 pub returns : goal.returns
 returns g c =
     let v = c.args.summary.now.verdicts in
-    follow _ _ _ _ _ _ _ _ _ _ (both _ _ _ _ _ _ _ _ c.in_ok-write_generated.ensures c.in_ok-write_verdicts.ensures) c.write_accepted.ensures (ap (λ (l : List ℕ). (generated_line c.args.number ++ verdict_line v) ++ l) (ap accepted_text (sym c.requires)))
+    follow _ _ _ _ _ _ _ _ _ _ (follow {A = Unit {0}} {E = Unit {0}} _ _ _ _ _ _ _ _ _ (Ok tt) c.in_ok-write_generated.ensures c.in_ok-write_verdicts.ensures refl) c.write_accepted.ensures (ap (λ (l : List ℕ). (generated_line c.args.number ++ verdict_line v) ++ l) (ap accepted_text (sym c.requires)))

@@ -1,4 +1,4 @@
-use Rattle.ror_words.proofs.Table.{table_law}
+use Rattle.ror_words.proofs.WordLemmas.{table_law}
 use Rattle.ror_run.proofs.running.run.Goals as goal
 
 pub returns-clause-table : goal.returns-clause-table

@@ -2,9 +2,7 @@ use Rattle.std.proofs.Common.{rules, arith, ◌≡◌, ◌≤◌, length, sym, a
 use Rattle.std.specs.List.{AllByRecursion}
 use Rattle.std.proofs.lemmas.Result.{err_from_is_err_and}
 use Rattle.ror_session.specs.declared.limits.TheConstants.{MOST_LINES}
-use Rattle.ror_session.specs.declared.session.Line.{Line}
 use Rattle.ror_bench.specs.Bench.{Workbench, LeavesNumbers}
-use Rattle.ror_bench.specs.Reports.{IsProvedReport}
 use Rattle.ror_frame.specs.Inputs.{bench_for}
 use Rattle.ror_frame.proofs.Desks.{numbers_left}
 use Rattle.ror_work.proofs.Judging.{rejected_as}

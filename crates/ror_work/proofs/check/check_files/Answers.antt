@@ -1,9 +1,6 @@
-use Rattle.std.proofs.Common.{Err}
 use Rattle.std.specs.Prelude.{nat_lt}
 use Rattle.std.proofs.lemmas.Result.{err_from_is_err_and}
 use Rattle.ror_bench.specs.Reports.{IsAcceptedReport}
-use Rattle.ror_words.specs.Named.{check_of}
-use Rattle.ror_frame.specs.States.{shelf_state, sink_state}
 use Rattle.ror_frame.specs.Statuses.{accepted_text}
 use Rattle.ror_frame.specs.Inputs.{bench_for}
 use Rattle.ror_frame.proofs.CourseLemmas.{stopped, went_on, finished}

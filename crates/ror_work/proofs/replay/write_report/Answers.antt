@@ -1,26 +1,26 @@
-use Rattle.std.proofs.Common.{rules, arith, ◌≡◌, ◌≤◌, sym, ap, subst, length}
+use Rattle.std.proofs.Common.{rules, arith, inl, refl, ◌≡◌, ◌≤◌, sym, ap, subst, length}
 use Rattle.std.specs.List.{AllByRecursion}
 use Rattle.std.proofs.lemmas.Result.{err_from_is_err_and}
 use Rattle.ror_session.specs.declared.limits.TheConstants.{MOST_LINES}
 use Rattle.ror_bench.specs.Bench.{Workbench, LeavesNumbers}
-use Rattle.ror_frame.specs.States.{sink_state}
-use Rattle.ror_pivot.specs.Answers.{most_of}
 use Rattle.ror_frame.specs.Inputs.{bench_for}
-use Rattle.ror_work.proofs.Making.{unwritten}
 use Rattle.ror_frame.proofs.Desks.{lawful_desks, numbers_left}
 use Rattle.ror_work.proofs.replay.write_report.Goals as goal
 
 pub returns-in_err-bench : goal.returns-in_err-bench
 returns-in_err-bench g c =
     let p = err_from_is_err_and c.from_residual.result c.from_residual.ensures.1 in
-    rw (p.1, p.2) (unwritten (most_of c.args.bits) c.args.input c.args.session.now (sink_state (g.O.Sink.written c.args.out.now) (g.O.Sink.faults c.args.out.now)))
+    rw (p.1, p.2) (inl refl)
 
 pub returns : goal.returns
 returns g c =
-    let i = c.args.input in
-    let s = c.args.session.now in
-    let bench : c.in_ok-bench.bench ≡ bench_for i s = search rules in
-    c.write_lines.ensures i s bench c.as_slice.ensures (lawful_desks i (length s.desks) c.requires.lawful)
+    let bench : c.in_ok-bench.bench ≡ bench_for c.args.input c.args.session.now = search rules in
+    rw (← bench, ← c.as_slice.ensures) c.write_lines.ensures
+
+pub write_lines-requires-clause-lawful : goal.write_lines-requires-clause-lawful
+write_lines-requires-clause-lawful g c =
+    let bench : c.in_ok-bench.bench ≡ bench_for c.args.input c.args.session.now = search rules in
+    rw bench (lawful_desks c.args.input (length c.args.session.now.desks) c.requires.lawful)
 
 pub write_lines-requires-clause-few : goal.write_lines-requires-clause-few
 write_lines-requires-clause-few g c =
