@@ -1,6 +1,6 @@
 -- What a draft's maps hold, where an id stands in them, and what adding an entry leaves.
-use Rattle.std.proofs.Common.{◌≡◌, ℕ, ◌<◌, Bool, true, false, cond, List, [], ◌∷◌, ◌++◌, length, get_or, map, ltb, Option, Some, None, ℤ, All, slice_get, is_some, refl, sym, ap, subst, ◌∙◌, arith, inl, inr}
-use Rattle.std.specs.Prelude.{unsigned_abs, ◌^◌, ◌≢◌}
+use Rattle.std.proofs.Common.{◌≡◌, ℕ, ◌<◌, Bool, true, false, cond, List, [], ◌∷◌, ◌++◌, length, get_or, map, ltb, Option, Some, None, All, slice_get, is_some, refl, sym, ap, subst, ◌∙◌, arith, inl, inr}
+use Rattle.std.specs.Prelude.{◌≢◌}
 use Rattle.std.specs.List.{position, position_or_len}
 use Rattle.std.specs.Option.{option_map}
 use Rattle.std.specs.Map.{keys_of, lookup}
@@ -21,7 +21,9 @@ use Rattle.indexmap.specs.IndexMap.{IndexMap, get, insert_entry}
 use Rattle.indexmap.proofs.CallerLemmas.{insert_entry-new}
 use Rattle.ror_text.proofs.LineLemmas.{list_any-map}
 use Rattle.ror_text.specs.Ids.{IsId}
-use Rattle.ror_table.specs.declared.direction.Direction.{Direction}
+use Rattle.ror_table.specs.declared.amount.Amount.{Amount}
+use Rattle.ror_table.specs.declared.direction.Scale.{Scale}
+use Rattle.ror_table.specs.Amounts.{IsAmount}
 use Rattle.ror_table.specs.Table.{Criterion, Alternative, DecisionTable, HasPlace, AreDistinct, IsEvaluated, criterion_ids, alternative_ids}
 use Rattle.ror_table.specs.Draft.{IsDraft, has_id, add_criterion, add_alternative}
 
@@ -96,11 +98,11 @@ same_place ids id j k apart at_j at_k =
       | inr (inr less) ↦ absurd (apart k j [] less (slice_get_within ids j id at_j) (read_k ∙ sym read_j))
     ]
 
-pub IsDraft-add_criterion : (t : DecisionTable) (id : List ℕ) (direction : Direction) → IsDraft t → t.alternatives ≡ [] → IsId id → has_id (criterion_ids t) id ≡ false → length t.criteria < 64 → IsDraft (add_criterion t id direction)
-IsDraft-add_criterion t id direction draft first valid absent room =
-    let ids : criterion_ids (add_criterion t id direction) ≡ criterion_ids t ++ id ∷ [] = map_push (λ c. c.id) t.criteria (record { id = id; direction = direction }) in
+pub IsDraft-add_criterion : (t : DecisionTable) (id : List ℕ) (scale : Scale) → IsDraft t → t.alternatives ≡ [] → IsId id → has_id (criterion_ids t) id ≡ false → length t.criteria < 64 → IsDraft (add_criterion t id scale)
+IsDraft-add_criterion t id scale draft first valid absent room =
+    let ids : criterion_ids (add_criterion t id scale) ≡ criterion_ids t ++ id ∷ [] = map_push (λ c. c.id) t.criteria (record { id = id; direction = scale.direction; linear = scale.linear }) in
     record {
-      criteria_limit = omega (arith, length_push t.criteria (record { id = id; direction = direction }));
+      criteria_limit = omega (arith, length_push t.criteria (record { id = id; direction = scale.direction; linear = scale.linear }));
       alternatives_limit = draft.alternatives_limit;
       classes_limit = draft.classes_limit;
       criterion_ids_valid = rw ids (All-push IsId (criterion_ids t) id draft.criterion_ids_valid valid);
@@ -110,8 +112,8 @@ IsDraft-add_criterion t id direction draft first valid absent room =
       evaluated = rw first (λ k d lt. absurd (omega arith));
     }
 
-pub IsDraft-add_alternative : (t : DecisionTable) (id : List ℕ) (performances : List ℤ) → IsDraft t → IsId id → has_id (alternative_ids t) id ≡ false → length t.alternatives < 200 → length performances ≡ length t.criteria → All (λ p. unsigned_abs p < 10 ^ 18) performances → IsDraft (add_alternative t id performances)
-IsDraft-add_alternative t id performances draft valid absent room width bounded =
+pub IsDraft-add_alternative : (t : DecisionTable) (id : List ℕ) (performances : List Amount) → IsDraft t → IsId id → has_id (alternative_ids t) id ≡ false → length t.alternatives < 200 → length performances ≡ length t.criteria → All IsAmount performances → IsDraft (add_alternative t id performances)
+IsDraft-add_alternative t id performances draft valid absent room width amounts =
     let ids : alternative_ids (add_alternative t id performances) ≡ alternative_ids t ++ id ∷ [] = map_push (λ a. a.id) t.alternatives (record { id = id; performances = performances }) in
     record {
       criteria_limit = draft.criteria_limit;
@@ -121,7 +123,7 @@ IsDraft-add_alternative t id performances draft valid absent room width bounded 
       alternative_ids_valid = rw ids (All-push IsId (alternative_ids t) id draft.alternative_ids_valid valid);
       criterion_ids_distinct = draft.criterion_ids_distinct;
       alternative_ids_distinct = rw ids (AreDistinct-push (alternative_ids t) id draft.alternative_ids_distinct absent);
-      evaluated = All-push (IsEvaluated (length t.criteria)) t.alternatives (record { id = id; performances = performances }) draft.evaluated (record { width = width; bounded = bounded });
+      evaluated = All-push (IsEvaluated (length t.criteria)) t.alternatives (record { id = id; performances = performances }) draft.evaluated (record { width = width; amounts = amounts });
     }
 
 -- ---- the maps: what is made of their entries is a list of criteria or alternatives
@@ -146,14 +148,14 @@ module _ {V R : Type 0} (made : String Global × V → R) (id : R → List ℕ) 
       ap (map made) (is ∙ insert_entry-new string_eq m k v none) ∙ map_push made m.entries (k, v) ∙ ap (λ xs. xs ++ made (k, v) ∷ []) are
 
 -- a table is its parts
-pub criterion_added : (t : DecisionTable) (criteria more : List Criterion) (alternatives : List Alternative) (classes : ℕ) (id : List ℕ) (direction : Direction)
-    → table criteria alternatives classes ≡ t → more ≡ t.criteria ++ record { id = id; direction = direction } ∷ [] → table more alternatives classes ≡ add_criterion t id direction
-criterion_added t criteria more alternatives classes id direction is added =
+pub criterion_added : (t : DecisionTable) (criteria more : List Criterion) (alternatives : List Alternative) (classes : ℕ) (id : List ℕ) (scale : Scale)
+    → table criteria alternatives classes ≡ t → more ≡ t.criteria ++ record { id = id; direction = scale.direction; linear = scale.linear } ∷ [] → table more alternatives classes ≡ add_criterion t id scale
+criterion_added t criteria more alternatives classes id scale is added =
     let a : alternatives ≡ t.alternatives = ap (λ (x : DecisionTable). x.alternatives) is in
     let n : classes ≡ t.classes = ap (λ (x : DecisionTable). x.classes) is in
     cc
 
-pub alternative_added : (t : DecisionTable) (criteria : List Criterion) (alternatives more : List Alternative) (classes : ℕ) (id : List ℕ) (performances : List ℤ)
+pub alternative_added : (t : DecisionTable) (criteria : List Criterion) (alternatives more : List Alternative) (classes : ℕ) (id : List ℕ) (performances : List Amount)
     → table criteria alternatives classes ≡ t → more ≡ t.alternatives ++ record { id = id; performances = performances } ∷ [] → table criteria more classes ≡ add_alternative t id performances
 alternative_added t criteria alternatives more classes id performances is added =
     let a : criteria ≡ t.criteria = ap (λ (x : DecisionTable). x.criteria) is in

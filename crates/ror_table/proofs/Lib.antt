@@ -1,3 +1,5 @@
+pub mod AmountLemmas
+pub mod SpellingLemmas
 pub mod LevelLemmas
 pub mod RankLemmas
 pub mod NameLemmas
@@ -9,3 +11,6 @@ pub mod LineSteps
 pub mod GrammarLemmas
 pub mod LineFaultLemmas
 pub mod FaultLemmas
+pub mod WeightLemmas
+pub mod BlockLemmas
+pub mod ScaleLemmas

@@ -1,4 +1,7 @@
+pub mod Amounts
+pub mod Spellings
 pub mod Table
+pub mod Blocks
 pub mod Levels
 pub mod Draft
 pub mod Contents

@@ -1,7 +1,9 @@
-//! The direction of a criterion.
+//! The direction of a criterion, and its scale.
 
 ghost use Rattle.std.specs.Prelude.{◌≡◌};
-ghost use Rattle.ror_table.specs.Table as spec;
+ghost use Rattle.ror_table.specs.Amounts as spec;
+
+use crate::amount::Amount;
 
 /// Whether greater or smaller performances on a criterion are better.
 #[derive(Clone, Copy, Debug, PartialEq, Eq)]
@@ -12,12 +14,19 @@ pub enum Direction {
     Min,
 }
 
+/// The direction of a criterion, and whether value functions are linear on it.
+#[derive(Clone, Copy, Debug, PartialEq, Eq)]
+pub struct Scale {
+    pub direction: Direction,
+    pub linear: bool,
+}
+
 /// Whether a performance is worse than another.
-pub(crate) fn is_worse(direction: Direction, performance: i64, other: i64) -> bool
-    ensures { result ≡ spec.is_worse direction performance other }
+pub(crate) fn is_worse(direction: Direction, performance: &Amount, other: &Amount) -> bool
+    ensures { result ≡ spec.is_worse direction performance.now other.now }
 {
     match direction {
-        Direction::Max => performance < other,
-        Direction::Min => other < performance,
+        Direction::Max => performance.is_smaller(other),
+        Direction::Min => other.is_smaller(performance),
     }
 }

@@ -1,16 +1,18 @@
 //! A table that is being made.
 
-ghost use Rattle.std.specs.Prelude.{◌≡◌, [], ◌<◌, ◌≤◌, ◌^◌, ◌==◌, ◌||◌, false, length, slice_get, All, unsigned_abs, is_some, OnOk, OnErr, IfOk, Some};
+ghost use Rattle.std.specs.Prelude.{◌≡◌, [], ◌<◌, ◌≤◌, ◌==◌, ◌||◌, false, true, length, slice_get, All, is_some, OnOk, OnErr, IfOk, Some};
 ghost use Rattle.ror_text.specs.Ids.{IsId};
 ghost use Rattle.ror_text.specs.Reading.{Gives};
 ghost use Rattle.ror_table.specs.declared.fault.DraftFault.TheVariants.{BadId, RepeatedId, TooMany};
 ghost use Rattle.ror_table.specs.declared.fault.What.TheVariants.{Alternatives, Criteria};
 ghost use Rattle.ror_table.specs.declared.limits.TheConstants.{MOST_ALTERNATIVES, MOST_CLASSES, MOST_CRITERIA};
 ghost use Rattle.ror_table.specs.Plain.{is_past_criteria};
-ghost use Rattle.ror_table.specs.Table.{HasPlace, criterion_ids, alternative_ids, direction_at, performance_at, performances_on};
+ghost use Rattle.ror_table.specs.Amounts.{IsAmount};
+ghost use Rattle.ror_table.specs.Table.{HasPlace, criterion_ids, alternative_ids, direction_at, is_linear, performance_at, performances_on};
 ghost use Rattle.ror_table.specs.Draft.{draft_fault, empty_table, has_id, add_criterion, add_alternative, with_criterion, with_alternative, IsDraft};
 
-use crate::direction::Direction;
+use crate::amount::Amount;
+use crate::direction::{Direction, Scale};
 use crate::fault::{DraftFault, What};
 use crate::limits::{MOST_ALTERNATIVES, MOST_CRITERIA};
 use indexmap::IndexMap;
@@ -22,8 +24,8 @@ use std::marker::Model;
 /// A table that is being made: criteria first, then alternatives. Clauses see what it holds.
 #[derive(Drop)]
 pub struct Draft {
-    criteria: IndexMap<String, Direction>,
-    alternatives: IndexMap<String, Vec<i64>>,
+    criteria: IndexMap<String, Scale>,
+    alternatives: IndexMap<String, Vec<Amount>>,
     classes: u32,
     alloc: Global,
 }
@@ -54,13 +56,51 @@ impl Draft {
         }
     }
 
-    /// Adds a criterion after the others, before any alternative.
-    #[tactic(auto, unfolding(crate::specs::Draft::with_criterion))]
+    /// Adds a stepwise criterion after the others, before any alternative.
     pub fn criterion(&mut self, id: &str, direction: Direction) -> Result<(), DraftFault>
         requires { self.old.alternatives ≡ [] }
         ensures exact { Gives (λ _. self.new) draft_fault result
-            (with_criterion BadId RepeatedId (TooMany Criteria) self.old id.now direction) }
-        ensures added { OnOk result (self.new ≡ add_criterion self.old id.now direction) }
+            (with_criterion BadId RepeatedId (TooMany Criteria) self.old id.now
+            (record { direction = direction; linear = false })) }
+        ensures added { OnOk result (self.new ≡ add_criterion self.old id.now
+            (record { direction = direction; linear = false })) }
+        ensures unchanged { OnErr result (self.new ≡ self.old) }
+    {
+        self.with_scale(
+            id,
+            Scale {
+                direction,
+                linear: false,
+            },
+        )
+    }
+
+    /// Adds a linear criterion after the others, before any alternative.
+    pub fn criterion_linear(&mut self, id: &str, direction: Direction) -> Result<(), DraftFault>
+        requires { self.old.alternatives ≡ [] }
+        ensures exact { Gives (λ _. self.new) draft_fault result
+            (with_criterion BadId RepeatedId (TooMany Criteria) self.old id.now
+            (record { direction = direction; linear = true })) }
+        ensures added { OnOk result (self.new ≡ add_criterion self.old id.now
+            (record { direction = direction; linear = true })) }
+        ensures unchanged { OnErr result (self.new ≡ self.old) }
+    {
+        self.with_scale(
+            id,
+            Scale {
+                direction,
+                linear: true,
+            },
+        )
+    }
+
+    /// Adds a criterion with this scale, unless one of the tests refuses it.
+    #[tactic(auto, unfolding(crate::specs::Draft::with_criterion))]
+    fn with_scale(&mut self, id: &str, scale: Scale) -> Result<(), DraftFault>
+        requires { self.old.alternatives ≡ [] }
+        ensures exact { Gives (λ _. self.new) draft_fault result
+            (with_criterion BadId RepeatedId (TooMany Criteria) self.old id.now scale) }
+        ensures added { OnOk result (self.new ≡ add_criterion self.old id.now scale) }
         ensures unchanged { OnErr result (self.new ≡ self.old) }
     {
         refuse_if(!is_id(id.as_bytes()), DraftFault::BadId)?;
@@ -69,7 +109,7 @@ impl Draft {
             self.criteria_count() >= MOST_CRITERIA,
             DraftFault::TooMany(What::Criteria),
         )?;
-        self.put_criterion(id, direction)?;
+        self.put_criterion(id, scale)?;
         Ok(())
     }
 
@@ -83,9 +123,9 @@ impl Draft {
 
     /// Adds an alternative after the others, with one performance for each criterion.
     #[tactic(auto, unfolding(crate::specs::Draft::with_alternative))]
-    pub fn alternative(&mut self, id: &str, performances: &[i64]) -> Result<(), DraftFault>
+    pub fn alternative(&mut self, id: &str, performances: &[Amount]) -> Result<(), DraftFault>
         requires width { length performances.now ≡ length self.old.criteria }
-        requires bounded { All (λ p. unsigned_abs p < 10 ^ 18) performances.now }
+        requires amounts { All IsAmount performances.now }
         ensures exact { Gives (λ _. self.new) draft_fault result
             (with_alternative BadId RepeatedId
             (TooMany Alternatives) self.old id.now performances.now) }
@@ -103,23 +143,23 @@ impl Draft {
     }
 
     /// Adds a criterion with a valid id that is free, for which there is room: only memory can be lacking.
-    pub fn put_criterion(&mut self, id: &str, direction: Direction) -> Result<(), AllocError>
+    pub fn put_criterion(&mut self, id: &str, scale: Scale) -> Result<(), AllocError>
         requires first { self.old.alternatives ≡ [] }
         requires valid { IsId id.now }
         requires absent { has_id (criterion_ids self.old) id.now ≡ false }
         requires room { length self.old.criteria < MOST_CRITERIA }
-        ensures added { OnOk result (self.new ≡ add_criterion self.old id.now direction) }
+        ensures added { OnOk result (self.new ≡ add_criterion self.old id.now scale) }
         ensures unchanged { OnErr result (self.new ≡ self.old) }
     {
         let key = String::from_str(self.alloc, id)?;
-        self.criteria.insert(key, direction)?;
+        self.criteria.insert(key, scale)?;
         Ok(())
     }
 
     /// Adds an alternative with a valid id that is free, for which there is room: only memory can be lacking.
-    pub fn put_alternative(&mut self, id: &str, performances: &[i64]) -> Result<(), AllocError>
+    pub fn put_alternative(&mut self, id: &str, performances: &[Amount]) -> Result<(), AllocError>
         requires width { length performances.now ≡ length self.old.criteria }
-        requires bounded { All (λ p. unsigned_abs p < 10 ^ 18) performances.now }
+        requires amounts { All IsAmount performances.now }
         requires valid { IsId id.now }
         requires absent { has_id (alternative_ids self.old) id.now ≡ false }
         requires room { length self.old.alternatives < MOST_ALTERNATIVES }
@@ -190,10 +230,17 @@ impl Draft {
         requires { i < length self.now.criteria }
         ensures { result ≡ direction_at self.now i }
     {
-        self.criteria.values().as_slice()[i]
+        self.criteria.values().as_slice()[i].direction
     }
 
-    pub(crate) fn performance(&self, a: usize, i: usize) -> i64
+    pub(crate) fn is_linear(&self, i: usize) -> bool
+        requires { i < length self.now.criteria }
+        ensures { result ≡ is_linear self.now i }
+    {
+        self.criteria.values().as_slice()[i].linear
+    }
+
+    pub(crate) fn performance(&self, a: usize, i: usize) -> Amount
         requires alternative { a < length self.now.alternatives }
         requires criterion { i < length self.now.criteria }
         ensures { result ≡ performance_at self.now a i }
@@ -216,9 +263,10 @@ impl Draft {
     }
 
     /// The performances of all alternatives on a criterion, in the alternatives' order.
-    pub(crate) fn performances_on(&self, i: usize) -> Result<Vec<i64>, AllocError>
+    pub(crate) fn performances_on(&self, i: usize) -> Result<Vec<Amount>, AllocError>
         requires { i < length self.now.criteria }
-        ensures { IfOk result (λ performances. performances.items ≡ performances_on self.now i) }
+        ensures exact { IfOk result (λ performances. performances.items ≡ performances_on self.now i) }
+        ensures amounts { IfOk result (λ performances. All IsAmount performances.items) }
     {
         let rows = self.alternatives.values().as_slice();
         let mut performances = Vec::new(self.alloc);

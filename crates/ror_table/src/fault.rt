@@ -12,7 +12,7 @@ pub enum What {
     Alternatives,
     /// More than 64 criteria.
     Criteria,
-    /// More than 2,000 steps of all criteria together.
+    /// More than 2,000 columns of all criteria together: a step each, and one for each linear criterion.
     Steps,
     /// More than 100 classes.
     Classes,
@@ -50,7 +50,7 @@ pub enum Kind {
 /// The kinds of fault of a table's text.
 #[derive(Clone, Copy, Debug, PartialEq, Eq)]
 pub enum TableKind {
-    /// The first line that is not passed over is not `ror-table 1`, or the root is not `XMCDA`.
+    /// The first line that is not passed over is not `ror-table 1`, `2` or `3`, or the root is not `XMCDA`.
     Form,
     /// The bytes are no UTF-8.
     NotUtf8,
@@ -78,6 +78,9 @@ pub enum TableKind {
     Mismatched,
     /// What of XMCDA is not supported.
     Unsupported(Kind),
+    /// A linear criterion whose common denominator, or whose best level's distance from the worst one times that, is 10^18
+    /// or more.
+    WideScale,
 }
 
 /// A fault and its line, from 1; a fault of the whole file has line 0.
@@ -116,7 +119,8 @@ impl<T: Drop> From<AllocFailed<T>> for TableError {
     }
 }
 
-/// Why a draft refused, each tested in this order.
+/// Why a draft refused, in the order in which a call tests them, but that `Empty` is tested before too many steps; want of
+/// memory may come at any time.
 #[derive(Debug, Drop, Error)]
 pub enum DraftFault {
     #[error("not an id")]
@@ -129,6 +133,8 @@ pub enum DraftFault {
     Empty,
     #[error("out of memory")]
     Memory,
+    #[error("a linear criterion's scale is too wide")]
+    WideScale,
 }
 
 impl From<AllocError> for DraftFault {

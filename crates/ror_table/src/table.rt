@@ -1,18 +1,24 @@
 //! A decision table.
 
-ghost use Rattle.std.specs.Prelude.{◌≡◌, ◌<◌, ◌≤◌, length, slice_get, IfOk, Some};
+ghost use Rattle.std.specs.Prelude.{◌≡◌, ◌+◌, ◌<◌, ◌≤◌, ◌≤ℤ◌, pos, true, length, slice_get, unsigned_abs, IfOk, Some};
+ghost use Rattle.ror_integers.specs.Vectors.{entry};
 ghost use Rattle.ror_text.specs.Reading.{Gives};
-ghost use Rattle.ror_table.specs.declared.fault.DraftFault.TheVariants.{Empty, TooMany};
+ghost use Rattle.ror_table.specs.declared.fault.DraftFault.TheVariants.{Empty, TooMany, WideScale};
 ghost use Rattle.ror_table.specs.declared.fault.What.TheVariants.{Steps};
-ghost use Rattle.ror_table.specs.Table.{DecisionTable, IsTable, HasPlace, direction_at, performance_at, steps, rank, column, columns, alternative_ids, criterion_ids, alternative_named, criterion_named};
+ghost use Rattle.ror_table.specs.declared.limits.TheConstants.{AMOUNT_LIMIT};
+ghost use Rattle.ror_table.specs.Amounts.{IsAmount};
+ghost use Rattle.ror_table.specs.Blocks.{block, tops};
+ghost use Rattle.ror_table.specs.Table.{IsTable, HasPlace, direction_at, is_linear, performance_at, steps, rank, width, has_weights, weight, offset, column, columns, alternative_ids, criterion_ids, alternative_named, criterion_named};
 ghost use Rattle.ror_table.specs.Draft.{draft_fault, finished};
 
+use crate::amount::Amount;
 use crate::direction::Direction;
 use crate::draft::Draft;
 use crate::fault::{DraftFault, What};
-use crate::index::{Index, index_of};
+use crate::index::{Index, index_of, width_of};
 use crate::levels::worse_count;
 use crate::limits::MOST_STEPS;
+use crate::weights::all_weights;
 use ror_text::reading::refuse_if;
 use std::marker::Model;
 
@@ -22,6 +28,7 @@ use std::marker::Model;
 pub struct Table {
     draft: Draft,
     index: Index,
+    weights: Vec<Vec<i64>>,
 }
 
 impl Model for Table {
@@ -32,7 +39,7 @@ impl Model for Table {
 
     ghost view = { λ t. t.draft };
 
-    ghost invariant = { λ t. IsIndexed t.draft t.index.levels.items t.index.offsets.items t.index.columns };
+    ghost invariant = { λ t. IsIndexed t.draft t.index.levels.items t.weights.items t.index.offsets.items t.index.columns };
 }
 
 impl Table {
@@ -60,7 +67,7 @@ impl Table {
         self.draft.class_count()
     }
 
-    /// The number of columns: the steps of all criteria together, 2,000 at most.
+    /// The number of columns, 2,000 at most: the widths of all criteria together.
     pub fn columns(&self) -> usize
         ensures number { result ≡ columns self.now }
         ensures table { IsTable self.now }
@@ -76,11 +83,20 @@ impl Table {
         self.draft.direction(i)
     }
 
+    /// Whether value functions are linear on a criterion.
+    pub fn linear(&self, i: usize) -> bool
+        requires { i < length self.now.criteria }
+        ensures { result ≡ is_linear self.now i }
+    {
+        self.draft.is_linear(i)
+    }
+
     /// The performance of an alternative on a criterion.
-    pub fn performance(&self, a: usize, i: usize) -> i64
+    pub fn performance(&self, a: usize, i: usize) -> Amount
         requires alternative { a < length self.now.alternatives }
         requires criterion { i < length self.now.criteria }
-        ensures { result ≡ performance_at self.now a i }
+        ensures value { result ≡ performance_at self.now a i }
+        ensures amount { IsAmount result }
     {
         self.draft.performance(a, i)
     }
@@ -104,11 +120,74 @@ impl Table {
         worse_count(self.draft.direction(i), &self.index.levels[i], performance)
     }
 
-    /// The column of step `k` of a criterion, from 1 to the criterion's steps.
+    /// How many columns a criterion has: one for each step; of a linear criterion one, or none where it has no step.
+    pub fn width(&self, i: usize) -> usize
+        requires { i < length self.now.criteria }
+        ensures number { result ≡ width self.now i }
+        ensures within { result ≤ steps self.now i }
+    {
+        width_of(self.draft.is_linear(i), self.index.levels[i].len())
+    }
+
+    /// The weight of a linear criterion's level, so many steps above the worst one: the distances of the levels from the
+    /// worst one are in the ratios of their weights, which are whole numbers with no common divisor above 1.
+    pub fn weight(&self, i: usize, r: usize) -> i64
+        requires criterion { i < length self.now.criteria }
+        requires linear { has_weights self.now i ≡ true }
+        requires within { r ≤ steps self.now i }
+        ensures value { result ≡ weight self.now i r }
+        ensures not_below { pos 0 ≤ℤ result }
+        ensures small { unsigned_abs result < AMOUNT_LIMIT }
+    {
+        self.weights[i][r]
+    }
+
+    /// What the value of a level counts column `k`, from 0, of its criterion: of a stepwise one 1 where the level lies above
+    /// step `k`, else 0; of a linear one its weight.
+    pub fn block_entry(&self, i: usize, r: usize, k: usize) -> i64
+        requires criterion { i < length self.now.criteria }
+        requires within { r ≤ steps self.now i }
+        requires place { k < width self.now i }
+        ensures value { result ≡ entry (block self.now i r) k }
+        ensures not_below { pos 0 ≤ℤ result }
+        ensures small { unsigned_abs result < AMOUNT_LIMIT }
+    {
+        if self.draft.is_linear(i) {
+            self.weight(i, r)
+        } else if k < r {
+            1
+        } else {
+            0
+        }
+    }
+
+    /// What the greatest value counts a column: 1 at a step of a stepwise criterion, and the best level's weight on a linear
+    /// one.
+    pub fn top(&self, c: usize) -> i64
+        requires { c < columns self.now }
+        ensures value { result ≡ entry (tops self.now) c }
+        ensures positive { pos 1 ≤ℤ result }
+        ensures small { unsigned_abs result < AMOUNT_LIMIT }
+    {
+        let i = self.criterion_of(c);
+        self.block_entry(i, self.steps(i), c - self.index.offsets[i])
+    }
+
+    /// The criterion that a column is one of.
+    fn criterion_of(&self, c: usize) -> usize
+        requires { c < columns self.now }
+        ensures criterion { result < length self.now.criteria }
+        ensures begins { offset self.now result ≤ c }
+        ensures ends { c < offset self.now (result + 1) }
+    {
+        self.index.offsets.partition_point(|offset| *offset <= c) - 1
+    }
+
+    /// Column `k` of a criterion, from 1 to the criterion's width.
     pub fn column(&self, i: usize, k: usize) -> usize
         requires criterion { i < length self.now.criteria }
         requires positive { 0 < k }
-        requires within { k ≤ steps self.now i }
+        requires within { k ≤ width self.now i }
         ensures number { result ≡ column self.now i k }
         ensures within { result < columns self.now }
     {
@@ -152,12 +231,17 @@ impl Draft {
     /// The table of the draft. A draft that is refused is dropped.
     #[tactic(auto, unfolding(crate::specs::Draft::finished))]
     pub fn finish(self) -> Result<Table, DraftFault>
-        ensures exact { Gives (λ t. t) draft_fault result (finished Empty (TooMany Steps) self) }
+        ensures exact { Gives (λ t. t) draft_fault result (finished Empty (TooMany Steps) WideScale self) }
         ensures table { IfOk result IsTable }
     {
         refuse_if(self.is_empty(), DraftFault::Empty)?;
         let index = index_of(&self)?;
         refuse_if(index.columns > MOST_STEPS, DraftFault::TooMany(What::Steps))?;
-        Ok(Table { draft: self, index })
+        let weights = all_weights(&self, &index.levels)?;
+        Ok(Table {
+            draft: self,
+            index,
+            weights,
+        })
     }
 }

@@ -1,24 +1,16 @@
-use Rattle.std.proofs.Common.{◌≡◌, ap, ◌∙◌, reverse, subst, sym}
-use Rattle.std.specs.List.{dedup}
-use Rattle.std.specs.Ordering.{int_eq}
-use Rattle.std.proofs.lemmas.List.Filters.{dedup_is}
-use Rattle.ror_table.specs.declared.direction.Direction.TheVariants.{Max, Min}
-use Rattle.ror_table.specs.Levels.{IsLevels}
-use Rattle.ror_table.proofs.LevelLemmas.{IsLevels-sorted, IsLevels-reverse, IsLevels-at}
+use Rattle.std.proofs.Common.{◌+◌, List, get_or, pos, take}
+use Rattle.std.proofs.lemmas.List.{take_more}
+use Rattle.ror_table.specs.declared.amount.Amount.{Amount}
+use Rattle.ror_table.proofs.LevelLemmas.{IsLevels-none, IsLevels-more}
 use Rattle.ror_table.proofs.levels.levels_of.Goals as goal
 
-pub returns-in-Max : goal.returns-in-Max
-returns-in-Max c =
-    let sorted = c.sort_unstable.new.self.items in
-    let left : c.dedup.new.self.items ≡ dedup int_eq sorted = dedup_is _ _ _ c.dedup.ensures.filtered in
-    let up = IsLevels-sorted c.args.performances.items sorted c.sort_unstable.ensures.permutation c.sort_unstable.ensures.sorted in
-    IsLevels-at c.args.direction Max c.args.performances.items c.dedup.new.self.items c.in-Max.is (subst (λ levels. IsLevels Max c.args.performances.items levels) (sym left) up)
+pub loop-performance-init : goal.loop-performance-init
+loop-performance-init c = rw c.new-levels.ensures.items (IsLevels-none c.args.direction)
 
-pub returns-in-Min : goal.returns-in-Min
-returns-in-Min c =
-    let sorted = c.sort_unstable.new.self.items in
-    let left : c.dedup.new.self.items ≡ dedup int_eq sorted = dedup_is _ _ _ c.dedup.ensures.filtered in
-    let up = IsLevels-sorted c.args.performances.items sorted c.sort_unstable.ensures.permutation c.sort_unstable.ensures.sorted in
-    let down = IsLevels-reverse c.args.performances.items (dedup int_eq sorted) up in
-    let is : c.reverse.new.self.items ≡ reverse (dedup int_eq sorted) = c.reverse.ensures.items ∙ ap reverse left in
-    IsLevels-at c.args.direction Min c.args.performances.items c.reverse.new.self.items c.in-Min.is (subst (λ levels. IsLevels Min c.args.performances.items levels) (sym is) down)
+pub loop-performance-preserved : goal.loop-performance-preserved
+loop-performance-preserved c =
+    let ps : List Amount = c.args.performances.now in
+    let k = c.loop-performance.performance-index in
+    let d : Amount = record { num = pos 0; den = pos 0 } in
+    IsLevels-more c.args.direction (take k ps) (take (k + 1) ps) c.loop-performance.levels.items c.add_level.new.levels.items (get_or ps k d) c.loop-performance.invariant
+    (take_more ps k d c.loop-performance-test.true) c.in_ok-add_level.ensures.rises c.in_ok-add_level.ensures.amounts c.in_ok-add_level.ensures.members

@@ -1,7 +1,4 @@
-use Rattle.std.proofs.Common.{◌<◌, ◌∙◌, map, ap, sym, length, arith, rules}
-use Rattle.std.specs.Int.{w64}
-use Rattle.std.proofs.lemmas.Int.{to_z-of_z}
-use mir.Val.{SFits}
+use Rattle.std.proofs.Common.{◌<◌, ◌∙◌, map, ap, sym, length, arith}
 use Rattle.ror_table.specs.Table.{DecisionTable, performance_at}
 use Rattle.ror_table.specs.Contents.{criterion_of}
 use Rattle.ror_table.proofs.RowLemmas.{performance_read, row_within, length-rows}
@@ -23,6 +20,5 @@ returns c =
     let from = c.as_slice.ensures ∙ c.values.ensures.rest in
     let within : c.args.a < length c.as_slice.result.now = omega (arith, length-rows cs es c.self.inside.classes c.args.self.now c.as_slice.result.now c.self.view_is from) in
     let w = row_within cs es c.self.inside.classes c.args.self.now c.as_slice.result.now c.index-as_slice-a.result c.args.a c.args.i c.self.invariant c.self.view_is from c.index-as_slice-a.is within c.requires.criterion in
-    let fits : SFits w64 c.index.result.now = search rules in
     let here = performance_read es c.args.a c.args.i c.index-as_slice-a.result c.index.result.now w.0 w.2 w.1 c.index.ensures in
-    to_z-of_z w64 c.index.result.now fits ∙ sym here ∙ ap (λ (t : DecisionTable). performance_at t c.args.a c.args.i) c.self.view_is
+    sym here ∙ ap (λ (t : DecisionTable). performance_at t c.args.a c.args.i) c.self.view_is

@@ -7,6 +7,6 @@ use Rattle.ror_table.proofs.table.Table.find_alternative.Goals as goal
 pub returns-clause-named : goal.returns-clause-named
 returns-clause-named c =
     let index = c.self.inside.index in
-    let kept = subst (λ t. IsIndexed t index.levels.items index.offsets.items index.columns) c.self.view_is c.self.invariant in
+    let kept = subst (λ t. IsIndexed t index.levels.items c.self.inside.weights.items index.offsets.items index.columns) c.self.view_is c.self.invariant in
     place_of-has (alternative_ids c.args.self.now) c.args.id.now c.find_alternative.result kept.table.alternative_ids_distinct
     (subst (λ t. HasPlace (alternative_ids t) c.args.id.now c.find_alternative.result) c.self.view_is c.find_alternative.ensures.found)
