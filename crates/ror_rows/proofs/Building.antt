@@ -68,11 +68,11 @@ AreWide n rows = AllByRecursion (λ row. length row ≡ n) rows
 
 weak_width : (t : DecisionTable) (r : Relation) (form : Form) → IsNamedIn t form → AreWide (columns t) (weak_rows_for t r form)
 weak_width t Above form named = tt
-weak_width t AtLeast form named = (length-form_row t form named, tt)
-weak_width t Equal form named = (length-form_row t form named, (length-form_row t (turned form) (turned-named t form named), tt))
+weak_width t AtLeast form named = (length-form_row t form, tt)
+weak_width t Equal form named = (length-form_row t form, (length-form_row t (turned form), tt))
 
 strict_width : (t : DecisionTable) (r : Relation) (form : Form) → IsNamedIn t form → AreWide (columns t) (strict_rows_for t r form)
-strict_width t Above form named = (length-form_row t form named, tt)
+strict_width t Above form named = (length-form_row t form, tt)
 strict_width t AtLeast form named = tt
 strict_width t Equal form named = tt
 

@@ -19,15 +19,13 @@ use Rattle.ror_statement.specs.declared.statement.Statement.{Statement}
 use Rattle.ror_statement.specs.Statements.{comparisons_of}
 use Rattle.ror_statement.specs.Names.{ScopeWithin, PairWithin}
 use Rattle.ror_table.specs.Table.{DecisionTable, rank, columns}
-use Rattle.ror_table.proofs.RankLemmas.{rank-le-steps}
 use Rattle.ror_system.specs.System.{Solves}
 use Rattle.ror_value.specs.Over.{IsNamedIn, IsLawfulIn}
 use Rattle.ror_value.specs.Value.{marginal, value}
 use Rattle.ror_value.specs.Meaning.{value_in, strength, first_quantity, second_quantity, Stands, Holds, IsCompatible}
-use Rattle.ror_value.proofs.Values.{dot-blocks, dot-values}
+use Rattle.ror_value.proofs.Values.{dot-blocks, dot-values, marginal-zero}
 use Rattle.ror_rows.specs.Rows.{value_row, rank_in, scope_row, pair_row, form_row, turned, weak_rows_for, strict_rows_for, weak_rows, strict_rows, system_for}
 use Rattle.ror_rows.specs.Laws.{AreNamed}
-use Rattle.ror_rows.proofs.Entries.{rank_in-le}
 use Rattle.ror_rows.proofs.Building.{turned-named, comparisons_named}
 
 -- ---- rows against a function
@@ -38,12 +36,12 @@ WeakHold w rows = AllByRecursion (λ row. pos 0 ≤ℤ dot row w) rows
 abbrev pub StrictHold : List ℤ → List (List ℤ) → Type 0
 StrictHold w rows = AllByRecursion (λ row. pos 0 <ℤ dot row w) rows
 
-dot-value_row : (t : DecisionTable) (w : List ℤ) (a : ℕ) → a < length t.alternatives → dot (value_row t a) w ≡ value t w a
-dot-value_row t w a within = dot-values t w a (λ i. rank-le-steps t a i within)
+dot-value_row : (t : DecisionTable) (w : List ℤ) (a : ℕ) → dot (value_row t a) w ≡ value t w a
+dot-value_row t w a = dot-values t w a
 
 -- the marginal value at the rank within one criterion: nothing elsewhere
 marginal-elsewhere : (t : DecisionTable) (w : List ℤ) (k a i : ℕ) → (i == k) ≡ false → marginal t w i (rank_in t (One k) a i) ≡ pos 0
-marginal-elsewhere t w k a i is = rw is refl
+marginal-elsewhere t w k a i is = rw is (marginal-zero t w i)
 
 marginal-there : (t : DecisionTable) (w : List ℤ) (k a i : ℕ) → (i == k) ≡ true → marginal t w i (rank_in t (One k) a i) ≡ marginal t w k (rank t a k)
 marginal-there t w k a i is = rw is (ap (λ (j : ℕ). marginal t w j (rank t a j)) (eqb-true i k is))
@@ -73,20 +71,20 @@ marginals_in_one t w k a zero s low high = absurd (omega (arith, low, high))
 marginals_in_one t w k a (suc n) s low high =
     marginals_from t w k a n s (s == k) refl low (λ more. marginals_in_one t w k a n (s + 1) more (omega (arith, high)))
 
-dot-scope_row : (t : DecisionTable) (w : List ℤ) (s : Scope) (a : ℕ) → a < length t.alternatives → ScopeWithin (length t.criteria) s → dot (scope_row t s a) w ≡ value_in t w s a
-dot-scope_row t w Whole a within scope = dot-value_row t w a within
-dot-scope_row t w (One k) a within scope =
-    dot-blocks t w (rank_in t (One k) a) (rank_in-le t (One k) a within) (length t.criteria) 0
+dot-scope_row : (t : DecisionTable) (w : List ℤ) (s : Scope) (a : ℕ) → ScopeWithin (length t.criteria) s → dot (scope_row t s a) w ≡ value_in t w s a
+dot-scope_row t w Whole a scope = dot-value_row t w a
+dot-scope_row t w (One k) a scope =
+    dot-blocks t w (rank_in t (One k) a) (length t.criteria) 0
     ∙ marginals_in_one t w k a (length t.criteria) 0 (omega arith) (omega (arith, scope))
 
 dot-pair_row : (t : DecisionTable) (w : List ℤ) (s : Scope) (p : Pair) → PairWithin (length t.alternatives) p → ScopeWithin (length t.criteria) s → dot (pair_row t s p) w ≡ strength t w s p
 dot-pair_row t w s p pair scope =
     dot-row_difference_left (scope_row t s p.first) (scope_row t s p.second) w
-    ∙ ap₂ (λ (x y : ℤ). x -ℤ y) (dot-scope_row t w s p.first pair.0 scope) (dot-scope_row t w s p.second pair.1 scope)
+    ∙ ap₂ (λ (x y : ℤ). x -ℤ y) (dot-scope_row t w s p.first scope) (dot-scope_row t w s p.second scope)
 
 pub dot-form_row : (t : DecisionTable) (w : List ℤ) (form : Form) → IsNamedIn t form → dot (form_row t form) w ≡ first_quantity t w form -ℤ second_quantity t w form
 dot-form_row t w (Value a b) named =
-    dot-row_difference_left (value_row t a) (value_row t b) w ∙ ap₂ (λ (x y : ℤ). x -ℤ y) (dot-value_row t w a named.0) (dot-value_row t w b named.1)
+    dot-row_difference_left (value_row t a) (value_row t b) w ∙ ap₂ (λ (x y : ℤ). x -ℤ y) (dot-value_row t w a) (dot-value_row t w b)
 dot-form_row t w (Strength p q s) named =
     dot-row_difference_left (pair_row t s p) (pair_row t s q) w ∙ ap₂ (λ (x y : ℤ). x -ℤ y) (dot-pair_row t w s p named.0 named.2) (dot-pair_row t w s q named.1 named.2)
 

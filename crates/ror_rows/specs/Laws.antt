@@ -1,5 +1,5 @@
 -- The laws of rows and systems: they hold exactly of the functions that are meant.
-use Rattle.std.specs.Prelude.{◌≡◌, ◌↔◌, ℕ, ◌<◌, ◌≤◌, List, [], ◌∷◌, length, ℤ, pos}
+use Rattle.std.specs.Prelude.{◌≡◌, ◌↔◌, ℕ, ◌<◌, ◌≤◌, true, false, List, [], ◌∷◌, length, ℤ, pos}
 use Rattle.std.specs.List.{AllByRecursion}
 use Rattle.ror_integers.specs.Vectors.{entry}
 use Rattle.ror_statement.specs.declared.statement.Statement.{Statement}
@@ -8,7 +8,7 @@ use Rattle.ror_statement.specs.declared.question.QuestionKind.TheVariants.{Plain
 use Rattle.ror_statement.specs.declared.question.Question.{Question}
 use Rattle.ror_statement.specs.declared.question.Conclusion.TheVariants.{Yes}
 use Rattle.ror_statement.specs.Questions.{kind_of, property_of}
-use Rattle.ror_table.specs.Table.{DecisionTable, rank, steps, column, columns}
+use Rattle.ror_table.specs.Table.{DecisionTable, is_linear, rank, steps, has_weights, weight, column, columns}
 use Rattle.ror_system.specs.System.{Solves, IsSolvable}
 use Rattle.ror_value.specs.Over.{IsNamedIn, IsLawfulIn, IsAskedIn}
 use Rattle.ror_value.specs.Meaning.{Holds, Has, IsCompatible, IsConsistent, Answers}
@@ -60,11 +60,16 @@ pub record SystemsDecide : Type 0 where
   pub plain : (t : DecisionTable) (list : List Statement) (q : Question)
       → IsConsistent t list → kind_of q ≡ Plain → Answers t list q Yes
 
--- the row of an alternative's value has 1 at the column of each step up to its rank, and 0 at the columns beyond
+-- the row of an alternative's value has 1 at the column of each step up to its rank on a stepwise criterion, 0 at the columns
+-- beyond, and the weight of its level at the column of a linear one
 pub record ValueRowEntries : Type 0 where
   pub width : (t : DecisionTable) (a : ℕ) → a < length t.alternatives
       → length (value_row t a) ≡ columns t
   pub one : (t : DecisionTable) (a i k : ℕ) → a < length t.alternatives → i < length t.criteria
-      → 0 < k → k ≤ rank t a i → entry (value_row t a) (column t i k) ≡ pos 1
+      → is_linear t i ≡ false → 0 < k → k ≤ rank t a i
+      → entry (value_row t a) (column t i k) ≡ pos 1
   pub zero : (t : DecisionTable) (a i k : ℕ) → a < length t.alternatives → i < length t.criteria
-      → rank t a i < k → k ≤ steps t i → entry (value_row t a) (column t i k) ≡ pos 0
+      → is_linear t i ≡ false → rank t a i < k → k ≤ steps t i
+      → entry (value_row t a) (column t i k) ≡ pos 0
+  pub weighted : (t : DecisionTable) (a i : ℕ) → a < length t.alternatives → i < length t.criteria
+      → has_weights t i ≡ true → entry (value_row t a) (column t i 1) ≡ weight t i (rank t a i)

@@ -20,15 +20,16 @@ use Rattle.ror_statement.specs.declared.question.Property.TheVariants as propert
 use Rattle.ror_statement.specs.declared.question.Question.{Question}
 use Rattle.ror_statement.specs.Statements.{comparison_by, comparisons_of}
 use Rattle.ror_statement.specs.Questions.{kind_of, property_of}
+use Rattle.ror_table.specs.Blocks.{block}
 use Rattle.ror_table.specs.Table.{DecisionTable, rank, columns}
-use Rattle.ror_value.specs.Value.{block}
 use Rattle.ror_value.specs.Meaning.{assignments_of}
 use Rattle.ror_system.specs.System.{LinearSystem}
 use Rattle.ror_rows.specs.declared.extra.Extra.{Extra}
 
 -- ---- rows
 
--- the row of an alternative's value: 1 at each step up to the alternative's rank on its criterion, else 0
+-- the row of an alternative's value: 1 at each step up to the alternative's rank on its criterion, else 0; on a linear
+-- criterion the weight of the alternative's level
 abbrev pub value_row : DecisionTable → ℕ → List ℤ
 value_row t a = flat_map (λ i. block t i (rank t a i)) (range_with_len 0 (length t.criteria))
 

@@ -21,8 +21,8 @@ pub fn systems_decide()
     ensures { SystemsDecide }
 {}
 
-/// The row of an alternative has a column for each step of each criterion, and the entry is 1 at each step up to the
-/// alternative's rank, else 0.
+/// The row of an alternative has an entry for each column. On a stepwise criterion it is 1 at each step up to the alternative's
+/// rank, else 0; on a linear one it is the weight of the alternative's level.
 pub fn value_row_entries()
     ensures { ValueRowEntries }
 {}

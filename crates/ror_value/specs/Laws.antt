@@ -1,5 +1,5 @@
 -- The laws of value functions, of meeting a list, of conclusions, of necessary and possible preference, and of classes.
-use Rattle.std.specs.Prelude.{◌≡◌, ◌↔◌, ◌⊎◌, ℕ, ◌<◌, ◌≤◌, List, length, map, slice_get, Some, ℤ, pos, ◌≤ℤ◌, ◌<ℤ◌}
+use Rattle.std.specs.Prelude.{◌≡◌, ◌↔◌, ◌⊎◌, ℕ, ◌<◌, ◌≤◌, true, List, length, map, slice_get, Some, ℤ, pos, ◌*ℤ◌, ◌≤ℤ◌, ◌<ℤ◌}
 use Rattle.std.specs.List.{AllByRecursion, range_with_len}
 use Rattle.ror_integers.specs.Vectors.{dot, total}
 use Rattle.ror_statement.specs.declared.statement.Statement.{Statement}
@@ -12,24 +12,34 @@ use Rattle.ror_statement.specs.declared.question.Question.TheVariants.{Necessary
 use Rattle.ror_statement.specs.declared.question.Conclusion.{Conclusion}
 use Rattle.ror_statement.specs.Statements.{comparison_of, assignment_of}
 use Rattle.ror_statement.specs.Questions.{property_of}
-use Rattle.ror_table.specs.Table.{DecisionTable, steps}
+use Rattle.ror_table.specs.Blocks.{block}
+use Rattle.ror_table.specs.Laws.{apart}
+use Rattle.ror_table.specs.Table.{DecisionTable, IsTable, has_weights, level, steps}
 use Rattle.ror_value.specs.Over.{IsValidIn}
-use Rattle.ror_value.specs.Value.{IsValueFunction, steps_on, marginal, value, block}
+use Rattle.ror_value.specs.Value.{IsValueFunction, steps_on, marginal, value, ideal_value}
 use Rattle.ror_value.specs.Meaning.{Holds, Meets, worst_class, best_class, Has, IsConsistent, HoldsOfCompatible, Answers}
 
--- marginal values start at 0 and never fall, those at the best levels sum to the total, and so each value lies
--- between 0 and the total
+-- marginal values start at 0 and never fall, those at the best levels sum to the ideal value, which is above 0, and so each
+-- value lies between 0 and the ideal one
 pub record IsNormalisedAndMonotone (t : DecisionTable) (w : List ℤ) : Type 0 where
   pub zero_at_worst : (i : ℕ) → marginal t w i 0 ≡ pos 0
   pub monotone : (i r s : ℕ) → r ≤ s → marginal t w i r ≤ℤ marginal t w i s
-  pub total_at_best : total (map (λ i. marginal t w i (steps t i))
-      (range_with_len 0 (length t.criteria))) ≡ total w
+  pub ideal_at_best : total (map (λ i. marginal t w i (steps t i))
+      (range_with_len 0 (length t.criteria))) ≡ ideal_value t w
+  pub positive_ideal : pos 0 <ℤ ideal_value t w
   pub not_below_zero : (a : ℕ) → pos 0 ≤ℤ value t w a
-  pub not_above_total : (a : ℕ) → value t w a ≤ℤ total w
+  pub not_above_ideal : (a : ℕ) → value t w a ≤ℤ ideal_value t w
 
 abbrev pub NormalisedAndMonotone : Type 0
-NormalisedAndMonotone = (t : DecisionTable) (w : List ℤ) → IsValueFunction t w
+NormalisedAndMonotone = (t : DecisionTable) (w : List ℤ) → IsTable t → IsValueFunction t w
     → IsNormalisedAndMonotone t w
+
+-- on a linear criterion the marginal values of the levels are in the ratios of their distances from the worst level
+abbrev pub LinearBetweenEnds : Type 0
+LinearBetweenEnds = (t : DecisionTable) (w : List ℤ) (i r s : ℕ) → IsTable t → i < length t.criteria
+    → has_weights t i ≡ true → r ≤ steps t i → s ≤ steps t i
+    → marginal t w i r *ℤ (pos (apart (level t i s) (level t i 0)) *ℤ (level t i r).den)
+    ≡ marginal t w i s *ℤ (pos (apart (level t i r) (level t i 0)) *ℤ (level t i s).den)
 
 -- a marginal value is the dot product of the block at the rank with the steps on the criterion
 abbrev pub MarginalIsDot : Type 0

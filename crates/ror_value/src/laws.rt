@@ -1,15 +1,20 @@
 //! Each function here states one law, for all tables and lists, and does nothing.
 
-ghost use Rattle.ror_value.specs.Laws.{ClassByEachAssignment, ClassIntervals, MarginalIsDot, MeetingIsOfEach, NormalisedAndMonotone, OneConclusion, RelationsOfConsistent};
+ghost use Rattle.ror_value.specs.Laws.{ClassByEachAssignment, ClassIntervals, LinearBetweenEnds, MarginalIsDot, MeetingIsOfEach, NormalisedAndMonotone, OneConclusion, RelationsOfConsistent};
 
-/// A value function has marginal values that start at 0 and never fall from one level to the next better one; those
-/// at the best levels sum to its total, so the value of each alternative lies between 0 and the total.
+/// A value function of a table has marginal values that start at 0 and never fall from one level to the next better one; those
+/// at the best levels sum to its ideal value, which is above 0, so the value of each alternative lies between 0 and that.
 pub fn normalised_and_monotone()
     ensures { NormalisedAndMonotone }
 {}
 
-/// A marginal value, the sum of the first steps on a criterion, is the dot product of the steps with the row that
-/// has 1 at each step up to the rank and 0 at the others.
+/// On a linear criterion the marginal values of the levels are in the ratios of their distances from the worst level.
+pub fn linear_between_ends()
+    ensures { LinearBetweenEnds }
+{}
+
+/// A marginal value is the dot product of the function's numbers on the criterion with the criterion's columns at the rank: 1 at
+/// each step up to the rank and 0 at the others, or the weight of the level.
 pub fn marginal_is_dot()
     ensures { MarginalIsDot }
 {}

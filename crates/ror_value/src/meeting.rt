@@ -2,12 +2,11 @@
 
 ghost use Rattle.std.specs.Prelude.{◌≡◌, ◌↔◌, ◌<◌, ◌≤ℤ◌, pos, length, IsTrue, option_to_list};
 ghost use Rattle.std.specs.List.{AllByRecursion, flat_map};
-ghost use Rattle.ror_integers.specs.Vectors.{total};
 ghost use Rattle.ror_statement.specs.Statements.{comparison_of, outranking, class_comparisons};
 ghost use Rattle.ror_statement.specs.Names.{ScopeWithin, PairWithin};
 ghost use Rattle.ror_system.specs.System.{IsNarrow};
 ghost use Rattle.ror_value.specs.Over.{IsNamedIn, IsValidIn};
-ghost use Rattle.ror_value.specs.Value.{IsValueFunction};
+ghost use Rattle.ror_value.specs.Value.{IsFunctionOf};
 ghost use Rattle.ror_value.specs.Meaning.{value_in, strength, first_quantity, second_quantity, Holds, Meets};
 
 use crate::value_function::ValueFunction;
@@ -20,17 +19,17 @@ impl ValueFunction {
     ///
     /// It asks that what the statements name is in the table.
     pub fn meets(&self, table: &Table, list: &[Statement]) -> bool
-        requires function { IsValueFunction table.now self.now }
+        requires function { IsFunctionOf table.now self.now }
         requires named { AllByRecursion (IsValidIn table.now) list.now }
-        ensures { IsTrue result ↔ Meets table.now self.now list.now }
+        ensures { IsTrue result ↔ Meets table.now self.now.steps list.now }
     {
         self.meets_each(table, list) && self.ranks_classes(table, list)
     }
 
     fn meets_each(&self, table: &Table, list: &[Statement]) -> bool
-        requires function { IsValueFunction table.now self.now }
+        requires function { IsFunctionOf table.now self.now }
         requires named { AllByRecursion (IsValidIn table.now) list.now }
-        ensures { IsTrue result ↔ AllByRecursion (Holds table.now self.now)
+        ensures { IsTrue result ↔ AllByRecursion (Holds table.now self.now.steps)
             (flat_map (λ s. option_to_list (comparison_of s)) list.now) }
     {
         for statement in list {
@@ -42,9 +41,9 @@ impl ValueFunction {
     }
 
     fn meets_one(&self, table: &Table, statement: Statement) -> bool
-        requires function { IsValueFunction table.now self.now }
+        requires function { IsFunctionOf table.now self.now }
         requires named { IsValidIn table.now statement }
-        ensures { IsTrue result ↔ AllByRecursion (Holds table.now self.now)
+        ensures { IsTrue result ↔ AllByRecursion (Holds table.now self.now.steps)
             (option_to_list (comparison_of statement)) }
     {
         match statement.comparison() {
@@ -54,9 +53,9 @@ impl ValueFunction {
     }
 
     fn ranks_classes(&self, table: &Table, list: &[Statement]) -> bool
-        requires function { IsValueFunction table.now self.now }
+        requires function { IsFunctionOf table.now self.now }
         requires named { AllByRecursion (IsValidIn table.now) list.now }
-        ensures { IsTrue result ↔ AllByRecursion (Holds table.now self.now)
+        ensures { IsTrue result ↔ AllByRecursion (Holds table.now self.now.steps)
             (class_comparisons list.now) }
     {
         for first in list {
@@ -68,10 +67,10 @@ impl ValueFunction {
     }
 
     fn ranks_above(&self, table: &Table, first: Statement, list: &[Statement]) -> bool
-        requires function { IsValueFunction table.now self.now }
+        requires function { IsFunctionOf table.now self.now }
         requires first { IsValidIn table.now first }
         requires named { AllByRecursion (IsValidIn table.now) list.now }
-        ensures { IsTrue result ↔ AllByRecursion (Holds table.now self.now)
+        ensures { IsTrue result ↔ AllByRecursion (Holds table.now self.now.steps)
             (flat_map (outranking first) list.now) }
     {
         for second in list {
@@ -83,10 +82,10 @@ impl ValueFunction {
     }
 
     fn ranks_pair(&self, table: &Table, first: Statement, second: Statement) -> bool
-        requires function { IsValueFunction table.now self.now }
+        requires function { IsFunctionOf table.now self.now }
         requires first { IsValidIn table.now first }
         requires second { IsValidIn table.now second }
-        ensures { IsTrue result ↔ AllByRecursion (Holds table.now self.now)
+        ensures { IsTrue result ↔ AllByRecursion (Holds table.now self.now.steps)
             (outranking first second) }
     {
         match (first.assignment(), second.assignment()) {
@@ -99,9 +98,9 @@ impl ValueFunction {
 
     /// Whether the function has the two quantities in the relation.
     fn has(&self, table: &Table, comparison: Comparison) -> bool
-        requires function { IsValueFunction table.now self.now }
+        requires function { IsFunctionOf table.now self.now }
         requires named { IsNamedIn table.now comparison.form }
-        ensures { IsTrue result ↔ Holds table.now self.now comparison }
+        ensures { IsTrue result ↔ Holds table.now self.now.steps comparison }
     {
         // The difference of two intensities may not fit; the intensities do.
         let (first, second) = self.quantities(table, comparison.form);
@@ -113,10 +112,10 @@ impl ValueFunction {
     }
 
     fn quantities(&self, table: &Table, form: Form) -> (i128, i128)
-        requires function { IsValueFunction table.now self.now }
+        requires function { IsFunctionOf table.now self.now }
         requires named { IsNamedIn table.now form }
-        ensures first { result.0 ≡ first_quantity table.now self.now form }
-        ensures second { result.1 ≡ second_quantity table.now self.now form }
+        ensures first { result.0 ≡ first_quantity table.now self.now.steps form }
+        ensures second { result.1 ≡ second_quantity table.now self.now.steps form }
     {
         match form {
             Form::Value(a, b) => (self.value(table, a), self.value(table, b)),
@@ -128,21 +127,21 @@ impl ValueFunction {
     }
 
     fn strength(&self, table: &Table, scope: Scope, pair: Pair) -> i128
-        requires function { IsValueFunction table.now self.now }
+        requires function { IsFunctionOf table.now self.now }
         requires scope { ScopeWithin (length table.now.criteria) scope }
         requires pair { PairWithin (length table.now.alternatives) pair }
-        ensures { result ≡ strength table.now self.now scope pair }
+        ensures { result ≡ strength table.now self.now.steps scope pair }
     {
         self.value_in(table, scope, pair.first) - self.value_in(table, scope, pair.second)
     }
 
     fn value_in(&self, table: &Table, scope: Scope, alternative: usize) -> i128
-        requires function { IsValueFunction table.now self.now }
+        requires function { IsFunctionOf table.now self.now }
         requires scope { ScopeWithin (length table.now.criteria) scope }
         requires alternative { alternative < length table.now.alternatives }
-        ensures number { result ≡ value_in table.now self.now scope alternative }
-        ensures bounds { (pos 0 ≤ℤ result) × (result ≤ℤ total self.now) }
-        ensures narrow { IsNarrow (total self.now) }
+        ensures number { result ≡ value_in table.now self.now.steps scope alternative }
+        ensures bounds { (pos 0 ≤ℤ result) × (result ≤ℤ self.now.total) }
+        ensures narrow { IsNarrow self.now.total }
     {
         // The total is a number of 128 bits.
         let _total = self.total();

@@ -1,34 +1,73 @@
-use Rattle.std.proofs.Common.{ℤ, ◌-ℤ◌, ap₂}
-use Rattle.std.specs.Int.{w128}
+use Rattle.std.proofs.Common.{ℤ, ◌-ℤ◌, FitsSigned, ap₂, rules}
+use Rattle.std.specs.Int.{w64, w128}
 use Rattle.std.proofs.lemmas.Int.{to_z-of_z}
-use Rattle.ror_rows.proofs.FormLemmas.{fits_small, fits_difference, fits_entry}
+use Rattle.ror_rows.proofs.FormLemmas.{widened, fits_difference, fits_entry, small_entry}
 use Rattle.ror_rows.proofs.differences.entry_of.Goals as goal
 
 pub overflow_sub-result : goal.overflow_sub-result
 overflow_sub-result c =
-    let a = c.step_entry.ensures.small in
-    let b = c.step_entry-2.ensures.small in
-    let d = c.step_entry-3.ensures.small in
-    let e = c.step_entry-4.ensures.small in
-    let fa = to_z-of_z w128 _ (fits_small c.step_entry.result a.0 a.1) in
-    let fb = to_z-of_z w128 _ (fits_small c.step_entry-2.result b.0 b.1) in
-    let fd = to_z-of_z w128 _ (fits_small c.step_entry-3.result d.0 d.1) in
-    let fe = to_z-of_z w128 _ (fits_small c.step_entry-4.result e.0 e.1) in
-    let fab = to_z-of_z w128 _ (fits_difference c.step_entry.result c.step_entry-2.result a.0 a.1 b.0 b.1) in
-    let fde = to_z-of_z w128 _ (fits_difference c.step_entry-3.result c.step_entry-4.result d.0 d.1 e.0 e.1) in
-    rw (fa, fb, fd, fe, fab, fde) (fits_entry c.step_entry.result c.step_entry-2.result c.step_entry-3.result c.step_entry-4.result a.0 a.1 b.0 b.1 d.0 d.1 e.0 e.1)
+    let f0 : FitsSigned w64 c.block_entry.result = search rules in
+    let f1 : FitsSigned w64 c.block_entry-2.result = search rules in
+    let f2 : FitsSigned w64 c.block_entry-3.result = search rules in
+    let f3 : FitsSigned w64 c.block_entry-4.result = search rules in
+    let g0 : FitsSigned w128 c.from.result = search rules in
+    let g1 : FitsSigned w128 c.from-2.result = search rules in
+    let g2 : FitsSigned w128 c.from-3.result = search rules in
+    let g3 : FitsSigned w128 c.from-4.result = search rules in
+    let e0 = widened c.block_entry.result c.from.result f0 g0 c.from.ensures in
+    let e1 = widened c.block_entry-2.result c.from-2.result f1 g1 c.from-2.ensures in
+    let e2 = widened c.block_entry-3.result c.from-3.result f2 g2 c.from-3.ensures in
+    let e3 = widened c.block_entry-4.result c.from-4.result f3 g3 c.from-4.ensures in
+    let s0 = c.block_entry.ensures.small in
+    let s1 = c.block_entry-2.ensures.small in
+    let s2 = c.block_entry-3.ensures.small in
+    let s3 = c.block_entry-4.ensures.small in
+    let first = to_z-of_z w128 _ (fits_difference c.block_entry.result c.block_entry-2.result s0 s1) in
+    let second = to_z-of_z w128 _ (fits_difference c.block_entry-3.result c.block_entry-4.result s2 s3) in
+    rw (e0, e1, e2, e3, first, second) (fits_entry c.block_entry.result c.block_entry-2.result c.block_entry-3.result c.block_entry-4.result s0 s1 s2 s3)
 
-pub returns : goal.returns
-returns c =
-    let a = c.step_entry.ensures.small in
-    let b = c.step_entry-2.ensures.small in
-    let d = c.step_entry-3.ensures.small in
-    let e = c.step_entry-4.ensures.small in
-    let fa = to_z-of_z w128 _ (fits_small c.step_entry.result a.0 a.1) in
-    let fb = to_z-of_z w128 _ (fits_small c.step_entry-2.result b.0 b.1) in
-    let fd = to_z-of_z w128 _ (fits_small c.step_entry-3.result d.0 d.1) in
-    let fe = to_z-of_z w128 _ (fits_small c.step_entry-4.result e.0 e.1) in
-    let fab = to_z-of_z w128 _ (fits_difference c.step_entry.result c.step_entry-2.result a.0 a.1 b.0 b.1) in
-    let fde = to_z-of_z w128 _ (fits_difference c.step_entry-3.result c.step_entry-4.result d.0 d.1 e.0 e.1) in
-    let whole = to_z-of_z w128 _ (fits_entry c.step_entry.result c.step_entry-2.result c.step_entry-3.result c.step_entry-4.result a.0 a.1 b.0 b.1 d.0 d.1 e.0 e.1) in
-    rw (fa, fb, fd, fe, fab, fde, whole) (ap₂ (λ (x y : ℤ). x -ℤ y) (ap₂ (λ (x y : ℤ). x -ℤ y) c.step_entry.ensures.number c.step_entry-2.ensures.number) (ap₂ (λ (x y : ℤ). x -ℤ y) c.step_entry-3.ensures.number c.step_entry-4.ensures.number))
+pub returns-clause-value : goal.returns-clause-value
+returns-clause-value c =
+    let f0 : FitsSigned w64 c.block_entry.result = search rules in
+    let f1 : FitsSigned w64 c.block_entry-2.result = search rules in
+    let f2 : FitsSigned w64 c.block_entry-3.result = search rules in
+    let f3 : FitsSigned w64 c.block_entry-4.result = search rules in
+    let g0 : FitsSigned w128 c.from.result = search rules in
+    let g1 : FitsSigned w128 c.from-2.result = search rules in
+    let g2 : FitsSigned w128 c.from-3.result = search rules in
+    let g3 : FitsSigned w128 c.from-4.result = search rules in
+    let e0 = widened c.block_entry.result c.from.result f0 g0 c.from.ensures in
+    let e1 = widened c.block_entry-2.result c.from-2.result f1 g1 c.from-2.ensures in
+    let e2 = widened c.block_entry-3.result c.from-3.result f2 g2 c.from-3.ensures in
+    let e3 = widened c.block_entry-4.result c.from-4.result f3 g3 c.from-4.ensures in
+    let s0 = c.block_entry.ensures.small in
+    let s1 = c.block_entry-2.ensures.small in
+    let s2 = c.block_entry-3.ensures.small in
+    let s3 = c.block_entry-4.ensures.small in
+    let first = to_z-of_z w128 _ (fits_difference c.block_entry.result c.block_entry-2.result s0 s1) in
+    let second = to_z-of_z w128 _ (fits_difference c.block_entry-3.result c.block_entry-4.result s2 s3) in
+    let whole = to_z-of_z w128 _ (fits_entry c.block_entry.result c.block_entry-2.result c.block_entry-3.result c.block_entry-4.result s0 s1 s2 s3) in
+    rw (e0, e1, e2, e3, first, second, whole) (ap₂ (λ (x y : ℤ). x -ℤ y) (ap₂ (λ (x y : ℤ). x -ℤ y) c.block_entry.ensures.value c.block_entry-2.ensures.value) (ap₂ (λ (x y : ℤ). x -ℤ y) c.block_entry-3.ensures.value c.block_entry-4.ensures.value))
+
+pub returns-clause-narrow : goal.returns-clause-narrow
+returns-clause-narrow c =
+    let f0 : FitsSigned w64 c.block_entry.result = search rules in
+    let f1 : FitsSigned w64 c.block_entry-2.result = search rules in
+    let f2 : FitsSigned w64 c.block_entry-3.result = search rules in
+    let f3 : FitsSigned w64 c.block_entry-4.result = search rules in
+    let g0 : FitsSigned w128 c.from.result = search rules in
+    let g1 : FitsSigned w128 c.from-2.result = search rules in
+    let g2 : FitsSigned w128 c.from-3.result = search rules in
+    let g3 : FitsSigned w128 c.from-4.result = search rules in
+    let e0 = widened c.block_entry.result c.from.result f0 g0 c.from.ensures in
+    let e1 = widened c.block_entry-2.result c.from-2.result f1 g1 c.from-2.ensures in
+    let e2 = widened c.block_entry-3.result c.from-3.result f2 g2 c.from-3.ensures in
+    let e3 = widened c.block_entry-4.result c.from-4.result f3 g3 c.from-4.ensures in
+    let s0 = c.block_entry.ensures.small in
+    let s1 = c.block_entry-2.ensures.small in
+    let s2 = c.block_entry-3.ensures.small in
+    let s3 = c.block_entry-4.ensures.small in
+    let first = to_z-of_z w128 _ (fits_difference c.block_entry.result c.block_entry-2.result s0 s1) in
+    let second = to_z-of_z w128 _ (fits_difference c.block_entry-3.result c.block_entry-4.result s2 s3) in
+    let whole = to_z-of_z w128 _ (fits_entry c.block_entry.result c.block_entry-2.result c.block_entry-3.result c.block_entry-4.result s0 s1 s2 s3) in
+    rw (e0, e1, e2, e3, first, second, whole) (small_entry c.block_entry.result c.block_entry-2.result c.block_entry-3.result c.block_entry-4.result s0 s1 s2 s3)

@@ -1,4 +1,4 @@
-use Rattle.std.proofs.Common.{◌≡◌, List, length, ℤ, IfOk, sym, subst, ap, ◌∙◌, arith}
+use Rattle.std.proofs.Common.{◌≡◌, length, sym, subst, ap, ◌∙◌, arith}
 use Rattle.std.specs.List.{AllByRecursion, flat_map, range_with_len}
 use Rattle.ror_system.specs.System.{IsNarrow}
 use Rattle.ror_rows.proofs.FormLemmas.{form_block, form_row-blocks, form_row-narrow, blocks_more}
@@ -7,17 +7,15 @@ use Rattle.ror_rows.proofs.differences.row_of_form.Goals as goal
 pub loop-i-preserved : goal.loop-i-preserved
 loop-i-preserved c =
     blocks_more (form_block c.args.table.now c.args.form) c.loop-i.i c.loop-i.entries.items c.push_criterion.new.row.items c.loop-i.invariant
-    (rw (← c.steps.ensures, ← c.ranks_on.ensures) c.in_ok-push_criterion.ensures)
+    (rw (← c.ranks_on.ensures.ranks) c.in_ok-push_criterion.ensures)
 
-pub from_slice-requires : goal.from_slice-requires
-from_slice-requires c =
+pub from_vec-requires : goal.from_vec-requires
+from_vec-requires c =
     let last : c.loop-i.i ≡ length c.args.table.now.criteria = omega arith in
-    let whole = c.loop-i.invariant ∙ ap (λ n. flat_map (form_block c.args.table.now c.args.form) (range_with_len 0 n)) last ∙ sym (form_row-blocks c.args.table.now c.args.form c.requires) in
-    subst (AllByRecursion IsNarrow) (sym (c.as_slice.ensures.value ∙ whole)) (form_row-narrow c.args.table.now c.args.form c.requires)
+    let whole = c.loop-i.invariant ∙ ap (λ n. flat_map (form_block c.args.table.now c.args.form) (range_with_len 0 n)) last ∙ sym (form_row-blocks c.args.table.now c.args.form) in
+    subst (AllByRecursion IsNarrow) (sym whole) (form_row-narrow c.args.table.now c.args.form c.criteria-i-end.ensures.table)
 
 pub returns : goal.returns
 returns c =
     let last : c.loop-i.i ≡ length c.args.table.now.criteria = omega arith in
-    let whole = c.loop-i.invariant ∙ ap (λ n. flat_map (form_block c.args.table.now c.args.form) (range_with_len 0 n)) last ∙ sym (form_row-blocks c.args.table.now c.args.form c.requires) in
-    let P : List ℤ → Type 0 = λ xs. IfOk c.from_slice.result (λ row. row ≡ xs) in
-    subst P (c.as_slice.ensures.value ∙ whole) c.from_slice.ensures
+    c.from_vec.ensures ∙ c.loop-i.invariant ∙ ap (λ n. flat_map (form_block c.args.table.now c.args.form) (range_with_len 0 n)) last ∙ sym (form_row-blocks c.args.table.now c.args.form)

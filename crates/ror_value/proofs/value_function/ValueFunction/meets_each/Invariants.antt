@@ -6,5 +6,5 @@ use Rattle.ror_value.proofs.value_function.ValueFunction.meets_each.Given as goa
 
 abbrev pub invariant-loop-statement : goal.invariant-loop-statement
 invariant-loop-statement l =
-    AllByRecursion (Holds l.table l.self) (flat_map (λ s. option_to_list (comparison_of s)) l.list)
-    ↔ AllByRecursion (Holds l.table l.self) (flat_map (λ s. option_to_list (comparison_of s)) (drop l.statement-index l.list))
+    AllByRecursion (Holds l.table l.self.steps) (flat_map (λ s. option_to_list (comparison_of s)) l.list)
+    ↔ AllByRecursion (Holds l.table l.self.steps) (flat_map (λ s. option_to_list (comparison_of s)) (drop l.statement-index l.list))

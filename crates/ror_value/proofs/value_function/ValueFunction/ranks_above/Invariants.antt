@@ -6,5 +6,5 @@ use Rattle.ror_value.proofs.value_function.ValueFunction.ranks_above.Given as go
 
 abbrev pub invariant-loop-second : goal.invariant-loop-second
 invariant-loop-second l =
-    AllByRecursion (Holds l.table l.self) (flat_map (outranking l.first) l.list)
-    ↔ AllByRecursion (Holds l.table l.self) (flat_map (outranking l.first) (drop l.second-index l.list))
+    AllByRecursion (Holds l.table l.self.steps) (flat_map (outranking l.first) l.list)
+    ↔ AllByRecursion (Holds l.table l.self.steps) (flat_map (outranking l.first) (drop l.second-index l.list))

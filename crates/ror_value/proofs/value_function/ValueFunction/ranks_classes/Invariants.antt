@@ -6,5 +6,5 @@ use Rattle.ror_value.proofs.value_function.ValueFunction.ranks_classes.Given as 
 
 abbrev pub invariant-loop-first : goal.invariant-loop-first
 invariant-loop-first l =
-    AllByRecursion (Holds l.table l.self) (class_comparisons l.list)
-    ↔ AllByRecursion (Holds l.table l.self) (flat_map (λ r. flat_map (outranking r) l.list) (drop l.first-index l.list))
+    AllByRecursion (Holds l.table l.self.steps) (class_comparisons l.list)
+    ↔ AllByRecursion (Holds l.table l.self.steps) (flat_map (λ r. flat_map (outranking r) l.list) (drop l.first-index l.list))
