@@ -10,11 +10,11 @@ use Rattle.ror_statement.specs.declared.statement.Statement.{Statement}
 use Rattle.ror_statement.specs.RowNumbers.{IsLawful}
 use Rattle.ror_table.specs.declared.fault.TableFault.{TableFault}
 use Rattle.ror_table.specs.Draft.{finished}
-use Rattle.ror_table.specs.declared.fault.TableKind.TheVariants.{Empty, TooMany}
+use Rattle.ror_table.specs.declared.fault.TableKind.TheVariants.{Empty, TooMany, WideScale}
 use Rattle.ror_table.specs.declared.fault.What.TheVariants.{Steps}
 use Rattle.ror_table.specs.Plain.{at_line, plain_table}
 use Rattle.ror_table.specs.declared.limits.TheConstants.{MOST_STEPS}
-use Rattle.ror_table.specs.Table.{DecisionTable, columns}
+use Rattle.ror_table.specs.Table.{DecisionTable, columns, has_wide_scale}
 use Rattle.ror_value.specs.declared.input.Input.{Input}
 use Rattle.ror_value.specs.Over.{IsLawfulIn}
 use Rattle.ror_elements.specs.Elements.{elements_of}
@@ -57,14 +57,15 @@ all_more given t t' a (id ∷ ids) n k e h =
     let size : (n + 1) + length ids ≡ n + suc (length ids) = omega arith in
     subst (λ (m : ℕ). HasSize m k t') size (all_more given b.0 t' (a + 1) ids (n + 1) k b.2 (one_more given t b.0 (a, id) n k b.1 h))
 
-two_passed : {F T : Type 0} (f g : F) (a b : Bool) (t t' : T) → (refuse f a >>= λ _. refuse g b >>= λ _. Ok t) ≡ Ok t' → t ≡ t'
-two_passed f g true b t t' e = absurd cc
-two_passed f g false true t t' e = absurd cc
-two_passed f g false false t t' e = cc
+three_passed : {F T : Type 0} (f g h : F) (a b c : Bool) (t t' : T) → (refuse f a >>= λ _. refuse g b >>= λ _. refuse h c >>= λ _. Ok t) ≡ Ok t' → t ≡ t'
+three_passed f g h true b c t t' e = absurd cc
+three_passed f g h false true c t t' e = absurd cc
+three_passed f g h false false true t t' e = absurd cc
+three_passed f g h false false false t t' e = cc
 
-pub finished_same : {F : Type 0} (empty wide : F) (t t' : DecisionTable) → finished empty wide t ≡ Ok t' → t ≡ t'
+pub finished_same : {F : Type 0} (empty wide wide_scale : F) (t t' : DecisionTable) → finished empty wide wide_scale t ≡ Ok t' → t ≡ t'
 unfolding finished
-finished_same empty wide t t' e = two_passed empty wide (length t.criteria == 0 || length t.alternatives == 0) (nat_lt MOST_STEPS (columns t)) t t' e
+finished_same empty wide wide_scale t t' e = three_passed empty wide wide_scale (length t.criteria == 0 || length t.alternatives == 0) (nat_lt MOST_STEPS (columns t)) (has_wide_scale t) t t' e
 
 three_steps : {A T F : Type 0} (f : F) (b : Bool) (r : Result A F) (g : A → Result T F) (t : T) → (refuse f b >>= λ _. r >>= g) ≡ Ok t → (x : A) × (r ≡ Ok x) × (g x ≡ Ok t)
 three_steps f true r g t e = absurd cc
@@ -74,10 +75,10 @@ table_size : (given : Given) (c : Criteria) (ids : List (List ℕ)) (k : ℕ) (t
 unfolding table_of
 table_size given c ids k t e =
     let began : DecisionTable = record (criteria_table c) { classes = k } in
-    let b = three_steps (at_line 0 Empty) (length c.ids.kept == 0 || length ids == 0) (read_all (with_alternative given) began (enumerate_from 0 ids)) (λ t. finished (at_line 0 Empty) (at_line 0 (TooMany Steps)) t) t e in
+    let b = three_steps (at_line 0 Empty) (length c.ids.kept == 0 || length ids == 0) (read_all (with_alternative given) began (enumerate_from 0 ids)) (λ t. finished (at_line 0 Empty) (at_line 0 (TooMany Steps)) (at_line 0 WideScale) t) t e in
     let none : HasSize 0 k began = record { alternatives = ap length (alternatives-criteria_table c); classes = refl } in
     let sized : HasSize (0 + length ids) k b.0 = all_more given began b.0 0 ids 0 k b.1 none in
-    subst (HasSize (length ids) k) (finished_same (at_line 0 Empty) (at_line 0 (TooMany Steps)) b.0 t b.2) (subst (λ (m : ℕ). HasSize m k b.0) (zero-add (length ids)) sized)
+    subst (HasSize (length ids) k) (finished_same (at_line 0 Empty) (at_line 0 (TooMany Steps)) (at_line 0 WideScale) b.0 t b.2) (subst (λ (m : ℕ). HasSize m k b.0) (zero-add (length ids)) sized)
 
 pub size_in : (l : Listed) (root : Tree) (t : DecisionTable) → table_in l root ≡ Ok t → HasSize (length l.alternatives.kept) (length l.categories.ranks) t
 unfolding table_in

@@ -141,13 +141,13 @@ criterion_entries root c e = record { each = each_is IsEntry criterion criterion
 -- the criteria of these ids, from a place on
 abbrev made : List Direction → ℕ → List (List ℕ) → List Criterion
 made ds k [] = []
-made ds k (id ∷ ids) = record { id = id; direction = slice_index_or ds k Max } ∷ made ds (k + 1) ids
+made ds k (id ∷ ids) = record { id = id; direction = slice_index_or ds k Max; linear = false } ∷ made ds (k + 1) ids
 
 with_criteria-made : (ds : List Direction) (t : DecisionTable) (k : ℕ) (ids : List (List ℕ)) → (with_criteria ds t (enumerate_from k ids)).criteria ≡ t.criteria ++ made ds k ids
 with_criteria-made ds t k [] = sym (append-nil t.criteria)
 with_criteria-made ds t k (id ∷ ids) =
-    let c : Criterion = record { id = id; direction = slice_index_or ds k Max } in
-    with_criteria-made ds (add_criterion t id (slice_index_or ds k Max)) (k + 1) ids ∙ append_assoc t.criteria (c ∷ []) (made ds (k + 1) ids)
+    let c : Criterion = record { id = id; direction = slice_index_or ds k Max; linear = false } in
+    with_criteria-made ds (add_criterion t id (record { direction = slice_index_or ds k Max; linear = false })) (k + 1) ids ∙ append_assoc t.criteria (c ∷ []) (made ds (k + 1) ids)
 
 -- the direction at the place where those before end
 direction_next : (before : List Direction) (d : Direction) (more : List Direction) → slice_index_or (before ++ d ∷ more) (length before) Max ≡ d
@@ -165,7 +165,7 @@ made_are before (t ∷ ts) (id ∷ ids) (d ∷ ds) h k =
     let here : slice_index_or (before ++ d ∷ ds) (length before) Max ≡ d = direction_next before d ds in
     let rest : AllZip IsCriterion ts (made ((before ++ d ∷ []) ++ ds) (length (before ++ d ∷ [])) ids) = made_are (before ++ d ∷ []) ts ids ds h.1 k.1 in
     let lists : (before ++ d ∷ []) ++ ds ≡ before ++ d ∷ ds = append_assoc before (d ∷ []) ds in (
-      record { id = h.0; direction = subst (λ (x : Direction). IsDirection (direction_element t) x) (sym here) k.0 },
+      record { id = h.0; direction = subst (λ (x : Direction). IsDirection (direction_element t) x) (sym here) k.0; stepwise = refl },
       subst (λ (n : ℕ). AllZip IsCriterion ts (made (before ++ d ∷ ds) n ids)) (length_push before d) (subst (λ (xs : List Direction). AllZip IsCriterion ts (made xs (length (before ++ d ∷ [])) ids)) lists rest),
     )
 

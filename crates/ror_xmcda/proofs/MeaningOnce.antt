@@ -1,8 +1,9 @@
 -- A tree says one input.
-use Rattle.std.proofs.Common.{◌≡◌, ℕ, Bool, List, [], ◌∷◌, ◌++◌, Option, Some, None, Result, Ok, ℤ, refl, sym, ap, ◌∙◌, subst}
+use Rattle.std.proofs.Common.{◌≡◌, ℕ, Bool, List, [], ◌∷◌, ◌++◌, Option, Some, None, Result, Ok, refl, sym, ap, ◌∙◌, subst}
 use Rattle.std.specs.Prelude.{filter}
 use Rattle.std.specs.List.{AllZip, AllByRecursion, flat_map}
 use Rattle.ror_statement.specs.declared.statement.Statement.{Statement}
+use Rattle.ror_table.specs.declared.amount.Amount.{Amount}
 use Rattle.ror_table.specs.declared.direction.Direction.{Direction}
 use Rattle.ror_table.specs.declared.fault.TableFault.{TableFault}
 use Rattle.ror_table.specs.Table.{Criterion, Alternative, DecisionTable}
@@ -27,19 +28,19 @@ direction_same None d e p q = p ∙ sym q
 direction_same (Some t) d e p q = some_same d e _ p q
 
 criterion_same : (t : Tree) (c d : Criterion) → IsCriterion t c → IsCriterion t d → c ≡ d
-criterion_same t c d p q = both c.id d.id c.direction d.direction (some_same c.id d.id _ p.id q.id) (direction_same _ c.direction d.direction p.direction q.direction)
+criterion_same t c d p q = both c.id d.id c.direction d.direction c.linear d.linear (some_same c.id d.id _ p.id q.id) (direction_same _ c.direction d.direction p.direction q.direction) (p.stepwise ∙ sym q.stepwise)
   where
-    both : (i j : List ℕ) (x y : Direction) → i ≡ j → x ≡ y → ◌≡◌ {A = Criterion} (record { id = i; direction = x }) (record { id = j; direction = y })
-    both i j x y same also = rw (same, also) refl
+    both : (i j : List ℕ) (x y : Direction) (k l : Bool) → i ≡ j → x ≡ y → k ≡ l → ◌≡◌ {A = Criterion} (record { id = i; direction = x; linear = k }) (record { id = j; direction = y; linear = l })
+    both i j x y k l same also third = rw (same, also, third) refl
 
-number_same : (t : Tree) (z w : ℤ) → HasNumber t z → HasNumber t w → z ≡ w
+number_same : (t : Tree) (z w : Amount) → HasNumber t z → HasNumber t w → z ≡ w
 number_same t z w p q =
     let value : p.value ≡ q.value = some_same p.value q.value _ p.first q.first in
     let other : number_of p.value ≡ Ok w = subst (λ (v : Tree). number_of v ≡ Ok w) (sym value) q.number in
-    let numbers : ◌≡◌ {A = Result ℤ TableFault} (Ok z) (Ok w) = sym p.number ∙ other in
+    let numbers : ◌≡◌ {A = Result Amount TableFault} (Ok z) (Ok w) = sym p.number ∙ other in
     cc
 
-performance_same : (root : Tree) (alternative criterion : List ℕ) (z w : ℤ) → IsPerformance root alternative criterion z → IsPerformance root alternative criterion w → z ≡ w
+performance_same : (root : Tree) (alternative criterion : List ℕ) (z w : Amount) → IsPerformance root alternative criterion z → IsPerformance root alternative criterion w → z ≡ w
 performance_same root alternative criterion z w p q =
     let lists : p.element ∷ [] ≡ q.element ∷ [] = sym p.only ∙ q.only in
     let same : p.element ≡ q.element = cc in
@@ -51,7 +52,7 @@ alternative_same root cs t a b p q h k =
     let moved : AllZip (λ c z. IsPerformance root a.id c.id z) cs b.performances = subst (λ (i : List ℕ). AllZip (λ c z. IsPerformance root i c.id z) cs b.performances) (sym id) k in
     both a.id b.id a.performances b.performances id (zip_same (λ c z. IsPerformance root a.id c.id z) (λ c z w. performance_same root a.id c.id z w) cs a.performances b.performances h moved)
   where
-    both : (i j : List ℕ) (xs ys : List ℤ) → i ≡ j → xs ≡ ys → ◌≡◌ {A = Alternative} (record { id = i; performances = xs }) (record { id = j; performances = ys })
+    both : (i j : List ℕ) (xs ys : List Amount) → i ≡ j → xs ≡ ys → ◌≡◌ {A = Alternative} (record { id = i; performances = xs }) (record { id = j; performances = ys })
     both i j xs ys same also = rw (same, also) refl
 
 alternatives_same : (root : Tree) (cs : List Criterion) (ts : List Tree) (us vs : List Alternative) → AllZip IsAlternative ts us → AllZip IsAlternative ts vs → AllByRecursion (AreItsPerformances root cs) us → AllByRecursion (AreItsPerformances root cs) vs → us ≡ vs

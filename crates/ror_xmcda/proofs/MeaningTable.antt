@@ -1,5 +1,5 @@
 -- The performances of a file that is read, and the table of them.
-use Rattle.std.proofs.Common.{◌≡◌, ℕ, zero, suc, ◌+◌, ◌<◌, Bool, true, false, List, [], ◌∷◌, ◌++◌, length, map, get_or, Option, Some, None, Result, Ok, ℤ, refl, sym, ap, ◌∙◌, arith, cond, subst, append-nil, append_assoc, zero-add, rules}
+use Rattle.std.proofs.Common.{◌≡◌, ℕ, zero, suc, ◌+◌, ◌<◌, Bool, true, false, List, [], ◌∷◌, ◌++◌, length, map, get_or, Option, Some, None, Result, Ok, refl, sym, ap, ◌∙◌, arith, cond, subst, append-nil, append_assoc, zero-add, rules}
 use Rattle.std.specs.Prelude.{codes, filter, slice_get, is_some, ◌==◌, ◌&&◌, ◌||◌, option_map}
 use Rattle.std.specs.List.{AllZip, AllByRecursion, enumerate_from, range_with_len, flat_map}
 use Rattle.std.specs.Map.{lookup}
@@ -11,6 +11,7 @@ use Rattle.std.proofs.lemmas.Slice.Eq.{bytes_eq-Decides}
 use Rattle.ror_text.proofs.ListLemmas.{bytes_apart}
 use Rattle.ror_text.specs.Reading.{refuse, need, read_all}
 use Rattle.ror_text.proofs.ReadingLemmas.{bind_ok, need_ok, refuse_ok}
+use Rattle.ror_table.specs.declared.amount.Amount.{Amount}
 use Rattle.ror_table.specs.declared.fault.TableFault.{TableFault}
 use Rattle.ror_table.specs.Draft.{add_alternative}
 use Rattle.ror_table.specs.Table.{Criterion, Alternative, DecisionTable, AreDistinct, place_of, alternative_ids}
@@ -34,10 +35,10 @@ use Rattle.std.proofs.lemmas.Grind.{flat_map-append}
 
 -- ---- the numbers that are given at a place
 
-abbrev numbers_at : Place → Given → List ℤ
+abbrev numbers_at : Place → Given → List Amount
 numbers_at place given = map (λ g. g.1) (filter (λ g. is_at place g.0) given)
 
-abbrev first_number : List ℤ → Option ℤ
+abbrev first_number : List Amount → Option Amount
 first_number [] = None
 first_number (z ∷ zs) = Some z
 
@@ -52,14 +53,14 @@ given-first place (g ∷ given) = by (is_at place g.0) (given-first place given)
     by false rest = rest
 
 -- at most one
-abbrev AtMostOne : List ℤ → Type 0
+abbrev AtMostOne : List Amount → Type 0
 AtMostOne [] = Unit {0}
 AtMostOne (z ∷ []) = Unit {0}
 AtMostOne (z ∷ y ∷ zs) = ⊥
 
-only_one : (zs : List ℤ) (z : ℤ) → AtMostOne zs → first_number zs ≡ Some z → zs ≡ z ∷ []
+only_one : (zs : List Amount) (z : Amount) → AtMostOne zs → first_number zs ≡ Some z → zs ≡ z ∷ []
 only_one [] z few e = absurd cc
-only_one (y ∷ []) z few e = let same : y ≡ z = cc in ap (λ (x : ℤ). x ∷ []) same
+only_one (y ∷ []) z few e = let same : y ≡ z = cc in ap (λ (x : Amount). x ∷ []) same
 only_one (y ∷ x ∷ zs) z few e = absurd few
 
 numbers-append : (place : Place) (given more : Given) → numbers_at place (given ++ more) ≡ numbers_at place given ++ numbers_at place more
@@ -68,14 +69,14 @@ numbers-append place (g ∷ given) more = by (is_at place g.0) (numbers-append p
   where
     by : (b : Bool) → numbers_at place (given ++ more) ≡ numbers_at place given ++ numbers_at place more
         → map (λ g. g.1) (cond b (g ∷ filter (λ g. is_at place g.0) (given ++ more)) (filter (λ g. is_at place g.0) (given ++ more))) ≡ map (λ g. g.1) (cond b (g ∷ filter (λ g. is_at place g.0) given) (filter (λ g. is_at place g.0) given)) ++ numbers_at place more
-    by true rest = ap (λ (zs : List ℤ). g.1 ∷ zs) rest
+    by true rest = ap (λ (zs : List Amount). g.1 ∷ zs) rest
     by false rest = rest
 
 -- ---- one performance more
 
 -- what a performance adds: its number, at a place where there is none yet
 record IsAdded (given next : Given) (place : Place) (t : Tree) : Type 0 where
-  z : ℤ
+  z : Amount
   number : HasNumber t z
   free : given_at given place ≡ None
   is : next ≡ given ++ (place, z) ∷ []
@@ -98,19 +99,19 @@ kept_is given place t next e =
     }
 
 -- at the place itself, and at another one
-numbers_here : (place at : Place) (z : ℤ) → is_at place at ≡ true → numbers_at place ((at, z) ∷ []) ≡ z ∷ []
-numbers_here place at z e = ap (λ b. map {A = Place × ℤ} (λ g. g.1) (cond b ((at, z) ∷ []) [])) e
+numbers_here : (place at : Place) (z : Amount) → is_at place at ≡ true → numbers_at place ((at, z) ∷ []) ≡ z ∷ []
+numbers_here place at z e = ap (λ b. map {A = Place × Amount} (λ g. g.1) (cond b ((at, z) ∷ []) [])) e
 
-numbers_there : (place at : Place) (z : ℤ) → is_at place at ≡ false → numbers_at place ((at, z) ∷ []) ≡ []
-numbers_there place at z e = ap (λ b. map {A = Place × ℤ} (λ g. g.1) (cond b ((at, z) ∷ []) [])) e
+numbers_there : (place at : Place) (z : Amount) → is_at place at ≡ false → numbers_at place ((at, z) ∷ []) ≡ []
+numbers_there place at z e = ap (λ b. map {A = Place × Amount} (λ g. g.1) (cond b ((at, z) ∷ []) [])) e
 
 same_at : (place at : Place) → is_at place at ≡ true → place ≡ at
 same_at place at e = search rules
 
-still_few : (place at : Place) (given : Given) (z : ℤ) → AtMostOne (numbers_at place given) → given_at given at ≡ None → AtMostOne (numbers_at place (given ++ (at, z) ∷ []))
+still_few : (place at : Place) (given : Given) (z : Amount) → AtMostOne (numbers_at place given) → given_at given at ≡ None → AtMostOne (numbers_at place (given ++ (at, z) ∷ []))
 still_few place at given z few free = rw (numbers-append place given ((at, z) ∷ [])) (by (is_at place at) refl)
   where
-    nothing : (zs : List ℤ) → first_number zs ≡ None → zs ≡ []
+    nothing : (zs : List Amount) → first_number zs ≡ None → zs ≡ []
     nothing [] e = refl
     nothing (y ∷ zs) e = absurd cc
 
@@ -242,7 +243,7 @@ group_more some other alternatives criteria a i alternative criterion listed als
     let read = one_group other criteria a i criterion s.0 (in_groups alternative criterion groups) (named (codes "performance") group) given next also there h s.2 in
     rw (in_groups-push alternative criterion groups group, is) read
 
-pub performances_given : (some other : List Tree) (alternatives criteria : Roster) (root : Tree) (given : Given) (a i : ℕ) (alternative criterion : List ℕ) (z : ℤ) → IsRosterOf some alternatives → IsRosterOf other criteria → performances_of alternatives criteria root ≡ Ok given
+pub performances_given : (some other : List Tree) (alternatives criteria : Roster) (root : Tree) (given : Given) (a i : ℕ) (alternative criterion : List ℕ) (z : Amount) → IsRosterOf some alternatives → IsRosterOf other criteria → performances_of alternatives criteria root ≡ Ok given
     → slice_get alternatives.kept a ≡ Some alternative → slice_get criteria.kept i ≡ Some criterion → given_at given (a, i) ≡ Some z → IsPerformance root alternative criterion z
 unfolding performances_of meaning.performances_of
 performances_given some other alternatives criteria root given a i alternative criterion z listed also e at there found =
@@ -261,15 +262,15 @@ performances_given some other alternatives criteria root given a i alternative c
 -- ---- the table
 
 -- the performance at a place more
-performance_more : (given : Given) (a : ℕ) (before : List ℕ) (row : List ℤ) (i : ℕ) (next : List ℤ) → AllZip (λ i z. given_at given (a, i) ≡ Some z) before row → next_performance given a row i ≡ Ok next → AllZip (λ i z. given_at given (a, i) ≡ Some z) (before ++ i ∷ []) next
+performance_more : (given : Given) (a : ℕ) (before : List ℕ) (row : List Amount) (i : ℕ) (next : List Amount) → AllZip (λ i z. given_at given (a, i) ≡ Some z) before row → next_performance given a row i ≡ Ok next → AllZip (λ i z. given_at given (a, i) ≡ Some z) (before ++ i ∷ []) next
 unfolding next_performance
 performance_more given a before row i next h e =
     let b = bind_ok (need _ (given_at given (a, i))) _ next e in
-    let same : row ++ b.0 ∷ [] ≡ next = (let r : ◌≡◌ {A = Result (List ℤ) TableFault} (Ok (row ++ b.0 ∷ [])) (Ok next) = b.2 in cc) in
+    let same : row ++ b.0 ∷ [] ≡ next = (let r : ◌≡◌ {A = Result (List Amount) TableFault} (Ok (row ++ b.0 ∷ [])) (Ok next) = b.2 in cc) in
     subst (AllZip (λ i z. given_at given (a, i) ≡ Some z) (before ++ i ∷ [])) same (zip-append (λ i z. given_at given (a, i) ≡ Some z) before row (i ∷ []) (b.0 ∷ []) h (need_ok _ (given_at given (a, i)) b.0 b.1, tt))
 
 -- each place has its performance in the row
-row_read : (given : Given) (n a : ℕ) (row : List ℤ) → row_of given n a ≡ Ok row → AllZip (λ i z. given_at given (a, i) ≡ Some z) (range_with_len 0 n) row
+row_read : (given : Given) (n a : ℕ) (row : List Amount) → row_of given n a ≡ Ok row → AllZip (λ i z. given_at given (a, i) ≡ Some z) (range_with_len 0 n) row
 unfolding row_of
 row_read given n a row e = read_all_from_first (λ before now. AllZip (λ i z. given_at given (a, i) ≡ Some z) before now) (next_performance given a) (performance_more given a) [] (range_with_len 0 n) row tt e
 
@@ -313,7 +314,7 @@ table_filled given c ids k t e =
     let b = bind_ok (read_all (with_alternative given) began (enumerate_from 0 ids)) _ t a.2 in
     let filled : IsFilled given began (enumerate_from 0 ids) b.0 =
     read_all_from_first (IsFilled given began) (with_alternative given) (filled_more given began) began (enumerate_from 0 ids) b.0 (record { criteria = refl; classes = refl; alternatives = rw (alternatives-criteria_table c) tt }) b.1 in
-    subst (IsFilled given began (enumerate_from 0 ids)) (finished_same _ _ b.0 t b.2) filled
+    subst (IsFilled given began (enumerate_from 0 ids)) (finished_same _ _ _ b.0 t b.2) filled
 
 -- ---- of the ids' elements
 
@@ -372,8 +373,8 @@ table_meant root some other alternatives c given k t listed also e f =
           performances_given some other alternatives c.ids root given a i one.id criterion.id z listed also e place (subst (λ (ids : List (List ℕ)). slice_get ids i ≡ Some criterion.id) names (get-map (λ c. c.id) t.criteria i criterion there)) (place_found given a i z found)) row) filled.alternatives;
     }
   where
-    row_is : (given : Given) (n a : ℕ) (row : List ℤ) → row_of given n (0 + a) ≡ Ok row → row_of given n a ≡ Ok row
+    row_is : (given : Given) (n a : ℕ) (row : List Amount) → row_of given n (0 + a) ≡ Ok row → row_of given n a ≡ Ok row
     row_is given n a row e = ap (λ (m : ℕ). row_of given n m) (sym (zero-add a)) ∙ e
 
-    place_found : (given : Given) (a i : ℕ) (z : ℤ) → given_at given (a, 0 + i) ≡ Some z → given_at given (a, i) ≡ Some z
+    place_found : (given : Given) (a i : ℕ) (z : Amount) → given_at given (a, 0 + i) ≡ Some z → given_at given (a, i) ≡ Some z
     place_found given a i z e = ap (λ (m : ℕ). given_at given (a, m)) (sym (zero-add i)) ∙ e

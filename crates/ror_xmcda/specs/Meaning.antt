@@ -7,6 +7,7 @@ use Rattle.ror_text.specs.Ids.{IsId}
 use Rattle.ror_text.specs.Numbers.{read_performance}
 use Rattle.ror_statement.specs.declared.statement.Statement.{Statement}
 use Rattle.ror_statement.specs.declared.statement.Statement.TheVariants.{Prefer, Class}
+use Rattle.ror_table.specs.declared.amount.Amount.{Amount}
 use Rattle.ror_table.specs.declared.direction.Direction.{Direction}
 use Rattle.ror_table.specs.declared.direction.Direction.TheVariants.{Max}
 use Rattle.ror_table.specs.Plain.{direction_of}
@@ -85,12 +86,13 @@ IsDirection (Some t) direction = direction_of (text_of t) ≡ Some direction
 abbrev pub IsQuantitative : Tree → Type 0
 IsQuantitative t = at_path (codes "scale" ∷ codes "qualitative" ∷ []) t ≡ []
 
--- a criterion has the element's id, and the direction of its first `preferenceDirection`
+-- a criterion has the element's id, and the direction of its first `preferenceDirection`, and is never linear
 pub record IsCriterion (t : Tree) (criterion : Criterion) : Type 0 where
   pub id : id_of t ≡ Some criterion.id
   pub direction : IsDirection
       (first_of (at_path (codes "scale" ∷ codes "quantitative" ∷ codes "preferenceDirection" ∷ []) t))
       criterion.direction
+  pub stepwise : criterion.linear ≡ false
 
 abbrev pub IsAlternative : Tree → Alternative → Type 0
 IsAlternative t alternative = id_of t ≡ Some alternative.id
@@ -118,21 +120,21 @@ performances_of root alternative criterion =
     (filter (names (codes "alternativeID") alternative) (performance_groups root))
 
 -- what stands first in an element's first `value` is this number
-pub record HasNumber (t : Tree) (z : ℤ) : Type 0 where
+pub record HasNumber (t : Tree) (p : Amount) : Type 0 where
   pub value : Tree
   pub first : first_inside (first_named (codes "value") t) ≡ Some value
-  pub number : number_of value ≡ Ok z
+  pub number : number_of value ≡ Ok p
 
 -- there is exactly one element, and its number is this
-pub record IsPerformance (root : Tree) (alternative criterion : List ℕ) (z : ℤ) : Type 0 where
+pub record IsPerformance (root : Tree) (alternative criterion : List ℕ) (p : Amount) : Type 0 where
   pub element : Tree
   pub only : performances_of root alternative criterion ≡ element ∷ []
-  pub number : HasNumber element z
+  pub number : HasNumber element p
 
 -- an alternative's performances are those in the file, a criterion each
 abbrev pub AreItsPerformances : Tree → List Criterion → Alternative → Type 0
 AreItsPerformances root criteria alternative =
-    AllZip (λ criterion z. IsPerformance root alternative.id criterion.id z) criteria alternative.performances
+    AllZip (λ criterion p. IsPerformance root alternative.id criterion.id p) criteria alternative.performances
 
 -- ---- classes
 

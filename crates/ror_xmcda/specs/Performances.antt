@@ -1,9 +1,11 @@
 -- The performances that are given.
-use Rattle.std.specs.Prelude.{ℕ, ◌<◌, ◌^◌, Bool, ◌&&◌, ◌==◌, unsigned_abs, All, List, [], ◌∷◌, ◌++◌, codes, Option, Some, None, is_some, Result, Ok, ℤ}
+use Rattle.std.specs.Prelude.{ℕ, Bool, ◌&&◌, ◌==◌, All, List, [], ◌∷◌, ◌++◌, codes, Option, Some, None, is_some, Result, Ok}
 use Rattle.std.specs.Map.{lookup}
 use Rattle.ror_text.specs.Reading.{◌>>=◌, refuse, need, read_all}
+use Rattle.ror_table.specs.declared.amount.Amount.{Amount}
 use Rattle.ror_table.specs.declared.fault.TableFault.{TableFault}
 use Rattle.ror_table.specs.declared.fault.TableKind.TheVariants.{MissingPerformance, RepeatedPerformance}
+use Rattle.ror_table.specs.Amounts.{IsAmount}
 use Rattle.ror_table.specs.Plain.{at_line}
 use Rattle.ror_elements.specs.Tree.{Tree}
 use Rattle.ror_xmcda.specs.declared.roster.Roster.{Roster}
@@ -17,13 +19,13 @@ Place = ℕ × ℕ
 
 -- the performances that are given, each at its place, in order of the document
 abbrev pub Given : Type 0
-Given = List (Place × ℤ)
+Given = List (Place × Amount)
 
 abbrev pub is_at : Place → Place → Bool
 is_at place other = (place.0 == other.0) && (place.1 == other.1)
 
 -- the performance at a place, if it is given
-unfoldable pub given_at : Given → Place → Option ℤ
+unfoldable pub given_at : Given → Place → Option Amount
 given_at given place = lookup (is_at place) given
 
 abbrev pub first_inside : Option Tree → Option Tree
@@ -64,6 +66,6 @@ performances_of alternatives criteria root =
     read_all (performances alternatives criteria) []
     (at_path (codes "performanceTable" ∷ codes "alternativePerformances" ∷ []) root)
 
--- each is of absolute value below 10 ^ 18
-abbrev pub AreSmall : Given → Type 0
-AreSmall given = All (λ g. unsigned_abs g.1 < 10 ^ 18) given
+-- each is an amount
+abbrev pub AreAmounts : Given → Type 0
+AreAmounts given = All (λ g. IsAmount g.1) given

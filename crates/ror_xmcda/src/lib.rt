@@ -6,6 +6,9 @@
 //! criteria, performances, the table of what is kept, comparisons, assignments, and the limits of all statements. The
 //! first fault of the first faulty pass is given, in order of the document.
 //!
+//! A performance is the exact fraction that its value writes: `integer` a whole number, `real` a whole number or a
+//! decimal, `rational` a whole number over another, which may be negative. No criterion of an XMCDA file is linear.
+//!
 //! The definitions stand in `specs/`, a file for each pass; `Content` puts the passes together, and `Input` says which
 //! form a file has.
 //!

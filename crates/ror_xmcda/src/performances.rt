@@ -1,7 +1,8 @@
 //! The performances that are given.
 
-ghost use Rattle.std.specs.Prelude.{◌≡◌, ◌<◌, ◌^◌, [], ◌∷◌, ◌++◌, None, codes, OnOk, unsigned_abs, IfSome};
+ghost use Rattle.std.specs.Prelude.{◌≡◌, [], ◌∷◌, ◌++◌, None, codes, OnOk, IfSome};
 ghost use Rattle.ror_text.specs.Reading.{Gives, read_all};
+ghost use Rattle.ror_table.specs.Amounts.{IsAmount};
 ghost use Rattle.ror_table.specs.Plain.{table_fault};
 ghost use Rattle.ror_elements.specs.Tree.{tree_of};
 ghost use Rattle.ror_xmcda.specs.Nodes as nodes;
@@ -14,7 +15,7 @@ use crate::numbers::number_of;
 use crate::roster::Roster;
 use indexmap::IndexMap;
 use ror_elements::Element;
-use ror_table::{TableError, TableKind};
+use ror_table::{Amount, TableError, TableKind};
 use ror_text::reading::{need, refuse_if};
 use std::alloc::{AllocError, Global};
 use std::marker::Model;
@@ -22,17 +23,17 @@ use std::marker::Model;
 /// The performances that are given, each at the places of its alternative and its criterion.
 #[derive(Drop)]
 pub(crate) struct Given {
-    entries: IndexMap<(usize, usize), i64>,
+    entries: IndexMap<(usize, usize), Amount>,
 }
 
 impl Model for Given {
-    ghost use Rattle.ror_xmcda.specs.Performances.{Given, AreSmall};
+    ghost use Rattle.ror_xmcda.specs.Performances.{Given, AreAmounts};
 
     ghost Value = { Given };
 
     ghost view = { λ fields. fields.entries.entries };
 
-    ghost invariant = { λ fields. AreSmall fields.entries.entries };
+    ghost invariant = { λ fields. AreAmounts fields.entries.entries };
 }
 
 impl Given {
@@ -46,17 +47,17 @@ impl Given {
 
     /// The performance at a place, if it is given.
     #[tactic(auto, unfolding(crate::specs::Performances::given_at))]
-    pub(crate) fn at(&self, place: (usize, usize)) -> Option<i64>
+    pub(crate) fn at(&self, place: (usize, usize)) -> Option<Amount>
         ensures value { result ≡ spec.given_at self.now place }
-        ensures small { IfSome result (λ z. unsigned_abs z < 10 ^ 18) }
+        ensures amount { IfSome result IsAmount }
     {
         self.entries.get(&place).copied()
     }
 
     /// Adds a performance at a place where none is given yet.
-    fn add(&mut self, place: (usize, usize), performance: i64) -> Result<(), AllocError>
+    fn add(&mut self, place: (usize, usize), performance: Amount) -> Result<(), AllocError>
         requires absent { spec.given_at self.old place ≡ None }
-        requires small { unsigned_abs performance < 10 ^ 18 }
+        requires amount { IsAmount performance }
         ensures { OnOk result (self.new ≡ self.old ++ (place, performance) ∷ []) }
     {
         self.entries.insert(place, performance)?;

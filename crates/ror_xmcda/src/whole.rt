@@ -1,11 +1,12 @@
 //! The table of what is kept.
 
-ghost use Rattle.std.specs.Prelude.{◌≡◌, ◌+◌, ◌≤◌, ◌<◌, ◌^◌, [], ◌∷◌, ◌++◌, false, length, map, All, unsigned_abs, OnOk, IfOk};
+ghost use Rattle.std.specs.Prelude.{◌≡◌, ◌+◌, ◌≤◌, ◌<◌, [], ◌∷◌, ◌++◌, false, length, map, All, OnOk, IfOk};
 ghost use Rattle.std.specs.List.{enumerate_from};
 ghost use Rattle.std.specs.String.{string_bytes};
 ghost use Rattle.ror_text.specs.Ids.{IsId};
 ghost use Rattle.ror_text.specs.Reading.{Gives, read_all};
 ghost use Rattle.ror_table.specs.declared.limits.TheConstants.{MOST_ALTERNATIVES, MOST_CLASSES};
+ghost use Rattle.ror_table.specs.Amounts.{IsAmount};
 ghost use Rattle.ror_table.specs.Draft.{has_id};
 ghost use Rattle.ror_table.specs.Plain.{table_fault};
 ghost use Rattle.ror_table.specs.Table.{IsTable, alternative_ids};
@@ -17,7 +18,7 @@ use crate::criteria::Criteria;
 use crate::fault::fault;
 use crate::performances::Given;
 use crate::roster::Ids;
-use ror_table::{Draft, Table, TableError, TableKind, whole_table};
+use ror_table::{Amount, Draft, Scale, Table, TableError, TableKind, whole_table};
 use ror_text::reading::{need, refuse_if};
 use std::alloc::{AllocError, Global};
 
@@ -31,20 +32,28 @@ fn criteria_table(alloc: Global, criteria: &Criteria) -> Result<Draft, AllocErro
     let ids = criteria.ids.kept.as_slice();
     let mut draft = Draft::new(alloc);
     for (k, id) in ids.iter().enumerate() {
-        draft.put_criterion(id.as_str(), directions[k])?;
+        let scale = Scale {
+            direction: directions[k],
+            linear: false,
+        };
+        draft.put_criterion(id.as_str(), scale)?;
     }
     Ok(draft)
 }
 
 /// Adds the performance on a criterion.
 #[tactic(auto, unfolding(crate::specs::Whole::next_performance))]
-fn next_performance(given: &Given, a: usize, row: &mut Vec<i64>, i: usize) -> Result<(), TableError>
+fn next_performance(
+    given: &Given,
+    a: usize,
+    row: &mut Vec<Amount>,
+    i: usize,
+) -> Result<(), TableError>
     ensures exact { Gives (λ _. row.new.items) table_fault result
         (spec.next_performance given.now a row.old.items i) }
     ensures number { OnOk result (length row.new.items ≡ length row.old.items + 1) }
-    ensures bounded { OnOk result
-        (All (λ p. unsigned_abs p < 10 ^ 18) row.old.items
-        → All (λ p. unsigned_abs p < 10 ^ 18) row.new.items) }
+    ensures amounts { OnOk result
+        (All IsAmount row.old.items → All IsAmount row.new.items) }
 {
     let performance = need(given.at((a, i)), fault(TableKind::MissingPerformance, 0))?;
     row.push(performance)?;
@@ -53,10 +62,15 @@ fn next_performance(given: &Given, a: usize, row: &mut Vec<i64>, i: usize) -> Re
 
 /// The performances of an alternative on so many criteria.
 #[tactic(auto, unfolding(crate::specs::Whole::row_of))]
-fn row_of(alloc: Global, given: &Given, criteria: usize, a: usize) -> Result<Vec<i64>, TableError>
+fn row_of(
+    alloc: Global,
+    given: &Given,
+    criteria: usize,
+    a: usize,
+) -> Result<Vec<Amount>, TableError>
     ensures exact { Gives (λ row. row.items) table_fault result (spec.row_of given.now criteria a) }
     ensures number { IfOk result (λ row. length row.items ≡ criteria) }
-    ensures bounded { IfOk result (λ row. All (λ p. unsigned_abs p < 10 ^ 18) row.items) }
+    ensures amounts { IfOk result (λ row. All IsAmount row.items) }
 {
     let mut row = Vec::new(alloc);
     for i in 0..criteria {
