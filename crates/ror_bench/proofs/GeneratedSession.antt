@@ -1,5 +1,5 @@
 -- The generated session: its lines one by one, that it is sound, and that the hidden value meets its statements.
-use Rattle.std.proofs.Common.{◌≡◌, ℕ, zero, suc, ◌+◌, ◌*◌, ◌<◌, ◌≤◌, Bool, true, false, List, [], ◌∷◌, ◌++◌, length, map, ℤ, eqb, refl, sym, ap, ◌∙◌, subst, arith, rules, append_assoc}
+use Rattle.std.proofs.Common.{◌≡◌, ℕ, zero, suc, ◌+◌, ◌*◌, ◌<◌, ◌≤◌, Bool, true, false, List, [], ◌∷◌, ◌++◌, length, map, ℤ, eqb, refl, sym, ap, ap₂, ◌∙◌, subst, arith, rules, append_assoc, w64, FitsSigned, to_z, of_z, slice_get}
 use Rattle.std.specs.Prelude.{int_lt, cond, slice_index}
 use Rattle.std.specs.List.Sorted.{IsStrictlyIncreasing}
 use Rattle.std.proofs.lemmas.List.{length-map, length_push}
@@ -12,7 +12,8 @@ use Rattle.std.proofs.lemmas.Bool.{eqb-true}
 use Rattle.std.proofs.lemmas.List.FromFn.{get_or-map-range_with_len, length-map-range_with_len, map-range_with_len_more}
 use Rattle.ror_text.proofs.Everywhere.{all-append}
 use Rattle.std.specs.Prelude.{Ok, ◌<ℤ◌, ◌≤ℤ◌}
-use Rattle.std.proofs.lemmas.Int.{ints}
+use Rattle.std.proofs.lemmas.Int.{ints, to_z-of_z}
+use Rattle.std.proofs.lemmas.Option.{get_or_from_slice_get}
 use Rattle.ror_session.specs.declared.session.Session.{Session}
 use Rattle.ror_statement.specs.declared.statement.Statement.{Statement}
 use Rattle.ror_statement.specs.declared.statement.Statement.TheVariants as statements
@@ -25,7 +26,7 @@ use Rattle.ror_session.specs.Sound.{IsSound, names_of}
 use Rattle.ror_session.specs.declared.session.Command.{Command}
 use Rattle.ror_session.specs.declared.session.Command.TheVariants.{State, Ask, Undo}
 use Rattle.ror_session.specs.declared.session.Line.{Line}
-use Rattle.ror_table.specs.Table.{DecisionTable, id_of, alternative_named}
+use Rattle.ror_table.specs.Table.{DecisionTable, id_of, alternative_ids, alternative_named}
 use Rattle.ror_bench.specs.Generated.{next_seed, seed_after, drawn_with, drawn, generated, generated_table, generated_id, hidden_value, judged, stated_from, generated_statements, generated_commands, lines_from, generated_session}
 use Rattle.ror_bench.proofs.GeneratedTable.{no_draws, one_draw, more_draws, drawn_below, all_below, below, ids_are}
 
@@ -60,6 +61,20 @@ pushed_line commands command old new was pushed =
     ∙ ap (λ (n : ℕ). old ++ record { number = 1 + n; desk = 0; command = command } ∷ []) count
     ∙ ap (λ (l : List Line). l ++ record { number = 1 + length commands; desk = 0; command = command } ∷ []) was
     ∙ sym (lines_more 1 commands command)
+
+-- what is said of two alternatives by the tests of their hidden values
+judged_by : (t : DecisionTable) (a b : ℕ) (p q : Bool) → int_lt (hidden_value t b) (hidden_value t a) ≡ p → int_lt (hidden_value t a) (hidden_value t b) ≡ q → cond p (Prefer (id_of t a) (id_of t b)) (cond q (Prefer (id_of t b) (id_of t a)) (AtLeast (id_of t a) (id_of t b))) ≡ judged t a b
+judged_by t a b p q above below = rw (above, below) refl
+
+-- and so by the code's tests of the values that it found
+pub judged_is : (t : DecisionTable) (a b : ℕ) (p q : Bool) (x y : ℤ) (first second : List ℕ) → FitsSigned w64 x → FitsSigned w64 y → x ≡ hidden_value t a → y ≡ hidden_value t b → slice_get (alternative_ids t) a ≡ Some first → slice_get (alternative_ids t) b ≡ Some second → int_lt (to_z w64 (of_z w64 y)) (to_z w64 (of_z w64 x)) ≡ p → int_lt (to_z w64 (of_z w64 x)) (to_z w64 (of_z w64 y)) ≡ q → cond p (Prefer first second) (cond q (Prefer second first) (AtLeast first second)) ≡ judged t a b
+judged_is t a b p q x y first second fx fy one other at-a at-b above below =
+    let is-x : to_z w64 (of_z w64 x) ≡ hidden_value t a = to_z-of_z w64 x fx ∙ one in
+    let is-y : to_z w64 (of_z w64 y) ≡ hidden_value t b = to_z-of_z w64 y fy ∙ other in
+    let is-a : id_of t a ≡ first = get_or_from_slice_get (alternative_ids t) a first [] at-a in
+    let is-b : id_of t b ≡ second = get_or_from_slice_get (alternative_ids t) b second [] at-b in
+    ap₂ (λ (u v : List ℕ). cond p (Prefer u v) (cond q (Prefer v u) (AtLeast u v))) (sym is-a) (sym is-b)
+    ∙ judged_by t a b p q (sym (ap₂ int_lt is-y is-x) ∙ above) (sym (ap₂ int_lt is-x is-y) ∙ below)
 
 -- one more statement, of two draws
 pub one_stated : (t : DecisionTable) (seed n before between after a b : ℕ) (old new : List Line) → old ≡ lines_from 1 (statements_before t seed n) → before ≡ seed_after seed (2 * n) → between ≡ next_seed before → a ≡ drawn_with between 24 → after ≡ next_seed between → b ≡ drawn_with after 24 → new ≡ old ++ record { number = 1 + length old; desk = 0; command = State (judged t a b) } ∷ [] → (new ≡ lines_from 1 (statements_before t seed (n + 1))) × (after ≡ seed_after seed (2 * (n + 1)))

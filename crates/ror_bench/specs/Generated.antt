@@ -1,8 +1,10 @@
 -- The input that a number generates: a table of drawn performances, and a session over it whose statements one hidden value
 -- function meets.
-use Rattle.std.specs.Prelude.{ℕ, zero, suc, ◌+◌, ◌*◌, ◌/◌, ◌%◌, ◌^◌, if◌then◌else◌, List, [], ◌∷◌, ◌++◌, map, codes, ℤ, pos, int_lt, ◌+ℤ◌, ◌-ℤ◌}
+use Rattle.std.specs.Prelude.{ℕ, zero, suc, ◌+◌, ◌*◌, ◌/◌, ◌%◌, ◌^◌, false, if◌then◌else◌, List, [], ◌∷◌, ◌++◌, map, codes, ℤ, pos, int_lt, ◌+ℤ◌, ◌-ℤ◌}
 use Rattle.std.specs.List.{range_with_len}
+use Rattle.ror_table.specs.declared.amount.Amount.{Amount}
 use Rattle.ror_table.specs.declared.direction.Direction.TheVariants.{Max, Min}
+use Rattle.ror_table.specs.Amounts.{whole}
 use Rattle.ror_table.specs.Table.{Criterion, Alternative, DecisionTable, id_of, performance_at}
 use Rattle.ror_session.specs.declared.session.Named.{Named}
 use Rattle.ror_session.specs.declared.session.Named.TheVariants.{Prefer, AtLeast}
@@ -36,10 +38,10 @@ drawn seed k n = drawn_with (seed_after seed (k + 1)) n
 
 abbrev pub generated_criteria : List Criterion
 generated_criteria =
-    record { id = codes "k1"; direction = Max }
-    ∷ record { id = codes "k2"; direction = Min }
-    ∷ record { id = codes "k3"; direction = Max }
-    ∷ record { id = codes "k4"; direction = Min } ∷ []
+    record { id = codes "k1"; direction = Max; linear = false }
+    ∷ record { id = codes "k2"; direction = Min; linear = false }
+    ∷ record { id = codes "k3"; direction = Max; linear = false }
+    ∷ record { id = codes "k4"; direction = Min; linear = false } ∷ []
 
 abbrev pub ALTERNATIVES : ℕ
 ALTERNATIVES = 24
@@ -54,8 +56,8 @@ raise zero zero = 100
 raise a i = 0
 
 -- alternative a's performances, drawn criterion by criterion, from this seed on
-abbrev pub generated_row : ℕ → ℕ → List ℤ
-generated_row seed a = map (λ i. pos (drawn seed i 100 + raise a i)) (range_with_len 0 4)
+abbrev pub generated_row : ℕ → ℕ → List Amount
+generated_row seed a = map (λ i. whole (pos (drawn seed i 100 + raise a i))) (range_with_len 0 4)
 
 -- each alternative takes four draws, after those before it
 abbrev pub generated_alternative : ℕ → ℕ → Alternative
@@ -73,7 +75,8 @@ generated_table seed = record {
 
 -- the hidden value of an alternative: what is to be great, less what is to be small
 abbrev pub hidden_value : DecisionTable → ℕ → ℤ
-hidden_value t a = performance_at t a 0 -ℤ performance_at t a 1 +ℤ performance_at t a 2 -ℤ performance_at t a 3
+hidden_value t a =
+    (performance_at t a 0).num -ℤ (performance_at t a 1).num +ℤ (performance_at t a 2).num -ℤ (performance_at t a 3).num
 
 -- what a judge states of two alternatives by their hidden values
 abbrev pub judged : DecisionTable → ℕ → ℕ → Named

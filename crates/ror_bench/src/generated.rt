@@ -1,6 +1,6 @@
 //! A table and a session over it that a number generates: something to try the whole of the desks on.
 
-ghost use Rattle.std.specs.Prelude.{◌≡◌, [], ◌∷◌, ◌++◌, ◌+◌, ◌<◌, ◌≤◌, ◌^◌, length, unsigned_abs, OnOk, IfOk};
+ghost use Rattle.std.specs.Prelude.{◌≡◌, [], ◌∷◌, ◌++◌, ◌+◌, ◌<◌, ◌≤◌, ◌^◌, false, length, unsigned_abs, OnOk, IfOk};
 ghost use Rattle.std.specs.String.{string_bytes};
 ghost use Rattle.ror_table.specs.Table.{IsTable, performance_at};
 ghost use Rattle.ror_table.specs.declared.fault.DraftFault.TheVariants.{Memory};
@@ -8,7 +8,7 @@ ghost use Rattle.ror_bench.specs.Generated as spec;
 ghost use Rattle.ror_bench.specs.Generated.{next_seed, seed_after, drawn_with, raise, hidden_value};
 
 use ror_session::{Asked, Command, Line, Named, Session};
-use ror_table::{Direction, Draft, DraftFault, Table};
+use ror_table::{Amount, Direction, Draft, DraftFault, Scale, Table};
 use ror_text::{Items, Text};
 use ror_value::Input;
 use std::alloc::{AllocError, Global};
@@ -97,11 +97,21 @@ fn generated_criteria(alloc: Global) -> Result<Draft, AllocError>
         ≡ record { criteria = spec.generated_criteria; alternatives = []; classes = 0 }) }
 {
     let mut draft = Draft::new(alloc);
-    draft.put_criterion("k1", Direction::Max)?;
-    draft.put_criterion("k2", Direction::Min)?;
-    draft.put_criterion("k3", Direction::Max)?;
-    draft.put_criterion("k4", Direction::Min)?;
+    draft.put_criterion("k1", stepwise(Direction::Max))?;
+    draft.put_criterion("k2", stepwise(Direction::Min))?;
+    draft.put_criterion("k3", stepwise(Direction::Max))?;
+    draft.put_criterion("k4", stepwise(Direction::Min))?;
     Ok(draft)
+}
+
+/// The scale of a stepwise criterion.
+fn stepwise(direction: Direction) -> Scale
+    ensures { result ≡ record { direction = direction; linear = false } }
+{
+    Scale {
+        direction,
+        linear: false,
+    }
 }
 
 /// Want of memory: a draft has no other fault where it is given what it takes.
@@ -125,13 +135,14 @@ fn generated_id(alloc: Global, a: u8) -> Result<String, AllocError>
 }
 
 /// The performances of an alternative, from the next draws.
-fn generated_row(alloc: Global, draws: &mut Draws, a: usize) -> Result<Vec<i64>, AllocError>
+fn generated_row(alloc: Global, draws: &mut Draws, a: usize) -> Result<Vec<Amount>, AllocError>
     ensures row { IfOk result (λ row. row.items ≡ spec.generated_row draws.old.seed a) }
     ensures seed { OnOk result (draws.new.seed ≡ seed_after draws.old.seed 4) }
 {
     let mut row = Vec::new(alloc);
     for i in 0..CRITERIA {
-        row.push(i64::from(draws.draw(PERFORMANCES) + raise(a, i)))?;
+        let number = i64::from(draws.draw(PERFORMANCES) + raise(a, i));
+        row.push(Amount::whole(number))?;
     }
     Ok(row)
 }
@@ -224,7 +235,7 @@ fn judged(alloc: Global, table: &Table, a: usize, b: usize) -> Result<Named, All
     }
 }
 
-/// The hidden value of an alternative: what is to be great, less what is to be small.
+/// The hidden value of an alternative, whose performances are whole: what is to be great, less what is to be small.
 fn hidden_value(table: &Table, a: usize) -> i64
     requires table { IsTable table.now }
     requires alternative { a < length table.now.alternatives }
@@ -235,13 +246,13 @@ fn hidden_value(table: &Table, a: usize) -> i64
         - performance(table, a, 3)
 }
 
-/// The performance of an alternative on a criterion, of which four can be summed.
+/// The numerator of an alternative's performance on a criterion, of which four can be summed.
 fn performance(table: &Table, a: usize, i: usize) -> i64
     requires table { IsTable table.now }
     requires alternative { a < length table.now.alternatives }
     requires criterion { i < length table.now.criteria }
-    ensures value { result ≡ performance_at table.now a i }
+    ensures value { result ≡ (performance_at table.now a i).num }
     ensures small { unsigned_abs result < 10 ^ 18 }
 {
-    table.performance(a, i)
+    table.performance(a, i).num
 }

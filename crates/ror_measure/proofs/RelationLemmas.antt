@@ -1,5 +1,5 @@
 -- The answers to the questions on the relations, and the table of a draft.
-use Rattle.std.proofs.Common.{◌≡◌, ℕ, ◌+◌, Bool, true, false, List, [], ◌∷◌, length, ℤ, Result, Ok, Err, length-append, sym, ap, ◌∙◌, subst, arith, cond, Some, None}
+use Rattle.std.proofs.Common.{◌≡◌, ℕ, ◌+◌, Bool, true, false, List, [], ◌∷◌, length, Result, Ok, Err, length-append, sym, ap, ◌∙◌, subst, arith, cond, Some, None}
 use Rattle.std.specs.Prelude.{if◌then◌else◌, count_by, IfOk}
 use Rattle.std.specs.Result.{result_ok}
 use Rattle.std.specs.List.{AllByRecursion, AllZip, filter}
@@ -7,8 +7,9 @@ use Rattle.std.proofs.lemmas.List.Sums.{length-filter}
 use Rattle.ror_text.specs.Reading.{◌>>=◌, refuse, Gives}
 use Rattle.ror_statement.specs.declared.statement.Statement.{Statement}
 use Rattle.ror_statement.specs.declared.question.Question.{Question}
+use Rattle.ror_table.specs.declared.amount.Amount.{Amount}
 use Rattle.ror_table.specs.declared.fault.DraftFault.{DraftFault}
-use Rattle.ror_table.specs.declared.fault.DraftFault.TheVariants.{Empty, TooMany}
+use Rattle.ror_table.specs.declared.fault.DraftFault.TheVariants.{Empty, TooMany, WideScale}
 use Rattle.ror_table.specs.declared.fault.What.TheVariants.{Steps}
 use Rattle.ror_table.specs.Table.{DecisionTable, IsTable}
 use Rattle.ror_table.specs.Draft.{draft_fault, finished, add_alternative}
@@ -55,23 +56,24 @@ relations_are most t list checks n made qs answers seen x e f g given h counts a
 )
 
 -- ---- the table of a draft is the draft
-passes : {F : Type 0} (a b : Bool) (first second : F) (t made : DecisionTable) → (refuse first a >>= λ _. refuse second b >>= λ _. Ok t) ≡ Ok made → made ≡ t
-passes true b first second t made e = absurd cc
-passes false true first second t made e = absurd cc
-passes false false first second t made e = cc
+passes : {F : Type 0} (a b c : Bool) (first second third : F) (t made : DecisionTable) → (refuse first a >>= λ _. refuse second b >>= λ _. refuse third c >>= λ _. Ok t) ≡ Ok made → made ≡ t
+passes true b c first second third t made e = absurd cc
+passes false true c first second third t made e = absurd cc
+passes false false true first second third t made e = absurd cc
+passes false false false first second third t made e = cc
 
-finished_is : {F : Type 0} (empty wide : F) (t made : DecisionTable) → finished empty wide t ≡ Ok made → made ≡ t
+finished_is : {F : Type 0} (empty wide wide_scale : F) (t made : DecisionTable) → finished empty wide wide_scale t ≡ Ok made → made ≡ t
 unfolding finished
-finished_is empty wide t made e = passes _ _ empty wide t made e
+finished_is empty wide wide_scale t made e = passes _ _ _ empty wide wide_scale t made e
 
-pub made_is : (r : Result DecisionTable DraftFault) (draft t : DecisionTable) → Gives (λ t. t) draft_fault r (finished Empty (TooMany Steps) draft) → IfOk r IsTable → Some t ≡ result_ok r → (t ≡ draft) × IsTable t
+pub made_is : (r : Result DecisionTable DraftFault) (draft t : DecisionTable) → Gives (λ t. t) draft_fault r (finished Empty (TooMany Steps) WideScale draft) → IfOk r IsTable → Some t ≡ result_ok r → (t ≡ draft) × IsTable t
 made_is (Ok x) draft t exact table is =
     let same : x ≡ t = cc in
-    (sym same ∙ finished_is Empty (TooMany Steps) draft x exact, subst IsTable same table)
+    (sym same ∙ finished_is Empty (TooMany Steps) WideScale draft x exact, subst IsTable same table)
 made_is (Err fault) draft t exact table is = absurd cc
 
 -- with one alternative more
-pub grown : (t u : DecisionTable) (id : List ℕ) (performances : List ℤ) (m n : ℕ) → u ≡ add_alternative t id performances → length t.criteria ≡ m → length t.alternatives ≡ n → (length u.criteria ≡ m) × (length u.alternatives ≡ n + 1)
+pub grown : (t u : DecisionTable) (id : List ℕ) (performances : List Amount) (m n : ℕ) → u ≡ add_alternative t id performances → length t.criteria ≡ m → length t.alternatives ≡ n → (length u.criteria ≡ m) × (length u.alternatives ≡ n + 1)
 grown t u id performances m n is e f =
     let more : length u.alternatives ≡ length t.alternatives + 1 = ap (λ (v : DecisionTable). length v.alternatives) is ∙ length-append t.alternatives (record { id = id; performances = performances } ∷ []) in
     (ap (λ (v : DecisionTable). length v.criteria) is ∙ e, omega arith)

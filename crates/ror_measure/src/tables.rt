@@ -1,14 +1,15 @@
 //! Decision tables that are made by a number, with statements that a hidden value function meets.
 
-ghost use Rattle.std.specs.Prelude.{[], ◌≡◌, ◌↔◌, ◌<◌, ◌≤◌, ◌^◌, length, vec_len, All, IfSome, IsTrue, unsigned_abs};
+ghost use Rattle.std.specs.Prelude.{[], ◌≡◌, ◌↔◌, ◌<◌, ◌≤◌, length, vec_len, All, IfSome, IsTrue};
 ghost use Rattle.std.specs.List.{AllByRecursion};
 ghost use Rattle.ror_table.specs.declared.limits.TheConstants.{MOST_CRITERIA};
+ghost use Rattle.ror_table.specs.Amounts.{IsAmount};
 ghost use Rattle.ror_value.specs.Over.{IsLawfulIn, IsValidIn};
 ghost use Rattle.ror_measure.specs.Relations.{IsJudged};
 
 use crate::numbers::Numbers;
 use ror_statement::{MOST_ROWS, MOST_STATEMENTS, Statement, row_count, valid};
-use ror_table::{Direction, Draft, MOST_ALTERNATIVES, MOST_CRITERIA, Table};
+use ror_table::{Amount, Direction, Draft, MOST_ALTERNATIVES, MOST_CRITERIA, Table};
 use std::alloc::Global;
 use std::cmp::Ordering;
 
@@ -38,7 +39,7 @@ pub struct Judged {
 /// An alternative's performances, and its value by hidden weights.
 #[derive(Drop)]
 struct Drawn {
-    performances: Vec<i64>,
+    performances: Vec<Amount>,
     value: u64,
 }
 
@@ -103,14 +104,14 @@ fn criteria_alone(alloc: Global, criteria: usize) -> Option<Draft>
 fn drawn_alternative(alloc: Global, numbers: &mut Numbers, weights: &[u8]) -> Option<Drawn>
     requires { length weights.now ≤ MOST_CRITERIA }
     ensures width { IfSome result (λ x. vec_len x.performances ≡ length weights.now) }
-    ensures bounded { IfSome result (λ x. All (λ p. unsigned_abs p < 10 ^ 18) x.performances.items) }
+    ensures amounts { IfSome result (λ x. All IsAmount x.performances.items) }
 {
     let mut performances = Vec::with_capacity(alloc, weights.len()).ok()?;
     let mut value = 0;
     for weight in weights {
         let performance = numbers.below(LEVELS);
         value += u64::from(*weight) * performance;
-        performances.push(performance as i64).ok()?;
+        performances.push(Amount::whole(performance as i64)).ok()?;
     }
     Some(Drawn {
         performances,

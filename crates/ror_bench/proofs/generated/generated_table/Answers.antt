@@ -36,7 +36,7 @@ put_alternative-requires c =
     let id : c.as_str.result.now ≡ generated_id a = search rules in
     let row = c.as_slice.ensures.value ∙ c.in_ok-row.ensures.row ∙ ap (λ (x : ℕ). generated_row x a) c.loop-a.invariant.seed in
     let put = can_be_put seed a c.loop-a.draft c.as_str.result.now c.as_slice.result.now c.loop-a-test.true c.loop-a.invariant.made id row in
-    record { width = put.width; bounded = put.bounded; valid = put.valid; absent = put.free; room = put.room }
+    record { width = put.width; amounts = put.amounts; valid = put.valid; absent = put.free; room = put.room }
 
 pub out_of_memory-requires : goal.out_of_memory-requires
 out_of_memory-requires c =
