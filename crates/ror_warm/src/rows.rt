@@ -4,7 +4,7 @@ use ror_system::Row;
 use std::alloc::{AllocError, Global};
 
 /// A row with an entry past this is left to the path.
-const WIDEST: i64 = 1_024;
+const WIDEST: i64 = 1 << 40;
 
 /// Equal entries other than 0, from `start` up to and without `end`.
 #[derive(Clone, Copy, Debug, PartialEq, Eq)]
