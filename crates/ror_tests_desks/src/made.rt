@@ -23,7 +23,7 @@ alternative c 1 12
 ";
 
 /// Three alternatives by two criteria of two steps each, with three classes.
-pub fn three_alternatives(alloc: Global) -> Result<Table, TableError> {
+pub(crate) fn three_alternatives(alloc: Global) -> Result<Table, TableError> {
     read_plain(alloc, TABLE)
 }
 

@@ -1,6 +1,7 @@
 //! Systems of a statement and of an extra row.
 
 use crate::made::three_alternatives;
+use ror_pivot::{Bits, Outcome, Place, SolveFault, solve_bits};
 use ror_rows::{Extra, Form, question_systems, system_of, with_extras};
 use ror_statement::{Question, Statement};
 use ror_system::Row;
@@ -56,5 +57,35 @@ fn a_weak_extra_is_a_weak_row(rt: HostRuntime) -> Result<(), Fail> {
     assert!(rt; is_row(&system.weak()[0], &[0]));
     assert_eq!(rt; system.strict().len(), 1);
     assert!(rt; is_row(&system.strict()[0], &[1]));
+    Ok(())
+}
+
+// The weights are 0, 1 and 100,000, and the extra row says that c is worth more than a.
+#[test]
+fn weights_are_entries_of_rows(rt: HostRuntime) -> Result<(), Fail> {
+    let text =
+        b"ror-table 3\ncriterion q max linear\nalternative a 100000\nalternative b 1\nalternative c 0\n";
+    let table = read_plain(rt.alloc(), text)?;
+    assert!(rt; table.alternatives() == 3);
+    let above = Extra {
+        form: Form::Value(2, 0),
+        strict: true,
+    };
+    let base = system_of(rt.alloc(), &table, &[])?;
+    let system = with_extras(rt.alloc(), &table, &base, &[above])?;
+    assert_eq!(rt; system.strict().len(), 2);
+    assert!(rt; is_row(&system.strict()[1], &[-100_000]));
+    assert!(rt;
+        matches!(
+        solve_bits(rt.alloc(), &system, Bits::B15),
+        Err(SolveFault::Wide(note)) if note.path.is_empty() && note.place == Place::Start(1, 0)
+    )
+    );
+    assert!(rt;
+        matches!(
+            solve_bits(rt.alloc(), &system, Bits::B127),
+            Ok(Outcome::Infeasible(_))
+        )
+    );
     Ok(())
 }

@@ -1,16 +1,16 @@
 //! Values, and what functions meet.
 
-ghost use Rattle.ror_value.specs.Value.{IsValueFunction};
+ghost use Rattle.ror_value.specs.Value.{IsFunctionOf};
 
 use crate::made::{AB, AC, BA, BC, are_valid, three_alternatives};
 use ror_statement::{Scope, Statement};
-use ror_table::Table;
+use ror_table::{Table, read_plain};
 use ror_value::{ValueFault, ValueFunction};
 use std::test::Fail;
 
 /// The total, the values of a, b and c, and the marginal value of the best q, over the three alternatives.
 fn values_of(table: &Table, function: &ValueFunction) -> Option<[i128; 5]>
-    requires { IsValueFunction table.now function.now }
+    requires { IsFunctionOf table.now function.now }
 {
     if table.alternatives() != 3 || table.criteria() != 2 {
         return None;
@@ -32,6 +32,22 @@ fn values_are_sums_of_first_steps(rt: HostRuntime) -> Result<(), Fail> {
     let table = three_alternatives(rt.alloc())?;
     let function = ValueFunction::new(rt.alloc(), &table, &[1, 2, 3, 4])?;
     assert_eq!(rt; values_of(&table, &function), Some([10, 6, 8, 0, 3]));
+    Ok(())
+}
+
+// The weights are 0, 3 and 5.
+#[test]
+fn values_on_a_linear_criterion_are_by_weights(rt: HostRuntime) -> Result<(), Fail> {
+    let text =
+        b"ror-table 3\ncriterion q max linear\ncriterion p max\nalternative a 10 0\nalternative b 6 0\nalternative c 0 0\n";
+    let table = read_plain(rt.alloc(), text)?;
+    let function = ValueFunction::new(rt.alloc(), &table, &[2])?;
+    assert_eq!(rt; values_of(&table, &function), Some([10, 10, 6, 0, 10]));
+    assert!(rt; ValueFunction::new(rt.alloc(), &table, &[i128::MAX / 5]).is_ok());
+    assert!(rt;
+        ValueFunction::new(rt.alloc(), &table, &[i128::MAX / 5 + 1]).err()
+            == Some(ValueFault::Total)
+    );
     Ok(())
 }
 

@@ -15,7 +15,7 @@ pub type Rows = &'static [&'static [i128]];
 pub struct Unmade;
 
 /// The system of these weak rows, the row of ones and these strict rows, within the limits.
-pub fn system(alloc: Global, columns: usize, weak: Rows, strict: Rows) -> Option<System> {
+pub(crate) fn system(alloc: Global, columns: usize, weak: Rows, strict: Rows) -> Option<System> {
     let weak_rows = rows_of(alloc, columns, weak)?;
     let mut strict_rows = rows_of(alloc, columns, strict)?;
     let total = Row::from_slice(alloc, vec![in alloc; 1i128; columns].ok()?.as_slice()).ok()?;
@@ -73,7 +73,7 @@ pub enum Seen {
 }
 
 /// What the answer on a system comes to, its certificate given to the acceptance of the system.
-pub fn seen_of(s: &System, answer: Result<Outcome, SolveFault>) -> Seen {
+pub(crate) fn seen_of(s: &System, answer: Result<Outcome, SolveFault>) -> Seen {
     match answer {
         Ok(Outcome::Feasible(x)) => match accept_solution(s, &x) {
             Ok(()) => Seen::Solved,

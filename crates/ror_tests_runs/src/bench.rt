@@ -208,7 +208,7 @@ fn begins_with(table: &Table, performances: &[i64]) -> bool {
         return false;
     }
     for (k, performance) in performances.iter().enumerate() {
-        if table.performance(0, k) != *performance {
+        if table.performance(0, k).num != *performance {
             return false;
         }
     }

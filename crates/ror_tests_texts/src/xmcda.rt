@@ -71,8 +71,8 @@ fn is_of_cars(table: &Table) -> bool {
         && table.classes() == 0
         && table.direction(0) == Direction::Max
         && table.direction(1) == Direction::Min
-        && table.performance(0, 1) == 10
-        && table.performance(2, 0) == 1
+        && table.performance(0, 1).num == 10
+        && table.performance(2, 0).num == 1
         && table.find_alternative("c") == Some(2)
 }
 
