@@ -1,9 +1,9 @@
 //! Questions on classes.
 
-use crate::made::{is_asked, is_lawful, three_alternatives};
 use ror_classes::{
     class_questions, decide_class, decide_class_warm, decide_classes, decide_classes_warm,
 };
+use ror_made::{is_asked, is_lawful, three_alternatives};
 use ror_pivot::Bits;
 use ror_proof::Verdict;
 use ror_statement::{Question, Statement};

@@ -1,6 +1,6 @@
 //! Questions that are decided at a width, together and each alone.
 
-use crate::made::{are_asked, is_asked, is_lawful, three_alternatives};
+use ror_made::{are_asked, is_asked, is_lawful, three_alternatives};
 use ror_pivot::Bits;
 use ror_proof::Verdict;
 use ror_relation::{

@@ -1,6 +1,6 @@
 //! Repairs of contradictory statements.
 
-use crate::made::{may_stand, three_alternatives};
+use ror_made::{may_stand, three_alternatives};
 use ror_pivot::Bits;
 use ror_proof::{Certificate, Kept};
 use ror_repair::{repair, repair_counted};

@@ -1,4 +1,4 @@
-//! A table and statements that several tests use, and whether a desk may hold or be asked these.
+//! Whether a desk may hold statements or be asked questions.
 
 ghost use Rattle.std.specs.Prelude.{IsTrue, IfOk};
 ghost use Rattle.std.specs.List.{AllByRecursion};
@@ -7,45 +7,11 @@ ghost use Rattle.ror_value.specs.Over.{IsValidIn, IsLawfulIn, IsAskedIn};
 ghost use Rattle.ror_statement.specs.Statements.{numbers_in, statements_in};
 
 use ror_statement::{
-    MOST_ROWS, MOST_STATEMENTS, Numbered, Pair, Question, Statement, row_count, statements_in,
-    valid, valid_question,
+    MOST_ROWS, MOST_STATEMENTS, Numbered, Question, Statement, row_count, statements_in, valid,
+    valid_question,
 };
-use ror_table::{Table, TableError, read_plain};
+use ror_table::Table;
 use std::alloc::{AllocError, Global};
-
-const TABLE: &[u8] = b"ror-table 1
-criterion q max
-criterion p min
-classes 3
-alternative a 3 10
-alternative b 2 8
-alternative c 1 12
-";
-
-/// Three alternatives by two criteria of two steps each, with three classes.
-pub(crate) fn three_alternatives(alloc: Global) -> Result<Table, TableError> {
-    read_plain(alloc, TABLE)
-}
-
-pub const AB: Pair = Pair {
-    first: 0,
-    second: 1,
-};
-
-pub const BA: Pair = Pair {
-    first: 1,
-    second: 0,
-};
-
-pub const AC: Pair = Pair {
-    first: 0,
-    second: 2,
-};
-
-pub const BC: Pair = Pair {
-    first: 1,
-    second: 2,
-};
 
 /// Whether a desk may hold the list.
 pub fn is_lawful(table: &Table, list: &[Statement]) -> bool

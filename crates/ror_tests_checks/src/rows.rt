@@ -1,6 +1,6 @@
 //! Systems of a statement and of an extra row.
 
-use crate::made::three_alternatives;
+use ror_made::three_alternatives;
 use ror_pivot::{Bits, Outcome, Place, SolveFault, solve_bits};
 use ror_rows::{Extra, Form, question_systems, system_of, with_extras};
 use ror_statement::{Question, Statement};
@@ -60,6 +60,18 @@ fn a_weak_extra_is_a_weak_row(rt: HostRuntime) -> Result<(), Fail> {
     Ok(())
 }
 
+/// Whether a number is too wide before any pivot, at this place.
+fn is_wide_at_once(answer: &Result<Outcome, SolveFault>, place: Place) -> bool {
+    match answer {
+        Err(SolveFault::Wide(note)) => note.path.is_empty() && note.place == place,
+        _ => false,
+    }
+}
+
+fn is_infeasible(answer: &Result<Outcome, SolveFault>) -> bool {
+    matches!(answer, Ok(Outcome::Infeasible(_)))
+}
+
 // The weights are 0, 1 and 100,000, and the extra row says that c is worth more than a.
 #[test]
 fn weights_are_entries_of_rows(rt: HostRuntime) -> Result<(), Fail> {
@@ -75,17 +87,9 @@ fn weights_are_entries_of_rows(rt: HostRuntime) -> Result<(), Fail> {
     let system = with_extras(rt.alloc(), &table, &base, &[above])?;
     assert_eq!(rt; system.strict().len(), 2);
     assert!(rt; is_row(&system.strict()[1], &[-100_000]));
-    assert!(rt;
-        matches!(
-        solve_bits(rt.alloc(), &system, Bits::B15),
-        Err(SolveFault::Wide(note)) if note.path.is_empty() && note.place == Place::Start(1, 0)
-    )
-    );
-    assert!(rt;
-        matches!(
-            solve_bits(rt.alloc(), &system, Bits::B127),
-            Ok(Outcome::Infeasible(_))
-        )
-    );
+    let narrow = solve_bits(rt.alloc(), &system, Bits::B15);
+    assert!(rt; is_wide_at_once(&narrow, Place::Start(1, 0)));
+    let wide = solve_bits(rt.alloc(), &system, Bits::B127);
+    assert!(rt; is_infeasible(&wide));
     Ok(())
 }

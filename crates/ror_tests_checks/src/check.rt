@@ -4,8 +4,8 @@ ghost use Rattle.std.specs.Prelude.{IsTrue};
 ghost use Rattle.std.specs.List.{AllByRecursion};
 ghost use Rattle.ror_value.specs.Over.{IsAskedIn};
 
-use crate::made::{AB, AC, BA, BC, is_asked, is_lawful, may_stand, three_alternatives};
 use ror_check::{check_answer, check_answers, check_repair};
+use ror_made::{AB, AC, BA, BC, is_asked, is_lawful, may_stand, three_alternatives};
 use ror_proof::{Answer, Certificate, Dropped, Kept, read_answer};
 use ror_statement::{Numbered, Question, Scope, Statement};
 use ror_system::{Multipliers, Solution};

@@ -2,7 +2,7 @@
 
 ghost use Rattle.ror_value.specs.Value.{IsFunctionOf};
 
-use crate::made::{AB, AC, BA, BC, are_valid, three_alternatives};
+use ror_made::{AB, AC, BA, BC, are_valid, three_alternatives};
 use ror_statement::{Scope, Statement};
 use ror_table::{Table, read_plain};
 use ror_value::{ValueFault, ValueFunction};
