@@ -47,7 +47,6 @@ fn names_the_number_that_is_too_wide(rt: HostRuntime) -> Result<(), Fail> {
     let mut engine = Engine::new(rt.alloc());
     let wide = Seen::Wide(0, Place::Start(1, 0));
     assert_eq!(rt; come_to(&mut engine, &s, Bits::B15), wide);
-    assert!(rt; engine.pivots() == 0);
     assert_eq!(rt; come_to(&mut engine, &s, Bits::B63), Seen::Solved);
     assert!(rt; engine.pivots() > 0);
     Ok(())
