@@ -1,12 +1,12 @@
 -- The calls of a chain: what each step of their code asks, and what the fields hold at the end.
-use Rattle.std.proofs.Common.{◌≡◌, ◌↔◌, ℕ, ◌<◌, false, true, if◌then◌else◌, reverse, length-set, Option, Some, None, List, [], ◌∷◌, ◌++◌, map, length, get_or, set, refl, ap, sym, subst, ◌∙◌, arith, unwrap_or}
+use Rattle.std.proofs.Common.{◌≡◌, ◌↔◌, ℕ, ◌<◌, vec_len, vec_capacity, Result, Ok, Err, IsOk, is_ok, false, true, if◌then◌else◌, reverse, length-set, Option, Some, None, List, [], ◌∷◌, ◌++◌, map, length, get_or, set, refl, ap, sym, subst, ◌∙◌, arith, unwrap_or}
 use Rattle.std.proofs.lemmas.List.{length-map}
 use Rattle.std.proofs.lemmas.Option.{slice_get-get_or}
 use Rattle.std.specs.List.{slice_get}
 use Rattle.ror_chain.specs.declared.links.Node.{Node}
 use Rattle.ror_chain.specs.declared.links.Links.{Links}
 use Rattle.ror_chain.specs.Chain.{Neighbours, ChainState, ChainView, first_of, last_of, neighbours_in, IsLinked, kept_by, neighbours_of, IsChain, pushed, unlinked, relinked, with_item, CanRelink, EndsWithNewest}
-use Rattle.ror_chain.specs.Cells.{Cells, kept_of, cells_of, cells, state_of, way, Leads, IsWhole, IsLinkedNode, with_next, with_previous}
+use Rattle.ror_chain.specs.Cells.{Cells, kept_of, cells_of, cells, room, state_of, way, Leads, IsWhole, IsLinkedNode, with_next, with_previous}
 use Rattle.ror_chain.proofs.CellLemmas.{Shows, beside, previous_linked, next_linked, taken_out, taken_out-shows, marked, marked_previous, marked_next, put_back, put_back-shows, grown, grown_last, appended, appended-shows, shrunk, shrunk_linked, shrunk-shows}
 use Rattle.ror_chain.proofs.ChainLemmas.{relink_cut, IsChain-with_item, IsChain-empty}
 use Rattle.std.proofs.lemmas.List.Elements.{All-contains}
@@ -18,8 +18,19 @@ pub record Gives {T : Type 0} (c : Cells T) (s : ChainState T) : Type 0 where
   pub is : state_of c ≡ s
 
 -- what an opened chain knows of its fields
-pub held : {T : Type 0} (links : Links T) (v : ChainView T) → IsWhole (cells links) → record { state = state_of (cells links) } ≡ v → Gives (cells links) v.state
+pub held : {T : Type 0} (links : Links T) (v : ChainView T) → IsWhole (cells links) → record { state = state_of (cells links); spare = room links } ≡ v → Gives (cells links) v.state
 held {T} links v whole is = record { whole = whole; is = ap (λ (u : ChainView T). u.state) is }
+
+-- where there is room in the view, the nodes have it
+pub has_room : {T : Type 0} (links : Links T) (v : ChainView T) → record { state = state_of (cells links); spare = room links } ≡ v → 0 < v.spare → vec_len links.nodes < vec_capacity links.nodes
+has_room {T} links v is some =
+    let same : room links ≡ v.spare = ap (λ (u : ChainView T). u.spare) is in
+    omega arith
+
+-- what a push that succeeds gives
+pub at_success : {A E X : Type 0} (r : Result A E) (xs more kept : List X) → IsOk r → xs ≡ (if is_ok r then more else kept) → xs ≡ more
+at_success (Ok x) xs more kept ok is = is
+at_success (Err e) xs more kept ok is = absurd cc
 
 gives : {T : Type 0} (c d : Cells T) (s t : ChainState T) → c ≡ d → s ≡ t → Shows d s → Gives c t
 gives c d s t same_cells same_states h = record { whole = subst (λ e. IsWhole e) (sym same_cells) h.whole; is = ap (λ e. state_of e) same_cells ∙ h.is ∙ same_states }

@@ -1,5 +1,5 @@
 -- What the fields of a chain hold, and how the chain is read from them.
-use Rattle.std.specs.Prelude.{◌≡◌, ℕ, ◌<◌, zero, suc, Option, Some, None, List, [], ◌∷◌, reverse, map, length, slice_set, slice_index_or, if◌then◌else◌}
+use Rattle.std.specs.Prelude.{◌≡◌, ℕ, ◌-◌, ◌<◌, vec_len, vec_capacity, zero, suc, Option, Some, None, List, [], ◌∷◌, reverse, map, length, slice_set, slice_index_or, if◌then◌else◌}
 use Rattle.ror_chain.specs.declared.links.Node.{Node}
 use Rattle.ror_chain.specs.declared.links.Links.{Links}
 use Rattle.ror_chain.specs.Chain.{Neighbours, ChainState, IsChain}
@@ -28,6 +28,10 @@ cells_of nodes first last = record {
 
 abbrev pub cells : {T : Type 0} → Links T → Cells T
 cells links = cells_of links.nodes.items links.first links.last
+
+-- for how many more nodes there is room
+abbrev pub room : {T : Type 0} → Links T → ℕ
+room links = vec_capacity links.nodes - vec_len links.nodes
 
 -- the nodes on the way from a node to the end, at most so many
 abbrev pub way : List (Option ℕ) → ℕ → Option ℕ → List ℕ

@@ -13,9 +13,10 @@ pub record ChainState (T : Type 0) : Type 0 where
   pub items : List T
   pub kept : List (Option Neighbours)
 
--- a chain, by its nodes
+-- a chain, by its nodes, and for how many more of them there is room
 pub record ChainView (T : Type 0) : Type 0 where
   pub state : ChainState T
+  pub spare : ℕ
 
 -- ---- the order
 

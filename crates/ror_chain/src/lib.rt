@@ -12,6 +12,8 @@
 //! relink(2)                                  linked: 0 2
 //! relink(1)                                  linked: 0 1 2
 //! ```
+//!
+//! [`Chain::reserve`] makes room for more nodes, so that as many pushes afterwards take no memory ([`Chain::push_reserved`]).
 #![tactic(auto)]
 
 mod chain;

@@ -7,8 +7,8 @@ use Rattle.ror_chain.proofs.links.Links.set_next.Goals as goal
 pub index_mut-requires : goal.index_mut-requires
 index_mut-requires g c = let n = (c.requires c.in-Some.node c.in-Some.is).0 in let e = length-map c.args.self.now.nodes.items (λ x. x.item) in omega (arith, c.args.self.now.nodes.ok.0)
 
-pub returns-in-Some : goal.returns-in-Some
-returns-in-Some g c =
+pub returns-in-Some-clause-led : goal.returns-in-Some-clause-led
+returns-in-Some-clause-led g c =
     let s = c.args.self.now in
     let linked = c.requires c.in-Some.node c.in-Some.is in
     let there : c.in-Some.node < length s.nodes.items = let e = length-map s.nodes.items (λ x. x.item) in omega (arith, linked.0) in
