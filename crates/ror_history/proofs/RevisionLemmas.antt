@@ -20,6 +20,8 @@ use Rattle.ror_history.specs.History.{Revision, addition, withdrawal, replacemen
 use Rattle.ror_statement.specs.Statements.{numbers_in}
 use Rattle.ror_history.specs.Faults.{Stands, AreEachOnce, CanBeWithdrawn}
 use Rattle.ror_history.specs.Inverses.{taken_back, CanTakeBack, statement_at, revision_of, revisions_of, IsSound, IsHeld, IsOpened}
+use Rattle.ror_history.specs.declared.history.History.TheInside.{Inside}
+use Rattle.ror_history.specs.Contents.{contents, room, IsWhole}
 use Rattle.ror_history.proofs.HistoryLemmas.{statement_of, with_numbers_from-length, with_numbers_from-statements, with_numbers_from-append}
 use Rattle.ror_history.proofs.ItemLemmas.{nowhere, numbered_each, linked-is, numbers-is, Contains-suc, linked-pushed, linked-unlinked, linked-with_item}
 use Rattle.ror_history.proofs.RowLemmas.{row_count-filter, length-filter_le}
@@ -31,8 +33,11 @@ pub record Holds (s : ChainState Numbered) (xs : List Inverse) (r : Revisions) :
   pub held : IsHeld s xs
   pub is : revisions_of s xs ≡ r
 
-pub holds : (s : ChainState Numbered) (xs : List Inverse) (v : HistoryView) → IsHeld s xs → record { state = revisions_of s xs } ≡ v → Holds s xs v.state
-holds s xs v h e = record { held = h; is = ap (λ (u : HistoryView). u.state) e }
+pub holds : (h : Inside) (v : HistoryView) → IsWhole h → contents h ≡ v → Holds h.chain.state (reverse h.inverses.items) v.state
+holds h v whole e = record { held = whole.held; is = ap (λ (u : HistoryView). u.state) e }
+
+pub holds_room : (h : Inside) (v : HistoryView) → contents h ≡ v → v.spare ≡ room h
+holds_room h v e = sym (ap (λ (u : HistoryView). u.spare) e)
 
 pub sound : (s : ChainState Numbered) (xs : List Inverse) (r : Revisions) → Holds s xs r → IsSound s
 sound s xs r h = IsHeld-sound s xs h.held
@@ -74,6 +79,24 @@ holds_stands s xs r n number h k e =
 
 pub holds_stands_not : (s : ChainState Numbered) (xs : List Inverse) (r : Revisions) (number : ℕ) → Holds s xs r → (Contains (numbers_in (linked_items s)) number → ⊥) → ¬ (Stands r number)
 holds_stands_not s xs r number h not_linked k = not_linked (subst (λ list. Contains (numbers_in list) number) (holds_standing s xs r h) k)
+
+-- the statements that stand are listed
+pub record AreListed (s : ChainState Numbered) (r : Revisions) (list : List Statement) : Type 0 where
+  pub told : list ≡ map statement_of (linked_items s)
+  pub linked : length list ≡ length (linked_items s)
+  pub count : length list ≡ length (standing r)
+  pub said : statements_of r ≡ list
+
+pub are_listed : (s : ChainState Numbered) (xs : List Inverse) (r : Revisions) (list : List Statement) → Holds s xs r → list ≡ map statement_of (linked_items s) → AreListed s r list
+are_listed s xs r list h told =
+    let stand = holds_standing s xs r h in
+    let count : length list ≡ length (linked_items s) = ap length told ∙ length-map (linked_items s) statement_of in
+    record {
+      told = told;
+      linked = count;
+      count = count ∙ sym (ap length stand);
+      said = ap (map statement_of) stand ∙ sym told;
+    }
 
 -- ---- each change keeps it sound
 
@@ -134,6 +157,17 @@ sound_with_item s n y h k number rows =
       few = h.few;
       rows = subst (λ (list : List Numbered). row_count (map statement_of list) ≤ MOST_ROWS) (sym left) rows;
     }
+
+-- what stands where a node holds another statement
+pub listed_set : (s t : ChainState Numbered) (n : ℕ) (y : Numbered) (list : List Statement) → IsSound s → IsLinked s n → y.number ≡ suc n → t ≡ with_item s n y → list ≡ map statement_of (linked_items t) → list ≡ map statement_of (revised (linked_items s) (replacement y.number y.statement))
+listed_set s t n y list h k number is told =
+    let there : n < length s.items = All-contains (λ m. m < length s.items) s.order n h.chain.there k in
+    told ∙ ap (map statement_of) (ap (λ (q : ChainState Numbered). linked_items q) is ∙ linked-with_item s n y h.chain (numbered_each s.items h.numbered) there number ∙ ap (λ m. revised (linked_items s) (replacement m y.statement)) (sym number))
+
+-- ---- no revision more
+
+pub holds_still : (s t : ChainState Numbered) (inverses same : List Inverse) (r : Revisions) → Holds s (reverse inverses) r → t ≡ s → same ≡ inverses → Holds t (reverse same) r
+holds_still s t inverses same r h is e = subst (λ (q : ChainState Numbered). Holds q (reverse same) r) (sym is) (subst (λ (xs : List Inverse). Holds s (reverse xs) r) (sym e) h)
 
 -- ---- a revision more
 
@@ -197,13 +231,18 @@ withdrawn_all s t inverses grown ns ms r h linked once numbered is e =
     let gives : revision_of p (RelinkAll ns) ≡ withdrawal ms = ap withdrawal numbered in
     subst (λ (q : ChainState Numbered). Holds q (reverse grown) (with_revision r (withdrawal ms))) (sym is) (more_revisions s p inverses grown (RelinkAll ns) r (withdrawal ms) h (sound_all_unlinked s ns whole can) back.0 back.1 gives e)
 
+-- a node that gets its old item again
+pub set_back : (s : ChainState Numbered) (n : ℕ) (old y : Numbered) → slice_get s.items n ≡ Some old → with_item (with_item s n y) n old ≡ s
+set_back s n old y held =
+    let own : get_or s.items n nowhere ≡ old = get_or_from_slice_get s.items n old nowhere held in
+    same_state (with_item (with_item s n y) n old) s refl (set-set s.items n y old ∙ ap (set s.items n) (sym own) ∙ set-get_or s.items n nowhere) refl
+
 pub replaced : (s t : ChainState Numbered) (inverses grown : List Inverse) (n : ℕ) (old y : Numbered) (r : Revisions) → Holds s (reverse inverses) r → IsLinked s n → y.number ≡ suc n → slice_get s.items n ≡ Some old → row_count (map statement_of (revised (linked_items s) (replacement y.number y.statement))) ≤ MOST_ROWS → t ≡ with_item s n y → grown ≡ inverses ++ Set n old ∷ [] → Holds t (reverse grown) (with_revision r (replacement y.number y.statement))
 replaced s t inverses grown n old y r h k number held rows is e =
     let p = with_item s n y in
     let whole = sound s (reverse inverses) r h in
     let there : n < length s.items = slice_get_within s.items n old held in
-    let own : get_or s.items n nowhere ≡ old = get_or_from_slice_get s.items n old nowhere held in
-    let back : with_item p n old ≡ s = same_state (with_item p n old) s refl (set-set s.items n y old ∙ ap (set s.items n) (sym own) ∙ set-get_or s.items n nowhere) refl in
+    let back = set_back s n old y held in
     let newest : statement_at p n ≡ y.statement = ap statement_of (get_or-set_same s.items n y nowhere there) in
     let gives : revision_of p (Set n old) ≡ replacement y.number y.statement = ap (replacement (suc n)) newest ∙ ap (λ m. replacement m y.statement) (sym number) in
     let fits : row_count (map statement_of (revised (linked_items s) (replacement (suc n) y.statement))) ≤ MOST_ROWS = subst (λ m. row_count (map statement_of (revised (linked_items s) (replacement m y.statement))) ≤ MOST_ROWS) number rows in

@@ -12,7 +12,7 @@ use Rattle.ror_chain.proofs.OrderLemmas.{EndView, is_empty, ends_with, end_view,
 use Rattle.ror_chain.proofs.ChainLemmas.{same_state}
 use Rattle.ror_history.specs.declared.inverse.Inverse.{Inverse}
 use Rattle.ror_history.specs.declared.inverse.Inverse.TheVariants.{Pop, Relink, RelinkAll, Set}
-use Rattle.ror_history.specs.History.{Revision, HistoryView, addition, revised, added_numbers, standing, next_number}
+use Rattle.ror_history.specs.History.{Revision, Revisions, addition, revised, added_numbers, standing, next_number}
 use Rattle.ror_history.specs.Inverses.{without_newest, taken_back, CanTakeBack, statement_at, revision_of, surviving_of, opening_of, revisions_of, IsSound, IsHeld}
 use Rattle.ror_history.specs.Laws.{AreNumberedInTurn}
 use Rattle.ror_history.proofs.ItemLemmas.{nowhere, AreNumbered, numbered_each, linked-pushed, linked-all_relinked, linked-relinked, linked-with_item, items-relinked}
@@ -174,15 +174,15 @@ surviving_some s x xs e = none (surviving_of (taken_back s x) xs) (revision_of s
 positive : (n m : ℕ) → n ≡ suc m → nat_lt 0 n ≡ true
 positive n m e = lt-ltb 0 n (omega arith)
 
-pub can_undo_is : (s : ChainState Numbered) (xs : List Inverse) (v : HistoryView) (n : ℕ) → record { state = revisions_of s (reverse xs) } ≡ v → n ≡ length xs → IsTrue (nat_lt 0 n) ↔ (v.state.surviving ≢ [])
-can_undo_is s xs v n is count = by (reverse xs) (length-reverse xs) is
+pub can_undo_is : (s : ChainState Numbered) (xs : List Inverse) (r : Revisions) (n : ℕ) → revisions_of s (reverse xs) ≡ r → n ≡ length xs → IsTrue (nat_lt 0 n) ↔ (r.surviving ≢ [])
+can_undo_is s xs r n is count = by (reverse xs) (length-reverse xs) is
   where
-    by : (ys : List Inverse) → length ys ≡ length xs → record { state = revisions_of s ys } ≡ v → IsTrue (nat_lt 0 n) ↔ (v.state.surviving ≢ [])
+    by : (ys : List Inverse) → length ys ≡ length xs → revisions_of s ys ≡ r → IsTrue (nat_lt 0 n) ↔ (r.surviving ≢ [])
     by [] long e =
-        let none : v.state.surviving ≡ [] = ap (λ (w : HistoryView). w.state.surviving) (sym e) in
+        let none : r.surviving ≡ [] = ap (λ (q : Revisions). q.surviving) (sym e) in
         let zero_ : n ≡ 0 = count ∙ sym long in
         (λ yes. absurd (let f : nat_lt 0 0 ≡ true = subst (λ (m : ℕ). nat_lt 0 m ≡ true) zero_ yes in cc), λ some. absurd (some none))
     by (y ∷ ys) long e =
-        let more : v.state.surviving ≡ surviving_of s (y ∷ ys) = ap (λ (w : HistoryView). w.state.surviving) (sym e) in
+        let more : r.surviving ≡ surviving_of s (y ∷ ys) = ap (λ (q : Revisions). q.surviving) (sym e) in
         let suc_ : n ≡ suc (length ys) = count ∙ sym long in
         (λ yes none. surviving_some s y ys (sym more ∙ none), λ some. positive n (length ys) suc_)

@@ -1,12 +1,14 @@
 -- A walk through a chain's linked nodes, from the first to the last.
-use Rattle.std.proofs.Common.{◌≡◌, ℕ, ◌<◌, Option, Some, None, List, [], ◌∷◌, ◌++◌, length, get_or, unwrap_or, refl, ap, sym, subst, ◌∙◌, arith, append_assoc, append-nil}
+use Rattle.std.proofs.Common.{◌≡◌, ℕ, ◌<◌, Option, Some, None, List, [], ◌∷◌, ◌++◌, map, length, get_or, unwrap_or, refl, ap, sym, subst, ◌∙◌, arith, append_assoc, append-nil}
 use Rattle.std.proofs.lemmas.List.{length-append, length-map, map-append}
 use Rattle.std.proofs.lemmas.List.Elements.{All-contains}
 use Rattle.std.proofs.lemmas.Option.{get_or_from_slice_get}
 use Rattle.std.specs.List.{slice_get, Contains}
+use Rattle.ror_statement.specs.declared.statement.Statement.{Statement}
 use Rattle.ror_statement.specs.declared.statement.Numbered.{Numbered}
 use Rattle.ror_chain.specs.Chain.{Neighbours, ChainState, first_of, neighbours_in, neighbours_of, IsLinked, IsChain, linked_items}
 use Rattle.ror_chain.proofs.OrderLemmas.{Apart, Apart-from_distinct, neighbours_in-cut, Contains-cut}
+use Rattle.ror_history.proofs.HistoryLemmas.{statement_of}
 use Rattle.ror_history.proofs.ItemLemmas.{nowhere, items_at, linked-is}
 
 -- what was walked through is listed, and this node is the next
@@ -71,3 +73,32 @@ walk_ends s list h w = by_back w.back refl
     by_back [] e =
         let whole : s.order ≡ w.front = w.cut ∙ ap (λ b. w.front ++ b) e ∙ append-nil w.front in
         w.listed ∙ ap (items_at s.items) (sym whole) ∙ sym (linked-is s.items s.order h.there)
+
+-- ---- the statements alone
+
+-- the statements of what was walked through are listed, and this node is the next
+pub record IsTelling (s : ChainState Numbered) (at : Option ℕ) (list : List Statement) : Type 0 where
+  pub walked : List Numbered
+  pub walk : IsWalk s at walked
+  pub told : list ≡ map statement_of walked
+
+pub telling_begins : (s : ChainState Numbered) (at : Option ℕ) (list : List Statement) → at ≡ first_of s.order → list ≡ [] → IsTelling s at list
+telling_begins s at list e f = record { walked = []; walk = walk_begins s at [] e refl; told = f }
+
+pub telling_step : (s : ChainState Numbered) (n : ℕ) (list : List Statement) → IsChain s → IsTelling s (Some n) list → (n < length s.items) × (length list < length s.order)
+telling_step s n list h t =
+    let p = walk_step s n t.walked h t.walk in
+    let count = ap length t.told in
+    let more = length-map t.walked statement_of in
+    let fewer = p.fewer in
+    (p.there, omega arith)
+
+pub telling_goes_on : (s : ChainState Numbered) (n : ℕ) (at : Option ℕ) (list grown : List Statement) (x : Numbered) → IsChain s → IsTelling s (Some n) list → slice_get s.items n ≡ Some x → at ≡ (neighbours_of s n).next → grown ≡ list ++ x.statement ∷ [] → IsTelling s at grown
+telling_goes_on s n at list grown x h t read e more = record {
+  walked = t.walked ++ x ∷ [];
+  walk = walk_goes_on s n at t.walked (t.walked ++ x ∷ []) x h t.walk read e refl;
+  told = more ∙ ap (λ ss. ss ++ x.statement ∷ []) t.told ∙ sym (map-append statement_of t.walked (x ∷ []));
+}
+
+pub telling_ends : (s : ChainState Numbered) (list : List Statement) → IsChain s → IsTelling s None list → list ≡ map statement_of (linked_items s)
+telling_ends s list h t = t.told ∙ ap (map statement_of) (walk_ends s t.walked h t.walk)

@@ -17,9 +17,10 @@ pub record Revisions : Type 0 where
   pub opening : List Statement
   pub surviving : List Revision
 
--- a history, by its revisions
+-- a history, by its revisions, and for how many more of them there is room
 pub record HistoryView : Type 0 where
   pub state : Revisions
+  pub spare : ℕ
 
 -- the statements with their numbers, the first of which is this
 abbrev pub with_numbers_from : ℕ → List Statement → List Numbered

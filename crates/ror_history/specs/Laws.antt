@@ -1,4 +1,4 @@
--- Laws of histories: where an added statement stands, how the numbers of a standing list go, and when one can be added.
+-- Laws of histories: where an added statement stands, how the numbers of a standing list go, and when a revision can be done.
 use Rattle.std.specs.Prelude.{◌≡◌, ℕ, ◌+◌, ◌<◌, List, [], ◌∷◌, ◌++◌, length, ◌↔◌}
 use Rattle.std.specs.List.{All}
 use Rattle.std.specs.List.Sorted.{IsStrictlyIncreasing}
@@ -7,7 +7,7 @@ use Rattle.ror_statement.specs.declared.statement.Statement.{Statement}
 use Rattle.ror_history.specs.declared.history.HistoryFault.{HistoryFault}
 use Rattle.ror_history.specs.History.{Revision, addition, withdrawal, replacement, Revisions, standing, next_number, with_revision}
 use Rattle.ror_statement.specs.Statements.{numbers_in}
-use Rattle.ror_history.specs.Faults.{CanBeAdded, FailsAddition, IsEarlierFault}
+use Rattle.ror_history.specs.Faults.{CanBeAdded, FailsAddition, CanBeReplaced, FailsReplacement, CanBeWithdrawn, FailsWithdrawal, IsEarlierFault}
 
 -- an added statement stands last, with its number, after all that stood
 abbrev pub AddedStandsLast : Type 0
@@ -43,10 +43,15 @@ pub record NextNumberRises : Type 0 where
   pub replaced : (r : Revisions) (n : ℕ) (s : Statement)
       → next_number (with_revision r (replacement n s)) ≡ next_number r
 
--- a statement can be added exactly where neither test fails, and two first faults are equal
-pub record OneFirstFault : Type 0 where
-  pub no_test_fails : (r : Revisions) (s : Statement) → CanBeAdded r s
-      ↔ ((fault : HistoryFault) → ¬ (FailsAddition r s fault))
-  pub one : (r : Revisions) (s : Statement) (f g : HistoryFault)
-      → IsFirst (FailsAddition r s) IsEarlierFault f → IsFirst (FailsAddition r s) IsEarlierFault g
+-- something can be done exactly where no test of it fails, and two first faults are equal
+pub record HasOneFirstFault (CanBeDone : Type 0) (Fails : HistoryFault → Type 0) : Type 0 where
+  pub no_test_fails : CanBeDone ↔ ((fault : HistoryFault) → ¬ (Fails fault))
+  pub one : (f g : HistoryFault) → IsFirst Fails IsEarlierFault f → IsFirst Fails IsEarlierFault g
       → f ≡ g
+
+-- so it is with an addition, a withdrawal of one statement or of more, and a replacement
+pub record OneFirstFault : Type 0 where
+  pub added : (r : Revisions) (s : Statement) → HasOneFirstFault (CanBeAdded r s) (FailsAddition r s)
+  pub withdrawn : (r : Revisions) (ns : List ℕ) → HasOneFirstFault (CanBeWithdrawn r ns) (FailsWithdrawal r ns)
+  pub replaced : (r : Revisions) (n : ℕ) (s : Statement)
+      → HasOneFirstFault (CanBeReplaced r n s) (FailsReplacement r n s)

@@ -1,6 +1,6 @@
 //! The statements of a desk, and what is done to them.
 
-ghost use Rattle.std.specs.Prelude.{◌≡◌, ◌≢◌, ◌↔◌, IsTrue, ◌-◌, ◌^◌, ◌<◌, ◌≤◌, ◌+◌, ◌∷◌, [], length, IfOk, IfErr, OnOk};
+ghost use Rattle.std.specs.Prelude.{◌≡◌, ◌≢◌, ◌↔◌, IsTrue, ◌-◌, ◌^◌, ◌<◌, ◌≤◌, ◌+◌, suc, ◌∷◌, [], length, IfOk, IfErr, OnOk, OnErr};
 ghost use Rattle.std.specs.List.Sorted.{IsStrictlyIncreasing};
 ghost use Rattle.ror_text.specs.FirstFault.{IsRefusedBy};
 ghost use Rattle.ror_statement.specs.RowNumbers.{row_count};
@@ -12,9 +12,9 @@ ghost use Rattle.ror_history.specs.Inverses.{IsOpened};
 ghost use Rattle.ror_history.specs.declared.history.HistoryFault.TheVariants.{Memory};
 
 use crate::inverse::{Inverse, take_back, unlink_all};
-use crate::listed::{find, find_all, listed, replaced};
+use crate::listed::{find, find_all, list_statements, listed};
 use ror_chain::Chain;
-use ror_statement::{MOST_ROWS, MOST_STATEMENTS, Numbered, Statement, row_count, statements_in};
+use ror_statement::{MOST_ROWS, MOST_STATEMENTS, Numbered, Statement, row_count};
 use std::alloc::{AllocError, AllocFailed, Global};
 use std::marker::Model;
 use thiserror::Error;
@@ -54,13 +54,17 @@ impl<T: Drop> From<AllocFailed<T>> for HistoryFault {
     }
 }
 
-/// The statements that a desk began with, and the revisions that survive. Clauses see it as these.
+/// The statements that a desk began with, and the revisions that survive. Clauses see it as these, and beside them for how
+/// many more revisions there is room.
 ///
-/// Each revision is kept as what takes it back, so that an undo takes no memory.
+/// Each revision is kept as what takes it back, so that an undo takes no memory. With room for one, neither do an addition, a
+/// replacement and the withdrawal of one statement.
 #[derive(Drop)]
 pub struct History {
     chain: Chain<Numbered>,
     inverses: Vec<Inverse>,
+    /// Room for the statements that stand and one more, whose rows are counted there.
+    scratch: Vec<Statement>,
     alloc: Global,
 }
 
@@ -90,8 +94,24 @@ impl History {
         Ok(History {
             chain: opened(alloc, opening)?,
             inverses: Vec::new(alloc),
+            scratch: Vec::with_capacity(alloc, MOST_STATEMENTS + 1)?,
             alloc,
         })
+    }
+
+    /// Makes room for so many more revisions. All else stays as it is.
+    ///
+    /// # Errors
+    ///
+    /// Only want of memory, and only where there is not so much room yet.
+    pub fn reserve(&mut self, revisions: usize) -> Result<(), AllocError>
+        ensures room { OnOk result (revisions ≤ self.new.spare) }
+        ensures wanting { OnErr result (self.old.spare < revisions) }
+        ensures unchanged { self.new.state ≡ self.old.state }
+        ensures kept { self.old.spare ≤ self.new.spare }
+    {
+        self.chain.reserve(revisions)?;
+        self.inverses.reserve(revisions)
     }
 
     /// Adds a statement, which stands last, and gives its number. It asks that the next number is below `u32::MAX`.
@@ -99,7 +119,7 @@ impl History {
     /// # Errors
     ///
     /// `TooManyStatements` where `MOST_STATEMENTS` stand, else `TooManyRows` where all with this one take more than
-    /// `MOST_ROWS`. A refusal changes nothing.
+    /// `MOST_ROWS`. A refusal changes nothing. With room for one more revision it takes no memory.
     pub fn add(&mut self, s: Statement) -> Result<u32, HistoryFault>
         requires { next_number self.old.state < 2 ^ 32 - 1 }
         ensures numbered { IfOk result (λ n. n ≡ next_number self.old.state) }
@@ -109,26 +129,25 @@ impl History {
         ensures refused { IfErr result (IsRefusedBy (FailsAddition self.old.state s)
             IsEarlierFault HistoryFault.Memory) }
         ensures unchanged { IfErr result (λ _. self.new.state ≡ self.old.state) }
+        ensures roomy { IfErr result (λ e. e ≡ HistoryFault.Memory → self.old.spare ≡ 0) }
+        ensures room { self.old.spare ≤ suc self.new.spare }
     {
-        let list = listed(self.alloc, &self.chain)?;
-        if list.len() >= MOST_STATEMENTS {
+        list_statements(&self.chain, &mut self.scratch);
+        if self.scratch.len() >= MOST_STATEMENTS {
             return Err(HistoryFault::TooManyStatements);
         }
-        let mut statements = statements_in(self.alloc, &list)?;
-        statements.push(s)?;
-        if row_count(&statements) > MOST_ROWS {
+        self.scratch.push(s).unwrap();
+        if row_count(&self.scratch) > MOST_ROWS {
             return Err(HistoryFault::TooManyRows);
         }
         let number = self.next_number();
-        self.inverses.push(Inverse::Pop)?;
-        let item = Numbered {
+        // With this room the chain's push is the last that can be refused.
+        self.inverses.reserve(1)?;
+        self.chain.push(Numbered {
             number,
             statement: s,
-        };
-        if self.chain.push(item).is_err() {
-            self.inverses.pop();
-            return Err(HistoryFault::Memory);
-        }
+        })?;
+        self.inverses.push(Inverse::Pop).unwrap();
         Ok(number)
     }
 
@@ -136,7 +155,8 @@ impl History {
     ///
     /// # Errors
     ///
-    /// `NoSuchStatement` where no such number stands. A refusal changes nothing.
+    /// `NoSuchStatement` where no such number stands. A refusal changes nothing. With room for one more revision it takes no
+    /// memory.
     pub fn withdraw(&mut self, number: u32) -> Result<(), HistoryFault>
         ensures withdrawn { OnOk result (self.new.state
             ≡ with_revision self.old.state (withdrawal (number ∷ []))) }
@@ -144,6 +164,8 @@ impl History {
         ensures refused { IfErr result (IsRefusedBy (FailsWithdrawal self.old.state (number ∷ []))
             IsEarlierFault HistoryFault.Memory) }
         ensures unchanged { IfErr result (λ _. self.new.state ≡ self.old.state) }
+        ensures roomy { IfErr result (λ e. e ≡ HistoryFault.Memory → self.old.spare ≡ 0) }
+        ensures room { self.old.spare ≤ suc self.new.spare }
     {
         let Some(node) = find(&self.chain, number) else {
             return Err(HistoryFault::NoSuchStatement);
@@ -165,12 +187,15 @@ impl History {
         ensures refused { IfErr result (IsRefusedBy (FailsWithdrawal self.old.state numbers.now)
             IsEarlierFault HistoryFault.Memory) }
         ensures unchanged { IfErr result (λ _. self.new.state ≡ self.old.state) }
+        ensures room { self.old.spare ≤ suc self.new.spare }
     {
         let nodes = find_all(self.alloc, &self.chain, numbers)?;
         // With this room nothing is refused any more.
         self.inverses.reserve(1)?;
         unlink_all(&mut self.chain, &nodes);
-        self.inverses.push(Inverse::RelinkAll(nodes.into()))?;
+        self.inverses
+            .push(Inverse::RelinkAll(nodes.into()))
+            .unwrap();
         Ok(())
     }
 
@@ -179,7 +204,7 @@ impl History {
     /// # Errors
     ///
     /// `NoSuchStatement` where no such number stands, else `TooManyRows` where the statements with this one take more than
-    /// `MOST_ROWS`. A refusal changes nothing.
+    /// `MOST_ROWS`. A refusal changes nothing. With room for one more revision it takes no memory.
     pub fn replace(&mut self, number: u32, s: Statement) -> Result<(), HistoryFault>
         ensures replaced { OnOk result (self.new.state
             ≡ with_revision self.old.state (replacement number s)) }
@@ -187,28 +212,32 @@ impl History {
         ensures refused { IfErr result (IsRefusedBy (FailsReplacement self.old.state number s)
             IsEarlierFault HistoryFault.Memory) }
         ensures unchanged { IfErr result (λ _. self.new.state ≡ self.old.state) }
+        ensures roomy { IfErr result (λ e. e ≡ HistoryFault.Memory → self.old.spare ≡ 0) }
+        ensures room { self.old.spare ≤ suc self.new.spare }
     {
         let Some(node) = find(&self.chain, number) else {
             return Err(HistoryFault::NoSuchStatement);
         };
-        let list = listed(self.alloc, &self.chain)?;
-        let statements = replaced(self.alloc, &list, number, s)?;
-        if row_count(&statements) > MOST_ROWS {
-            return Err(HistoryFault::TooManyRows);
-        }
-        let old = self.chain.item(node);
-        self.inverses.push(Inverse::Set(node, old))?;
-        self.chain.set(
+        // With this room nothing is refused for want of memory any more.
+        self.inverses.reserve(1)?;
+        let old = self.chain.set(
             node,
             Numbered {
                 number,
                 statement: s,
             },
         );
+        list_statements(&self.chain, &mut self.scratch);
+        if row_count(&self.scratch) > MOST_ROWS {
+            self.chain.set(node, old);
+            return Err(HistoryFault::TooManyRows);
+        }
+        self.inverses.push(Inverse::Set(node, old)).unwrap();
         Ok(())
     }
 
-    /// Takes the last surviving revision back, which gives the whole history before it. It takes no memory.
+    /// Takes the last surviving revision back, which gives the whole history before it. It takes no memory, and leaves the room
+    /// that there was.
     ///
     /// # Errors
     ///
@@ -218,6 +247,7 @@ impl History {
             × (self.old.state ≡ with_revision self.new.state revision)) }
         ensures refused { IfErr result (FailsUndo self.old.state) }
         ensures unchanged { IfErr result (λ _. self.new.state ≡ self.old.state) }
+        ensures room { self.old.spare ≤ self.new.spare }
     {
         let Some(inverse) = self.inverses.pop() else {
             return Err(HistoryFault::NothingToUndo);

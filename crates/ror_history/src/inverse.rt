@@ -1,6 +1,6 @@
 //! What takes a revision back.
 
-ghost use Rattle.std.specs.Prelude.{◌≡◌, reverse};
+ghost use Rattle.std.specs.Prelude.{◌≡◌, ◌≤◌, reverse};
 ghost use Rattle.ror_chain.specs.Chain.{CanUnlinkAll, CanRelinkAll, all_relinked, all_unlinked};
 ghost use Rattle.ror_history.specs.Inverses.{CanTakeBack, taken_back};
 
@@ -24,7 +24,8 @@ pub enum Inverse {
 /// Takes a revision back.
 pub fn take_back(chain: &mut Chain<Numbered>, inverse: Inverse)
     requires { CanTakeBack chain.old.state inverse }
-    ensures { chain.new.state ≡ taken_back chain.old.state inverse }
+    ensures back { chain.new.state ≡ taken_back chain.old.state inverse }
+    ensures room { chain.old.spare ≤ chain.new.spare }
 {
     match inverse {
         Inverse::Pop => {
@@ -41,7 +42,8 @@ pub fn take_back(chain: &mut Chain<Numbered>, inverse: Inverse)
 /// Relinks nodes, the last of them first.
 fn relink_all(chain: &mut Chain<Numbered>, mut nodes: Vec<usize>)
     requires { CanRelinkAll chain.old.state (reverse nodes.items) }
-    ensures { chain.new.state ≡ all_relinked chain.old.state (reverse nodes.items) }
+    ensures relinked { chain.new.state ≡ all_relinked chain.old.state (reverse nodes.items) }
+    ensures room { chain.old.spare ≤ chain.new.spare }
 {
     'nodes: while let Some(node) = nodes.pop() {
         chain.relink(node);
@@ -51,7 +53,8 @@ fn relink_all(chain: &mut Chain<Numbered>, mut nodes: Vec<usize>)
 /// Unlinks nodes, the first of them first.
 pub fn unlink_all(chain: &mut Chain<Numbered>, nodes: &[usize])
     requires { CanUnlinkAll chain.old.state nodes.now }
-    ensures { chain.new.state ≡ all_unlinked chain.old.state nodes.now }
+    ensures unlinked { chain.new.state ≡ all_unlinked chain.old.state nodes.now }
+    ensures room { chain.old.spare ≤ chain.new.spare }
 {
     for node in nodes {
         chain.unlink(*node);

@@ -17,7 +17,8 @@ pub fn next_number_rises()
     ensures { NextNumberRises }
 {}
 
-/// A statement can be added exactly where neither test fails, and two first faults are equal.
+/// A statement can be added, withdrawn alone or with others, or replaced exactly where no test fails, and two first faults
+/// are equal.
 pub fn one_first_fault()
     ensures { OneFirstFault }
 {}

@@ -12,6 +12,8 @@
 //! undo()                                 Ok(()), and 1 stands; the next number is 2 again
 //! undo()                                 Err(NothingToUndo)
 //! ```
+//!
+//! [`History::reserve`] makes room for more revisions. With room, `add`, `withdraw` and `replace` take no memory.
 #![tactic(auto)]
 
 mod history;

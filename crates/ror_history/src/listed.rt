@@ -1,10 +1,10 @@
 //! What stands in a chain of numbered statements, whose nodes have the numbers from 1 on in order.
 
-ghost use Rattle.std.specs.Prelude.{◌≡◌, ◌≢◌, ◌==◌, if◌then◌else◌, suc, nat_eq, map, IfOk, IfErr, MatchOption};
+ghost use Rattle.std.specs.Prelude.{◌≡◌, ◌≢◌, ◌≤◌, suc, nat_eq, length, map, vec_capacity, IfOk, IfErr, MatchOption};
 ghost use Rattle.std.specs.List.{All, Contains, IsDistinct};
-ghost use Rattle.ror_chain.specs.Chain.{IsLinked, linked_items};
+ghost use Rattle.ror_chain.specs.Chain.{IsChain, IsLinked, linked_items};
 ghost use Rattle.ror_history.specs.Inverses.{IsSound};
-ghost use Rattle.ror_statement.specs.Statements.{numbers_in};
+ghost use Rattle.ror_statement.specs.Statements.{numbers_in, statements_in};
 ghost use Rattle.ror_history.specs.declared.history.HistoryFault.TheVariants.{Memory, NoSuchStatement};
 ghost use Rattle.ror_history.specs.Faults.{AreEachOnce};
 
@@ -25,6 +25,21 @@ pub fn listed(alloc: Global, chain: &Chain<Numbered>) -> Result<Vec<Numbered>, A
         at = chain.next(node);
     }
     Ok(list)
+}
+
+/// Fills a list with the statements of the linked nodes, in order, for which it has room. It takes no memory.
+pub fn list_statements(chain: &Chain<Numbered>, list: &mut Vec<Statement>)
+    requires chain { IsChain chain.now.state }
+    requires room { length chain.now.state.order ≤ vec_capacity list.old }
+    ensures listed { list.new.items ≡ statements_in (linked_items chain.now.state) }
+    ensures room { vec_capacity list.old ≤ vec_capacity list.new }
+{
+    list.clear();
+    let mut at = chain.first();
+    'nodes: while let Some(node) = at {
+        list.push(chain.item(node).statement).unwrap();
+        at = chain.next(node);
+    }
 }
 
 /// The linked node that holds the statement of a number, if it stands.
@@ -66,19 +81,4 @@ pub fn find_all(
         nodes.push(node)?;
     }
     Ok(nodes)
-}
-
-/// The statements without their numbers, another one in the place of the one with a number.
-pub fn replaced(
-    alloc: Global,
-    list: &[Numbered],
-    number: u32,
-    s: Statement,
-) -> Result<Vec<Statement>, AllocError>
-    ensures { IfOk result (λ statements. statements.items
-        ≡ map (λ x. if x.number == number then s else x.statement) list.now) }
-{
-    list.iter()
-        .map(|x| if x.number == number { s } else { x.statement })
-        .collect(alloc)
 }

@@ -6,19 +6,19 @@ pub returns-in-Some-clause-linked : goal.returns-in-Some-clause-linked
 returns-in-Some-clause-linked c =
     let kept = rw c.as_slice.ensures.value at c.in-Some.ensures in
     let back = comes_back c.args.rows.now.items c.args.chain.now.state c.args.last c.args.row.now c.in-Some.node c.requires.chain c.requires.last kept in
-    rw c.relink.ensures back.linked
+    rw c.relink.ensures.relinked back.linked
 
 pub returns-in-Some-clause-last : goal.returns-in-Some-clause-last
 returns-in-Some-clause-last c =
     let kept = rw c.as_slice.ensures.value at c.in-Some.ensures in
     let back = comes_back c.args.rows.now.items c.args.chain.now.state c.args.last c.args.row.now c.in-Some.node c.requires.chain c.requires.last kept in
-    rw c.relink.ensures back.last_is
+    rw c.relink.ensures.relinked back.last_is
 
 pub returns-in-Some-clause-chain : goal.returns-in-Some-clause-chain
 returns-in-Some-clause-chain c =
     let kept = rw c.as_slice.ensures.value at c.in-Some.ensures in
     let back = comes_back c.args.rows.now.items c.args.chain.now.state c.args.last c.args.row.now c.in-Some.node c.requires.chain c.requires.last kept in
-    rw c.relink.ensures back.chain
+    rw c.relink.ensures.relinked back.chain
 
 pub returns-clause-linked : goal.returns-clause-linked
 returns-clause-linked c =

@@ -15,4 +15,4 @@ unlink-requires c =
 pub loop-turn-preserved : goal.loop-turn-preserved
 loop-turn-preserved c =
     let is : c.loop-turn.last ≡ Some c.unwrap-node.result = search rules in
-    rw c.unlink.ensures (one_more_gone c.args.chain.now.state c.loop-turn.chain.state c.loop-turn.turn c.loop-turn.last c.unwrap-node.result c.prev-last.result c.loop-turn.invariant is c.prev-last.ensures)
+    rw c.unlink.ensures.unlinked (one_more_gone c.args.chain.now.state c.loop-turn.chain.state c.loop-turn.turn c.loop-turn.last c.unwrap-node.result c.prev-last.result c.loop-turn.invariant is c.prev-last.ensures)
