@@ -57,8 +57,8 @@ impl<T: Drop> From<AllocFailed<T>> for HistoryFault {
 /// The statements that a desk began with, and the revisions that survive. Clauses see it as these, and beside them for how
 /// many more revisions there is room.
 ///
-/// Each revision is kept as what takes it back, so that an undo takes no memory. With room for one, neither do an addition, a
-/// replacement and the withdrawal of one statement.
+/// Each revision is kept as what takes it back, so that an undo takes no memory. Where there is room for one more, an addition,
+/// a replacement and the withdrawal of one statement take none either.
 #[derive(Drop)]
 pub struct History {
     chain: Chain<Numbered>,
@@ -141,7 +141,7 @@ impl History {
             return Err(HistoryFault::TooManyRows);
         }
         let number = self.next_number();
-        // With this room the chain's push is the last that can be refused.
+        // With this room nothing is refused behind the chain's push.
         self.inverses.reserve(1)?;
         self.chain.push(Numbered {
             number,
@@ -218,7 +218,7 @@ impl History {
         let Some(node) = find(&self.chain, number) else {
             return Err(HistoryFault::NoSuchStatement);
         };
-        // With this room nothing is refused for want of memory any more.
+        // With this room memory is not wanted any more.
         self.inverses.reserve(1)?;
         let old = self.chain.set(
             node,
