@@ -4,6 +4,7 @@ pub mod NumberLemmas
 pub mod DepthLemmas
 pub mod TextLemmas
 pub mod LawLemmas
+pub mod ListedLemmas
 pub mod PlainReader
 pub mod Runs
 pub mod NameLemmas

@@ -14,6 +14,8 @@ use Rattle.ror_elements.specs.Depth.{tree_depth}
 use Rattle.ror_elements.specs.Elements.{read, finish, elements_of, without_mark}
 use Rattle.ror_elements.specs.Faults.{fault}
 use Rattle.ror_elements.specs.Grammar.{IsDocument}
+use Rattle.ror_elements.specs.Kept.{is_kept}
+use Rattle.ror_elements.specs.Listed.{IsListedIn, rows}
 use Rattle.ror_elements.specs.Marks.{local_name, trimmed}
 use Rattle.ror_elements.specs.Open.{finished}
 use Rattle.ror_elements.specs.Reader.{nothing_read}
@@ -81,6 +83,12 @@ DocumentsAreRead = (bytes : List ℕ) (root : Tree) → (elements_of bytes ≡ O
 -- so a document has one root
 abbrev pub OneRoot : Type 0
 OneRoot = (bytes : List ℕ) (root other : Tree) → IsDocument bytes root → IsDocument bytes other → root ≡ other
+
+-- ---- the table
+
+-- an element is kept exactly where a row of the table says so
+abbrev pub KeptElementsAreListed : Type 0
+KeptElementsAreListed = (path name : List ℕ) → (is_kept path name ≡ true) ↔ IsListedIn rows path name
 
 -- ---- limits
 

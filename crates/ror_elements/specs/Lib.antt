@@ -1,5 +1,6 @@
 pub mod Tree
 pub mod Kept
+pub mod Listed
 pub mod Marks
 pub mod Mode
 pub mod Faults

@@ -2,6 +2,7 @@
 
 ghost use Rattle.ror_elements.specs.Laws.{LinesAreCounted, GivesTheFirstFault, NoneIsTooDeep, LimitsAre};
 ghost use Rattle.ror_elements.specs.Laws.{NothingIsReplaced, DocumentsAreRead, OneRoot};
+ghost use Rattle.ror_elements.specs.Laws.{KeptElementsAreListed};
 
 /// The line that is known of a byte is one more than the line ends before it.
 pub fn lines_are_counted()
@@ -34,6 +35,12 @@ pub fn documents_are_read()
 /// A document has one root.
 pub fn a_document_has_one_root()
     ensures { OneRoot }
+{}
+
+/// The child with a local name is kept of an element with a path exactly where a row of the table in
+/// `specs/Listed` says so.
+pub fn kept_elements()
+    ensures { KeptElementsAreListed }
 {}
 
 /// An element may be at most 64 deep.
