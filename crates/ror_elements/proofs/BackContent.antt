@@ -278,7 +278,7 @@ cut_brackets_if false top text = refl
 cut_brackets_if true top text = ap (λ (t : List ℕ). record top { kept = true; text = t }) (ap (λ (t : List ℕ). take (length t - 2) t) (sym (append_assoc top.text text (93 ∷ 93 ∷ [])) ∙ sym (append_assoc (top.text ++ text) (93 ∷ []) (93 ∷ []))) ∙ take_front (top.text ++ text))
 
 -- the last byte of both is the same
-last_off : (xs ys : List ℕ) (x : ℕ) → xs ++ x ∷ [] ≡ ys ++ x ∷ [] → xs ≡ ys
+pub last_off : (xs ys : List ℕ) (x : ℕ) → xs ++ x ∷ [] ≡ ys ++ x ∷ [] → xs ≡ ys
 last_off [] [] x e = refl
 last_off [] (y ∷ []) x e = absurd cc
 last_off [] (y ∷ z ∷ ys) x e = absurd cc

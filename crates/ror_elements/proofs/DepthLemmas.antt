@@ -324,13 +324,13 @@ act_in-placed modes.BeforeValue r byte s room = before_value-placed r byte s roo
 act_in-placed (modes.Value quote) r byte s room = in_value-placed quote r byte s room
 act_in-placed (modes.Reference home) r byte s room = in_reference-placed home r byte s room
 
-read-placed : (r : Reader) (byte : ℕ) → IsPlaced r → Places (read r byte)
+pub read-placed : (r : Reader) (byte : ℕ) → IsPlaced r → Places (read r byte)
 unfolding read act
 read-placed r byte s = past _ (is_control byte) _ (λ _. keeps IsPlaced (act_in r.mode r byte) _ (λ next e.
     let placed : IsPlaced next = subst (λ result. IfOk result IsPlaced) e (act_in-placed r.mode r byte s s.room) in
     record { is_open = placed.is_open; room = placed.room }))
 
-none_open : IsPlaced nothing_read
+pub none_open : IsPlaced nothing_read
 none_open = record { is_open = record { here = omega arith; around = tt; few = omega arith }; room = tt }
 
 -- what is needed is there

@@ -56,7 +56,7 @@ line_stays [] count byte h e = absurd cc
 line_stays (x ∷ text) zero byte h e = subst (λ b. (b == 10) ≡ false) (eqb-true x byte e) h.0
 line_stays (x ∷ text) (suc count) byte h e = line_stays text count byte h.1 e
 
-take_one : (text : List ℕ) (count byte : ℕ) → is_byte_at text count byte ≡ true → take (suc count) text ≡ take count text ++ byte ∷ []
+pub take_one : (text : List ℕ) (count byte : ℕ) → is_byte_at text count byte ≡ true → take (suc count) text ≡ take count text ++ byte ∷ []
 take_one [] count byte e = absurd cc
 take_one (x ∷ text) zero byte e = ap (λ b. b ∷ []) (eqb-true x byte e)
 take_one (x ∷ text) (suc count) byte e = ap (λ (xs : List ℕ). x ∷ xs) (take_one text count byte e)
@@ -241,7 +241,7 @@ left (byte ∷ bytes) r last root e f =
 
 -- ---- a whole text
 
-content_of : (text : List ℕ) (last : Reader) (root : Tree) → run nothing_read text ≡ Ok last → finish last ≡ Ok root → Content 1 whole_text [] text root
+pub content_of : (text : List ℕ) (last : Reader) (root : Tree) → run nothing_read text ≡ Ok last → finish last ≡ Ok root → Content 1 whole_text [] text root
 unfolding run plain finish
 content_of [] last root e f = let same : nothing_read ≡ last = cc in let none : finish nothing_read ≡ Ok root = ap finish same ∙ f in absurd cc
 content_of (byte ∷ bytes) last root e f =

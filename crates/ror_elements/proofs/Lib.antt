@@ -22,3 +22,7 @@ pub mod Prepend
 pub mod BackTags
 pub mod BackContent
 pub mod DocumentLemmas
+pub mod FaultWords
+pub mod FaultSteps
+pub mod FaultTags
+pub mod FaultLemmas

@@ -25,7 +25,7 @@ number_in-digits : (base : ℕ) (digits : List ℕ) → AreDigits base digits �
 number_in-digits base [] h = absurd (h.1 refl)
 number_in-digits base (digit ∷ digits) h = rw (digits_pass base (digit ∷ digits) h.0) refl
 
-character_at-code : (code : ℕ) → IsCharacter code → character_at code ≡ Some code
+pub character_at-code : (code : ℕ) → IsCharacter code → character_at code ≡ Some code
 character_at-code code h = rw (lt-ltb 0 code h.0, scalar_or (nat_lt code 0xD800) (nat_le 0xE000 code && nat_lt code 0x110000) h.1) refl
   where
     scalar_or : (s t : Bool) → (if s then true else t) ≡ true → (s || t) ≡ true
@@ -37,12 +37,12 @@ no_letter digit low = false_from_ne_true (digit == 120) (λ e.
     let same : digit_value digit ≡ 16 = ap digit_value (eqb-true digit 120 e) in
     absurd (omega (arith, same, low)))
 
-decimal_number : (digits : List ℕ) → AreDigits 10 digits → number_of (35 ∷ digits) ≡ Some (digits_number 10 digits)
+pub decimal_number : (digits : List ℕ) → AreDigits 10 digits → number_of (35 ∷ digits) ≡ Some (digits_number 10 digits)
 unfolding number_of
 decimal_number [] h = absurd (h.1 refl)
 decimal_number (digit ∷ digits) h = rw (no_letter digit h.0.0) (number_in-digits 10 (digit ∷ digits) h)
 
-hexadecimal_number : (digits : List ℕ) → AreDigits 16 digits → number_of (35 ∷ 120 ∷ digits) ≡ Some (digits_number 16 digits)
+pub hexadecimal_number : (digits : List ℕ) → AreDigits 16 digits → number_of (35 ∷ 120 ∷ digits) ≡ Some (digits_number 16 digits)
 unfolding number_of
 hexadecimal_number digits h = number_in-digits 16 digits h
 

@@ -128,7 +128,7 @@ same_read p r byte s clean = rw clean (ap (λ (acted : Result Reader ElementFaul
 abbrev pub IsClean : List ℕ → Type 0
 IsClean bytes = AllByRecursion (λ byte. is_control byte ≡ false) bytes
 
-same_run : (p bytes : List ℕ) (r : Reader) → IsUtf8 (p ++ bytes) → IsGathered p r → IsClean bytes → read_all read r bytes ≡ read_all plain r bytes
+pub same_run : (p bytes : List ℕ) (r : Reader) → IsUtf8 (p ++ bytes) → IsGathered p r → IsClean bytes → read_all read r bytes ≡ read_all plain r bytes
 same_run p [] r u s clean = refl
 same_run p (byte ∷ bytes) r u s clean =
     bind_same (read r byte) (λ next. read_all read next bytes) (λ next. read_all plain next bytes) (λ next e.
@@ -141,7 +141,7 @@ unfolding read
 control_free r next byte e = let tested = bind_ok (refuse _ (is_control byte)) _ next e in refuse_ok _ (is_control byte) tested.0 tested.1
 
 -- what is read holds no control byte
-read-clean : (bytes : List ℕ) (r last : Reader) → read_all read r bytes ≡ Ok last → IsClean bytes
+pub read-clean : (bytes : List ℕ) (r last : Reader) → read_all read r bytes ≡ Ok last → IsClean bytes
 read-clean [] r last e = tt
 read-clean (byte ∷ bytes) r last e =
     let first = bind_ok (read r byte) (λ next. read_all read next bytes) last e in

@@ -12,4 +12,5 @@ pub mod Tags
 pub mod Elements
 pub mod Depth
 pub mod Grammar
+pub mod Refusals
 pub mod Laws

@@ -3,6 +3,7 @@
 ghost use Rattle.ror_elements.specs.Laws.{LinesAreCounted, GivesTheFirstFault, NoneIsTooDeep, LimitsAre};
 ghost use Rattle.ror_elements.specs.Laws.{NothingIsReplaced, DocumentsAreRead, OneRoot};
 ghost use Rattle.ror_elements.specs.Laws.{KeptElementsAreListed};
+ghost use Rattle.ror_elements.specs.Refusals.{FaultsAreWhatTheySay};
 
 /// The line that is known of a byte is one more than the line ends before it.
 pub fn lines_are_counted()
@@ -14,6 +15,11 @@ pub fn lines_are_counted()
 /// of its end.
 pub fn the_first_fault_is_given()
     ensures { GivesTheFirstFault }
+{}
+
+/// The fault that is given is one of its kind that stands in the text, at the line where it begins.
+pub fn faults_are_what_they_say()
+    ensures { FaultsAreWhatTheySay }
 {}
 
 /// No element that is read is deeper than [`MOST_DEPTH`](crate::MOST_DEPTH).

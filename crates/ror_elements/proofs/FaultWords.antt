@@ -1,0 +1,360 @@
+-- What the bytes that were read are, and what stands where a byte is not allowed.
+use Rattle.std.proofs.Common.{◌≡◌, ℕ, zero, suc, ◌+◌, ◌<◌, ◌≤◌, Bool, true, false, not, List, [], ◌∷◌, ◌++◌, append_assoc, append-nil, length, take, map, Option, Some, None, Result, Ok, Err, refl, sym, ap, subst, ◌∙◌, arith, inl, inr}
+use Rattle.std.specs.Char.{encode_utf8}
+use Rattle.std.specs.Prelude.{IfOk, ◌⊎◌, ◌==◌, ◌&&◌, if◌then◌else◌, nat_le, nat_lt, count_by}
+use Rattle.std.specs.List.{AllByRecursion, list_any}
+use Rattle.std.specs.Str.{bytes_eq}
+use Rattle.std.proofs.lemmas.Bool.{eqb-true, eqb-false, not-false, leb-true, ltb-true, ltb-false}
+use Rattle.std.proofs.lemmas.List.{take_all}
+use Rattle.std.proofs.lemmas.Slice.Eq.{bytes_eq-Decides}
+use Rattle.ror_text.specs.Reading.{◌>>=◌, refuse, need, read_all}
+use Rattle.ror_text.proofs.ReadingLemmas.{bind_ok, bind-at_ok, read_all-append}
+use Rattle.ror_elements.specs.declared.declaration.Declaration.{Declaration}
+use Rattle.ror_elements.specs.declared.element.ElementFault.{ElementFault}
+use Rattle.ror_elements.specs.declared.element.ElementKind.{ElementKind}
+use Rattle.ror_elements.specs.declared.element.ElementKind.TheVariants as kinds
+use Rattle.ror_elements.specs.declared.mode.Home.{Home}
+use Rattle.ror_elements.specs.declared.mode.Home.TheVariants as homes
+use Rattle.ror_elements.specs.declared.mode.Mode.{Mode}
+use Rattle.ror_elements.specs.declared.mode.Mode.TheVariants as modes
+use Rattle.ror_elements.specs.declared.mode.Opening.{Opening}
+use Rattle.ror_elements.specs.declared.mode.Opening.TheVariants as openings
+use Rattle.ror_elements.specs.declared.mode.Quote.{Quote}
+use Rattle.ror_elements.specs.declared.mode.Seen.{Seen}
+use Rattle.ror_elements.specs.declared.open.Open.{Open}
+use Rattle.ror_elements.specs.declared.reader.Reader.{Reader}
+use Rattle.ror_elements.specs.declared.reader.Tag.{Tag}
+use Rattle.ror_elements.specs.Declarations.{nothing_declared, is_foreign, after}
+use Rattle.ror_elements.specs.Elements.{act_in, act, read, line_after}
+use Rattle.ror_elements.specs.Faults.{fault}
+use Rattle.ror_elements.specs.Grammar.{IsName, IsSpace, IsGap, BeginsTag, IsReference, IsValue, Attribute, IsAttribute, AreAttributes, AreDistinct, IsTag, Names, line_behind, IsCharacter}
+use Rattle.ror_elements.specs.Kept.{is_kept}
+use Rattle.ror_elements.specs.Laws.{IsReached}
+use Rattle.ror_elements.specs.Marks.{is_white, is_name_byte, is_control, local_name}
+use Rattle.ror_elements.specs.Mode.{is_ended_by, opening_text, quote_of, quote_byte, is_byte_at, is_between}
+use Rattle.ror_elements.specs.Open.{is_none, finished}
+use Rattle.ror_elements.specs.Reader.{nothing_read, is_outside, is_behind_root, add_text, add_value, outside, at_start, in_content, begin_tag, begin_end_tag, in_first_markup, in_markup, in_exclamation, begin, in_beginning, in_comment, without_brackets, in_section, in_first_instruction, end_first_instruction, in_instruction, referred, end_reference, in_reference}
+use Rattle.ror_elements.specs.Refusals.{IsBegunTag, StandsBehind, IsBadRest, IsBadMarkup, IsBadReference}
+use Rattle.ror_elements.specs.References.{entity, number_of, character_at, chosen, character_of}
+use Rattle.ror_elements.specs.Tags.{root_name, opened, is_bad_root, open_element, close_in, close, after_end_name, in_end_name, begin_attribute, in_tag, in_start_name, in_empty_tag, add_name, after_attribute_name, in_attribute_name, quoted, before_value, end_value, add_byte, in_value}
+use Rattle.ror_elements.proofs.Behind.{EndsQuestion}
+use Rattle.ror_elements.proofs.Declared.{known, known_append}
+use Rattle.ror_elements.proofs.DocumentLemmas.{take_one}
+use Rattle.ror_elements.proofs.LawLemmas.{lines_are_counted}
+use Rattle.ror_elements.proofs.NameLemmas.{names, character_at-code}
+
+-- ---- open elements
+
+abbrev pub AreNameBytes : List ℕ → Type 0
+AreNameBytes bytes = AllByRecursion (λ byte. is_name_byte byte ≡ true) bytes
+
+-- the root is kept
+abbrev pub IsFirstKept : Bool → List Open → Type 0
+IsFirstKept kept [] = kept ≡ true
+IsFirstKept kept (around ∷ outer) = Unit {0}
+
+-- each has a name, the root is kept, and the outermost is the whole text
+abbrev pub IsStacked : (name : List ℕ) (kept : Bool) (path : List ℕ) → List Open → Type 0
+IsStacked name kept path [] = (kept ≡ true) × (path ≡ [])
+IsStacked name kept path (around ∷ outer) = IsName name × IsFirstKept kept outer × IsStacked around.name around.kept around.path outer
+
+abbrev pub Stacked : Open → List Open → Type 0
+Stacked top below = IsStacked top.name top.kept top.path below
+
+-- the names of what is open, from the innermost
+abbrev pub open_names : Open → List Open → List (List ℕ)
+open_names top [] = []
+open_names top (around ∷ outer) = top.name ∷ open_names around outer
+
+-- a root was closed
+abbrev pub is_closed : Open → List Open → Bool
+is_closed top below = is_none below && not (is_none top.children)
+
+-- ---- what was read
+
+-- nothing, or bytes of which the last is ASCII
+abbrev pub EndsLow : List ℕ → Type 0
+EndsLow seen = (seen ≡ []) ⊎ ((before : List ℕ) × (byte : ℕ) × (seen ≡ before ++ byte ∷ []) × (byte < 128))
+
+-- between constructs: nothing was read, or what is read outside the root ends with an ASCII byte
+abbrev pub IsBetween : List ℕ → Mode → List Open → Type 0
+IsBetween seen modes.Start below = seen ≡ []
+IsBetween seen modes.Content below = is_none below ≡ true → EndsLow seen
+IsBetween seen _ below = ⊥
+
+-- these bytes begin on this line, behind a front that was read, between constructs, and stand at the end of what was read
+pub record Begun (seen : List ℕ) (line : ℕ) (top : Open) (below : List Open) (piece : List ℕ) : Type 0 where
+  pub front : List ℕ
+  pub mode : Mode
+  pub like : Reader
+  pub reads : IsReached front (record like { mode = mode; line = line; top = top; below = below })
+  pub between : IsBetween front mode below
+  pub stacked : Stacked top below
+  pub split : seen ≡ front ++ piece
+
+-- these bytes begin on this line, and stand at the end of what was read
+pub record Referred (seen : List ℕ) (line : ℕ) (piece : List ℕ) : Type 0 where
+  pub before : List ℕ
+  pub split : seen ≡ before ++ piece
+  pub is_line : line ≡ line_behind 1 before
+
+-- an instruction with which the text begins, so far
+pub record Instructed (seen : List ℕ) (start : ℕ) (question : Bool) (declaration : Declaration) : Type 0 where
+  pub inside : List ℕ
+  pub split : seen ≡ 60 ∷ 63 ∷ inside
+  pub known_is : declaration ≡ known nothing_declared inside
+  pub first : start ≡ 1
+  pub goes : (more : List ℕ) → EndsQuestion question more → EndsQuestion false (inside ++ more)
+
+-- an end tag so far
+abbrev pub Ended : List ℕ → ℕ → Open → List Open → List ℕ → Type 0
+Ended seen start top below piece = Begun seen start top below (60 ∷ 47 ∷ piece) × AreNameBytes piece × (is_none below ≡ false)
+
+-- behind the name of an end tag and white space
+pub record BehindEnd (seen : List ℕ) (start : ℕ) (top : Open) (below : List Open) : Type 0 where
+  pub space : List ℕ
+  pub begun : Begun seen start top below (60 ∷ 47 ∷ top.name ++ space)
+  pub is_space : IsSpace space
+  pub some : ¬ (space ≡ [])
+  pub inside : is_none below ≡ false
+
+-- a tag so far: a name, attributes with these names, and then this rest
+pub record Tagged (seen : List ℕ) (start : ℕ) (top : Open) (below : List Open) (name : List ℕ) (names : List (List ℕ)) (rest : List ℕ) : Type 0 where
+  pub bytes : List ℕ
+  pub begun : Begun seen start top below bytes
+  pub is_begun : IsBegunTag bytes name names rest
+  pub first : is_closed top below ≡ false
+
+pub record InTag (spaced : Bool) (seen : List ℕ) (start : ℕ) (top : Open) (below : List Open) (tag : Tag) : Type 0 where
+  pub space : List ℕ
+  pub tagged : Tagged seen start top below tag.name tag.names space
+  pub is_space : IsSpace space
+  pub some : spaced ≡ true → ¬ (space ≡ [])
+  pub none : spaced ≡ false → space ≡ []
+
+pub record AtSlash (seen : List ℕ) (start : ℕ) (top : Open) (below : List Open) (tag : Tag) : Type 0 where
+  pub space : List ℕ
+  pub tagged : Tagged seen start top below tag.name tag.names (space ++ 47 ∷ [])
+  pub is_space : IsSpace space
+
+pub record InName (piece : List ℕ) (seen : List ℕ) (start : ℕ) (top : Open) (below : List Open) (tag : Tag) : Type 0 where
+  pub gap : List ℕ
+  pub tagged : Tagged seen start top below tag.name tag.names (gap ++ piece)
+  pub is_gap : IsGap gap
+  pub is_name : IsName piece
+
+-- behind the name of an attribute stands this rest
+pub record Naming (seen : List ℕ) (start : ℕ) (top : Open) (below : List Open) (tag : Tag) (rest : List ℕ) : Type 0 where
+  pub gap : List ℕ
+  pub name : List ℕ
+  pub names : List (List ℕ)
+  pub tagged : Tagged seen start top below tag.name names (gap ++ (name ++ rest))
+  pub is_gap : IsGap gap
+  pub is_name : IsName name
+  pub distinct : AreDistinct (names ++ name ∷ [])
+  pub named : tag.names ≡ names ++ name ∷ []
+
+pub record BehindName (seen : List ℕ) (start : ℕ) (top : Open) (below : List Open) (tag : Tag) : Type 0 where
+  pub space : List ℕ
+  pub naming : Naming seen start top below tag space
+  pub is_space : IsSpace space
+  pub some : ¬ (space ≡ [])
+
+pub record BehindEquals (seen : List ℕ) (start : ℕ) (top : Open) (below : List Open) (tag : Tag) : Type 0 where
+  pub before : List ℕ
+  pub after : List ℕ
+  pub naming : Naming seen start top below tag (before ++ (61 ∷ after))
+  pub is_before : IsSpace before
+  pub is_after : IsSpace after
+
+-- in a value, behind what was written of it stands this rest
+pub record InValue (quote : Quote) (seen : List ℕ) (start : ℕ) (top : Open) (below : List Open) (tag : Tag) (rest : List ℕ) : Type 0 where
+  pub before : List ℕ
+  pub after : List ℕ
+  pub written : List ℕ
+  pub value : List ℕ
+  pub naming : Naming seen start top below tag (before ++ (61 ∷ after ++ (quote_byte quote ∷ written ++ rest)))
+  pub is_before : IsSpace before
+  pub is_after : IsSpace after
+  pub is_value : IsValue quote written value
+
+-- what holds in a mode
+abbrev pub AtMode : Mode → List ℕ → ℕ → ℕ → List ℕ → Tag → Declaration → Open → List Open → Type 0
+AtMode modes.Content seen start line piece tag declaration top below = is_none below ≡ true → EndsLow seen
+AtMode modes.Start seen start line piece tag declaration top below = (seen ≡ []) × (declaration ≡ nothing_declared) × (below ≡ [])
+AtMode modes.FirstMarkup seen start line piece tag declaration top below = Begun seen start top below (60 ∷ []) × (seen ≡ 60 ∷ []) × (start ≡ 1) × (declaration ≡ nothing_declared)
+AtMode modes.Markup seen start line piece tag declaration top below = Begun seen start top below (60 ∷ [])
+AtMode modes.Exclamation seen start line piece tag declaration top below = Begun seen start top below (60 ∷ 33 ∷ [])
+AtMode (modes.Beginning opening count) seen start line piece tag declaration top below = Begun seen start top below (60 ∷ 33 ∷ take count (opening_text opening)) × (0 < count) × (count < length (opening_text opening))
+AtMode (modes.FirstInstruction question) seen start line piece tag declaration top below = Instructed seen start question declaration
+AtMode modes.EndName seen start line piece tag declaration top below = Ended seen start top below piece
+AtMode modes.AfterEndName seen start line piece tag declaration top below = BehindEnd seen start top below
+AtMode modes.StartName seen start line piece tag declaration top below = Begun seen start top below (60 ∷ piece) × IsName piece × BeginsTag piece × (is_closed top below ≡ false)
+AtMode (modes.Tag spaced) seen start line piece tag declaration top below = InTag spaced seen start top below tag
+AtMode modes.EmptyTag seen start line piece tag declaration top below = AtSlash seen start top below tag
+AtMode modes.AttributeName seen start line piece tag declaration top below = InName piece seen start top below tag
+AtMode modes.AfterAttributeName seen start line piece tag declaration top below = BehindName seen start top below tag
+AtMode modes.BeforeValue seen start line piece tag declaration top below = BehindEquals seen start top below tag
+AtMode (modes.Value quote) seen start line piece tag declaration top below = InValue quote seen start top below tag []
+AtMode (modes.Reference homes.Text) seen start line piece tag declaration top below = Referred seen line (38 ∷ piece) × AreNameBytes piece
+AtMode (modes.Reference (homes.Value quote)) seen start line piece tag declaration top below = (Referred seen line (38 ∷ piece) × AreNameBytes piece) × InValue quote seen start top below tag (38 ∷ piece)
+AtMode _ seen start line piece tag declaration top below = Unit {0}
+
+pub record Holds (seen : List ℕ) (r : Reader) : Type 0 where
+  pub stacked : Stacked r.top r.below
+  pub here : AtMode r.mode seen r.start r.reference_line r.piece r.tag r.declaration r.top r.below
+
+-- ---- what is at fault
+
+pub record Mismatches (seen : List ℕ) (line : ℕ) : Type 0 where
+  pub name : List ℕ
+  pub next : ℕ
+  pub top : Open
+  pub below : List Open
+  pub begun : Begun seen line top below (60 ∷ 47 ∷ name ++ next ∷ [])
+  pub inside : is_none below ≡ false
+  pub is_name : IsName name
+  pub ends : is_name_byte next ≡ false
+  pub other : ¬ (name ≡ top.name)
+
+pub record Deepens (seen : List ℕ) (line : ℕ) : Type 0 where
+  pub name : List ℕ
+  pub next : ℕ
+  pub top : Open
+  pub below : List Open
+  pub begun : Begun seen line top below (60 ∷ name ++ next ∷ [])
+  pub is_name : IsName name
+  pub begins : BeginsTag name
+  pub ends : is_name_byte next ≡ false
+  pub many : 64 ≤ length below
+
+pub record Encodes (seen : List ℕ) (line : ℕ) : Type 0 where
+  pub inside : List ℕ
+  pub split : seen ≡ 60 ∷ 63 ∷ inside ++ 62 ∷ []
+  pub ends : EndsQuestion false (inside ++ 62 ∷ [])
+  pub foreign : is_foreign (known nothing_declared inside) ≡ true
+  pub first : line ≡ 1
+
+pub record NamesNothing (seen : List ℕ) (line : ℕ) : Type 0 where
+  pub name : List ℕ
+  pub referred : Referred seen line (38 ∷ name ++ 59 ∷ [])
+  pub is_name : IsName name
+  pub no_entity : entity name ≡ None
+  pub no_number : number_of name ≡ None
+
+pub record Misnames (seen : List ℕ) (line : ℕ) : Type 0 where
+  pub ending : List ℕ
+  pub bytes : List ℕ
+  pub name : List ℕ
+  pub id : Option (List ℕ)
+  pub top : Open
+  pub below : List Open
+  pub begun : Begun seen line top below bytes
+  pub outside : is_none below ≡ true
+  pub first : is_closed top below ≡ false
+  pub is_ending : (ending ≡ 62 ∷ []) ⊎ (ending ≡ 47 ∷ 62 ∷ [])
+  pub is_tag : IsTag ending bytes name id
+  pub other : ¬ (local_name name ≡ root_name)
+
+pub data Misplaces (seen : List ℕ) (line : ℕ) : Type 0 where
+  control : (before : List ℕ) (byte : ℕ) → seen ≡ before ++ byte ∷ [] → is_control byte ≡ true → line ≡ line_behind 1 before → Misplaces seen line
+  markup : (top : Open) (below : List Open) (bytes : List ℕ) → Begun seen line top below bytes → IsBadMarkup (open_names top below) bytes → Misplaces seen line
+  second_root : (top : Open) (below : List Open) (byte : ℕ) → Begun seen line top below (60 ∷ byte ∷ []) → is_closed top below ≡ true → is_name_byte byte ≡ true → ¬ (byte ≡ 33) → ¬ (byte ≡ 63) → Misplaces seen line
+  reference : (bytes : List ℕ) → Referred seen line (38 ∷ bytes) → IsBadReference bytes → Misplaces seen line
+
+abbrev pub Fails : ElementKind → List ℕ → ℕ → Type 0
+Fails kinds.NotUtf8 seen line = ⊥
+Fails kinds.Form seen line = Misnames seen line
+Fails kinds.BadMarkup seen line = Misplaces seen line
+Fails kinds.TooDeep seen line = Deepens seen line
+Fails kinds.Unclosed seen line = ⊥
+Fails kinds.Mismatched seen line = Mismatches seen line
+Fails kinds.Doctype seen line = (top : Open) × (below : List Open) × Begun seen line top below (60 ∷ 33 ∷ opening_text openings.Doctype)
+Fails kinds.Encoding seen line = Encodes seen line
+Fails kinds.Entity seen line = NamesNothing seen line
+
+abbrev pub Goes : List ℕ → Result Reader ElementFault → Type 0
+Goes seen (Ok r) = Holds seen r
+Goes seen (Err f) = Fails f.kind seen f.line
+
+-- ---- tests
+
+pub when : {A : Type 0} (P : A → Type 0) (test : Bool) (x y : A) → (test ≡ true → P x) → (test ≡ false → P y) → P (if test then x else y)
+when P true x y f g = f refl
+when P false x y f g = g refl
+
+pub past : (seen : List ℕ) (f : ElementFault) (test : Bool) (rest : Result Reader ElementFault) → (test ≡ true → Fails f.kind seen f.line) → (test ≡ false → Goes seen rest) → Goes seen (refuse f test >>= λ _. rest)
+past seen f true rest fails goes = fails refl
+past seen f false rest fails goes = goes refl
+
+pub not-true : (test : Bool) → not test ≡ true → test ≡ false
+not-true true e = absurd cc
+not-true false e = refl
+
+-- ---- one more byte
+
+pub more_names : (bytes : List ℕ) (byte : ℕ) → AreNameBytes bytes → is_name_byte byte ≡ true → AreNameBytes (bytes ++ byte ∷ [])
+more_names [] byte all is = (is, tt)
+more_names (first ∷ bytes) byte all is = (all.0, more_names bytes byte all.1 is)
+
+pub some_more : (bytes : List ℕ) (byte : ℕ) → ¬ (bytes ++ byte ∷ [] ≡ [])
+some_more [] byte = λ e. absurd cc
+some_more (first ∷ bytes) byte = λ e. absurd cc
+
+pub longer_name : (bytes : List ℕ) (byte : ℕ) → AreNameBytes bytes → is_name_byte byte ≡ true → IsName (bytes ++ byte ∷ [])
+longer_name bytes byte all is = (more_names bytes byte all is, some_more bytes byte)
+
+pub some_name : (bytes : List ℕ) → is_none bytes ≡ false → ¬ (bytes ≡ [])
+some_name [] e = absurd cc
+some_name (byte ∷ bytes) e = λ none. absurd cc
+
+pub begins_more : (bytes : List ℕ) (byte : ℕ) → BeginsTag bytes → BeginsTag (bytes ++ byte ∷ [])
+begins_more [] byte h = absurd h
+begins_more (first ∷ bytes) byte h = h
+
+pub longer : (seen : List ℕ) (line : ℕ) (top : Open) (below : List Open) (piece : List ℕ) (byte : ℕ) → Begun seen line top below piece → Begun (seen ++ byte ∷ []) line top below (piece ++ byte ∷ [])
+longer seen line top below piece byte b = record {
+  front = b.front;
+  mode = b.mode;
+  like = b.like;
+  reads = b.reads;
+  between = b.between;
+  stacked = b.stacked;
+  split = ap (λ (xs : List ℕ). xs ++ byte ∷ []) b.split ∙ append_assoc b.front piece (byte ∷ []);
+}
+
+pub longer_by : (seen : List ℕ) (line : ℕ) (top : Open) (below : List Open) (piece : List ℕ) (byte other : ℕ) → (byte == other) ≡ true → Begun seen line top below piece → Begun (seen ++ byte ∷ []) line top below (piece ++ other ∷ [])
+longer_by seen line top below piece byte other e b = subst (λ n. Begun (seen ++ byte ∷ []) line top below (piece ++ n ∷ [])) (eqb-true byte other e) (longer seen line top below piece byte b)
+
+pub further : (seen : List ℕ) (line : ℕ) (piece : List ℕ) (byte : ℕ) → Referred seen line piece → Referred (seen ++ byte ∷ []) line (piece ++ byte ∷ [])
+further seen line piece byte b = record {
+  before = b.before;
+  split = ap (λ (xs : List ℕ). xs ++ byte ∷ []) b.split ∙ append_assoc b.before piece (byte ∷ []);
+  is_line = b.is_line;
+}
+
+-- a construct begins behind what was read
+pub begins_at : (seen : List ℕ) (r : Reader) (byte : ℕ) → IsReached seen r → IsBetween seen r.mode r.below → Stacked r.top r.below → Begun (seen ++ byte ∷ []) r.line r.top r.below (byte ∷ [])
+begins_at seen r byte reached between stacked = record {
+  front = seen;
+  mode = r.mode;
+  like = r;
+  reads = reached;
+  between = between;
+  stacked = stacked;
+  split = refl;
+}
+
+pub begins : (seen : List ℕ) (r : Reader) (byte other : ℕ) → IsReached seen r → IsBetween seen r.mode r.below → Stacked r.top r.below → (byte == other) ≡ true → Begun (seen ++ byte ∷ []) r.line r.top r.below (other ∷ [])
+begins seen r byte other reached between stacked e = subst (λ n. Begun (seen ++ byte ∷ []) r.line r.top r.below (n ∷ [])) (eqb-true byte other e) (begins_at seen r byte reached between stacked)
+
+pub no_names : (top : Open) (below : List Open) → is_none below ≡ true → [] ≡ open_names top below
+no_names top [] e = refl
+no_names top (around ∷ outer) e = absurd cc
+
+-- what is bad outside the root
+pub bad_outside : (seen : List ℕ) (line : ℕ) (top : Open) (below : List Open) (bytes : List ℕ) → is_none below ≡ true → Begun seen line top below bytes → IsBadMarkup [] bytes → Misplaces seen line
+bad_outside seen line top below bytes e b bad = Misplaces.markup top below bytes b (subst (λ (names : List (List ℕ)). IsBadMarkup names bytes) (no_names top below e) bad)
+
+pub refers : (seen : List ℕ) (r : Reader) (byte : ℕ) → IsReached seen r → (byte == 38) ≡ true → Referred (seen ++ byte ∷ []) r.line (38 ∷ [])
+refers seen r byte reached e = record { before = seen; split = ap (λ n. seen ++ n ∷ []) (eqb-true byte 38 e); is_line = lines_are_counted seen r reached }

@@ -1,0 +1,229 @@
+-- Which fault a text has, by what stands in it.
+use Rattle.std.specs.Prelude.{◌≡◌, ◌⊎◌, ℕ, ◌+◌, true, false, List, [], ◌∷◌, ◌++◌, length, map, codes, Option, Some, None, Err}
+use Rattle.std.specs.List.{AllByRecursion}
+use Rattle.std.specs.Str.{IsUtf8}
+use Rattle.ror_text.specs.Lines.{bad_utf8_line}
+use Rattle.ror_elements.specs.declared.element.ElementFault.{ElementFault}
+use Rattle.ror_elements.specs.declared.element.ElementKind.{ElementKind}
+use Rattle.ror_elements.specs.declared.element.ElementKind.TheVariants as kinds
+use Rattle.ror_elements.specs.declared.limits.TheConstants.{MOST_DEPTH}
+use Rattle.ror_elements.specs.Declarations.{is_utf8_name}
+use Rattle.ror_elements.specs.declared.mode.Opening.{Opening}
+use Rattle.ror_elements.specs.declared.mode.Quote.{Quote}
+use Rattle.ror_elements.specs.Elements.{elements_of, without_mark}
+use Rattle.ror_elements.specs.Grammar.{IsName, IsSpace, IsGap, BeginsTag, IsValue, Attribute, AreAttributes, AreDistinct, IsAround, IsElement, IsInstruction, IsTag, Declares, Names, AreDigits, IsCharacter, line_behind}
+use Rattle.ror_elements.specs.Marks.{is_white, is_control, is_name_byte, local_name}
+use Rattle.ror_elements.specs.Mode.{opening_text, quote_byte, quote_of}
+use Rattle.ror_elements.specs.References.{number_of}
+use Rattle.ror_elements.specs.Tags.{root_name}
+use Rattle.ror_elements.specs.Tree.{Tree, name_of}
+
+-- ---- places where a construct may begin
+
+-- `</`, a name, a blank and `>`. With the blank it ends no comment, no instruction and no section
+abbrev pub end_tag : List ℕ → List ℕ
+end_tag name = 60 ∷ 47 ∷ name ++ (32 ∷ 62 ∷ [])
+
+-- the end tags of these elements, from the innermost
+abbrev pub end_tags : List (List ℕ) → List ℕ
+end_tags [] = []
+end_tags (name ∷ names) = end_tag name ++ end_tags names
+
+-- white space, comments and instructions, a root that is an `XMCDA`, and such again
+pub record IsRooted (text : List ℕ) : Type 0 where
+  pub root : Tree
+  pub before : List ℕ
+  pub element : List ℕ
+  pub after : List ℕ
+  pub whole : text ≡ before ++ (element ++ after)
+  pub is_before : IsAround before
+  pub is_root : IsElement 0 (Some []) (line_behind 1 before) element (root ∷ [])
+  pub is_named : name_of root ≡ root_name
+  pub is_after : IsAround after
+
+-- Behind these bytes, the first of a text, a construct may begin. Before the root they make a whole text with
+-- `<XMCDA/>` behind them; from the root on, with the end tags of the elements that are open, from the innermost
+pub data IsFront : List ℕ → List (List ℕ) → Type 0 where
+  before_root : (front : List ℕ) → IsRooted (front ++ codes "<XMCDA/>") → IsFront front []
+  from_root : (front : List ℕ) (names : List (List ℕ)) → IsRooted (front ++ end_tags names) → IsFront front names
+
+-- these bytes stand where a construct may begin, with these elements open, and on this line
+pub record StandsAt (text : List ℕ) (line : ℕ) (names : List (List ℕ)) (bytes : List ℕ) : Type 0 where
+  pub front : List ℕ
+  pub after : List ℕ
+  pub whole : text ≡ front ++ (bytes ++ after)
+  pub is_front : IsFront front names
+  pub is_line : line ≡ line_behind 1 front
+
+-- ---- the kinds of fault
+
+-- `<!DOCTYPE`
+abbrev pub HasDoctype : List ℕ → ℕ → Type 0
+HasDoctype text line = (names : List (List ℕ)) × StandsAt text line names (codes "<!DOCTYPE")
+
+-- an end tag with a name, up to the byte that ends it, that is not that of the innermost open element
+pub record HasMismatched (text : List ℕ) (line : ℕ) : Type 0 where
+  pub name : List ℕ
+  pub opened : List ℕ
+  pub around : List (List ℕ)
+  pub next : ℕ
+  pub is_name : IsName name
+  pub ends : is_name_byte next ≡ false
+  pub other : ¬ (name ≡ opened)
+  pub stands : StandsAt text line (opened ∷ around) (60 ∷ 47 ∷ name ++ next ∷ [])
+
+-- a tag with a name, up to the byte that ends it, in as many open elements as may be
+pub record HasTooDeep (text : List ℕ) (line : ℕ) : Type 0 where
+  pub name : List ℕ
+  pub around : List (List ℕ)
+  pub next : ℕ
+  pub is_name : IsName name
+  pub begins : BeginsTag name
+  pub ends : is_name_byte next ≡ false
+  pub deep : length around ≡ MOST_DEPTH
+  pub stands : StandsAt text line around (60 ∷ name ++ next ∷ [])
+
+-- an instruction with which the text begins, that declares another encoding than UTF-8
+pub record HasEncoding (text : List ℕ) (line : ℕ) : Type 0 where
+  pub first : List ℕ
+  pub rest : List ℕ
+  pub inside : List ℕ
+  pub encoding : List ℕ
+  pub whole : text ≡ first ++ rest
+  pub is_instruction : IsInstruction first inside
+  pub declares : Declares inside encoding
+  pub foreign : is_utf8_name encoding ≡ false
+  pub is_line : line ≡ 1
+
+-- a name for no character, and not by a number: `#` and decimal digits, or `#x` and hexadecimal ones
+pub record IsNoName (name : List ℕ) : Type 0 where
+  pub is_name : IsName name
+  pub unnamed : (character : ℕ) → ¬ (Names name character)
+  pub no_decimal : (digits : List ℕ) → AreDigits 10 digits → ¬ (name ≡ 35 ∷ digits)
+  pub no_hexadecimal : (digits : List ℕ) → AreDigits 16 digits → ¬ (name ≡ 35 ∷ 120 ∷ digits)
+
+-- `&`, such a name and `;`
+pub record HasEntity (text : List ℕ) (line : ℕ) : Type 0 where
+  pub before : List ℕ
+  pub name : List ℕ
+  pub after : List ℕ
+  pub whole : text ≡ before ++ (38 ∷ name ++ 59 ∷ after)
+  pub is_no_name : IsNoName name
+  pub is_line : line ≡ line_behind 1 before
+
+-- ---- tags
+
+-- `<`, a name, attributes with these names, none of them twice, and then this rest
+pub record IsBegunTag (bytes : List ℕ) (name : List ℕ) (names : List (List ℕ)) (rest : List ℕ) : Type 0 where
+  pub written : List ℕ
+  pub attributes : List Attribute
+  pub whole : bytes ≡ 60 ∷ name ++ (written ++ rest)
+  pub is_name : IsName name
+  pub begins : BeginsTag name
+  pub are : AreAttributes written attributes
+  pub distinct : AreDistinct names
+  pub named : names ≡ map (λ (attribute : Attribute). attribute.0) attributes
+
+-- the byte ends an attribute's name, or stands behind white space that does
+abbrev pub StandsBehind : List ℕ → ℕ → Type 0
+StandsBehind space byte = (is_name_byte byte ≡ false) ⊎ ¬ (space ≡ [])
+
+-- what stands behind attributes with these names, up to the first byte that makes it no tag: what is neither white
+-- space, `>` nor `/`, and is no attribute for want of white space or of a name; another byte than `>` behind `/`; a name
+-- that comes twice, up to the byte that ends it; another byte than `=` behind a name; another than a quote behind that;
+-- and a `<` in a value
+pub data IsBadRest (names : List (List ℕ)) : List ℕ → Type 0 where
+  no_space : (byte : ℕ) → is_white byte ≡ false → ¬ (byte ≡ 62) → ¬ (byte ≡ 47) → IsBadRest names (byte ∷ [])
+  no_name : (space : List ℕ) (byte : ℕ) → IsGap space → is_white byte ≡ false → ¬ (byte ≡ 62) → ¬ (byte ≡ 47)
+      → is_name_byte byte ≡ false → IsBadRest names (space ++ byte ∷ [])
+  no_end : (space : List ℕ) (byte : ℕ) → IsSpace space → ¬ (byte ≡ 62) → IsBadRest names (space ++ 47 ∷ byte ∷ [])
+  twice : (gap name : List ℕ) (byte : ℕ) → IsGap gap → IsName name → ¬ (AreDistinct (names ++ name ∷ []))
+      → is_name_byte byte ≡ false → IsBadRest names (gap ++ (name ++ byte ∷ []))
+  no_equals : (gap name space : List ℕ) (byte : ℕ) → IsGap gap → IsName name → IsSpace space → StandsBehind space byte
+      → is_white byte ≡ false → ¬ (byte ≡ 61) → IsBadRest names (gap ++ (name ++ (space ++ byte ∷ [])))
+  no_quote : (gap name before after : List ℕ) (byte : ℕ) → IsGap gap → IsName name → IsSpace before → IsSpace after
+      → is_white byte ≡ false → quote_of byte ≡ None
+      → IsBadRest names (gap ++ (name ++ (before ++ (61 ∷ after ++ byte ∷ []))))
+  bracket : (gap name before after written value : List ℕ) (quote : Quote) → IsGap gap → IsName name → IsSpace before
+      → IsSpace after → IsValue quote written value
+      → IsBadRest names (gap ++ (name ++ (before ++ (61 ∷ after ++ (quote_byte quote ∷ written ++ 60 ∷ [])))))
+
+-- before the root, a tag whose local name is not `XMCDA`
+pub record HasForm (text : List ℕ) (line : ℕ) : Type 0 where
+  pub front : List ℕ
+  pub tag : List ℕ
+  pub after : List ℕ
+  pub ending : List ℕ
+  pub name : List ℕ
+  pub id : Option (List ℕ)
+  pub whole : text ≡ front ++ (tag ++ after)
+  pub is_front : IsRooted (front ++ codes "<XMCDA/>")
+  pub is_ending : (ending ≡ codes ">") ⊎ (ending ≡ codes "/>")
+  pub is_tag : IsTag ending tag name id
+  pub other : ¬ (local_name name ≡ root_name)
+  pub is_line : line ≡ line_behind 1 front
+
+-- ---- bad markup
+
+-- What stands where a construct may begin, with these elements open, up to the first byte that makes it none: outside
+-- the root, what is no white space; behind `<` what begins nothing; behind `<!` what begins neither `--`, `[CDATA[` nor
+-- `DOCTYPE`, or what is none of these; outside the root, an end tag or a section; an end tag without a name, or with
+-- another byte than `>` behind its name; a tag that is none
+pub data IsBadMarkup : List (List ℕ) → List ℕ → Type 0 where
+  outside : (byte : ℕ) → is_white byte ≡ false → ¬ (byte ≡ 60) → IsBadMarkup [] (byte ∷ [])
+  no_markup : (names : List (List ℕ)) (byte : ℕ) → is_name_byte byte ≡ false → ¬ (byte ≡ 33) → ¬ (byte ≡ 63) → ¬ (byte ≡ 47)
+      → IsBadMarkup names (60 ∷ byte ∷ [])
+  no_opening : (names : List (List ℕ)) (byte : ℕ) → ¬ (byte ≡ 45) → ¬ (byte ≡ 91) → ¬ (byte ≡ 68)
+      → IsBadMarkup names (60 ∷ 33 ∷ byte ∷ [])
+  other_opening : (names : List (List ℕ)) (opening : Opening) (first more : List ℕ) (there byte : ℕ)
+      → opening_text opening ≡ first ++ there ∷ more → ¬ (first ≡ []) → ¬ (byte ≡ there)
+      → IsBadMarkup names (60 ∷ 33 ∷ first ++ byte ∷ [])
+  end_outside : IsBadMarkup [] (60 ∷ 47 ∷ [])
+  section_outside : IsBadMarkup [] (codes "<![CDATA[")
+  end_unnamed : (names : List (List ℕ)) (byte : ℕ) → is_name_byte byte ≡ false → IsBadMarkup names (60 ∷ 47 ∷ byte ∷ [])
+  end_unended : (opened space : List ℕ) (names : List (List ℕ)) (byte : ℕ) → IsSpace space → StandsBehind space byte
+      → is_white byte ≡ false → ¬ (byte ≡ 62) → IsBadMarkup (opened ∷ names) (60 ∷ 47 ∷ opened ++ (space ++ byte ∷ []))
+  in_tag : (around : List (List ℕ)) (bytes name rest : List ℕ) (names : List (List ℕ)) → IsBegunTag bytes name names rest
+      → IsBadRest names rest → IsBadMarkup around bytes
+
+-- What stands behind `&`, up to the first byte that makes it no reference: name bytes and another byte, which is not
+-- `;`; a `;` at once; and the number of no character
+pub data IsBadReference : List ℕ → Type 0 where
+  unended : (name : List ℕ) (byte : ℕ) → AllByRecursion (λ byte. is_name_byte byte ≡ true) name → is_name_byte byte ≡ false
+      → IsBadReference (name ++ byte ∷ [])
+  unnamed : IsBadReference (59 ∷ [])
+  no_character : (name : List ℕ) (code : ℕ) → number_of name ≡ Some code → ¬ (IsCharacter code)
+      → IsBadReference (name ++ 59 ∷ [])
+
+-- a control byte, markup that is bad where it stands, a second root, or a reference that is none
+pub data HasBadMarkup (text : List ℕ) (line : ℕ) : Type 0 where
+  control : (before after : List ℕ) (byte : ℕ) → text ≡ before ++ byte ∷ after → is_control byte ≡ true
+      → line ≡ line_behind 1 before → HasBadMarkup text line
+  markup : (names : List (List ℕ)) (bytes : List ℕ) → IsBadMarkup names bytes → StandsAt text line names bytes
+      → HasBadMarkup text line
+  second_root : (front after : List ℕ) (byte : ℕ) → text ≡ front ++ (60 ∷ byte ∷ after) → IsRooted front
+      → is_name_byte byte ≡ true → ¬ (byte ≡ 33) → ¬ (byte ≡ 63) → line ≡ line_behind 1 front → HasBadMarkup text line
+  reference : (before bytes after : List ℕ) → text ≡ before ++ (38 ∷ bytes ++ after) → IsBadReference bytes
+      → line ≡ line_behind 1 before → HasBadMarkup text line
+
+-- ---- the kinds together
+
+-- the text ends, at this line
+abbrev pub HasUnclosed : List ℕ → ℕ → Type 0
+HasUnclosed text line = line ≡ line_behind 1 text
+
+-- a fault of this kind, at this line
+abbrev pub HasFault : ElementKind → List ℕ → ℕ → Type 0
+HasFault kinds.NotUtf8 bytes line = ¬ (IsUtf8 bytes) × (line ≡ bad_utf8_line bytes)
+HasFault kinds.Form bytes line = HasForm (without_mark bytes) line
+HasFault kinds.BadMarkup bytes line = HasBadMarkup (without_mark bytes) line
+HasFault kinds.TooDeep bytes line = HasTooDeep (without_mark bytes) line
+HasFault kinds.Unclosed bytes line = HasUnclosed (without_mark bytes) line
+HasFault kinds.Mismatched bytes line = HasMismatched (without_mark bytes) line
+HasFault kinds.Doctype bytes line = HasDoctype (without_mark bytes) line
+HasFault kinds.Encoding bytes line = HasEncoding (without_mark bytes) line
+HasFault kinds.Entity bytes line = HasEntity (without_mark bytes) line
+
+-- the fault that is given is one that the text has, of its kind and at its line
+abbrev pub FaultsAreWhatTheySay : Type 0
+FaultsAreWhatTheySay = (bytes : List ℕ) (first : ElementFault) → elements_of bytes ≡ Err first → HasFault first.kind bytes first.line
