@@ -249,7 +249,7 @@ content_of (byte ∷ bytes) last root e f =
     at_start_back byte bytes root (stepped (at_start nothing_read byte) (line_after 1 byte) first.0 bytes root first.1 (left bytes first.0 last root first.2 f))
 
 -- an instruction with which a text begins declares no other encoding
-declares_utf8 : (text : List ℕ) (root : Tree) → (run nothing_read text >>= finish) ≡ Ok root → DeclaresUtf8 text
+pub declares_utf8 : (text : List ℕ) (root : Tree) → (run nothing_read text >>= finish) ≡ Ok root → DeclaresUtf8 text
 declares_utf8 text root reads first rest inside encoding split (IsInstruction.instruction within h) d =
     let k = known nothing_declared (within ++ 63 ∷ []) in
     let line = line_at 1 (60 ∷ 63 ∷ within ++ 63 ∷ 62 ∷ []) in

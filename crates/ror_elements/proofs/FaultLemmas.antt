@@ -1,8 +1,8 @@
 -- Which fault a text has.
 use Rattle.std.proofs.Common.{◌≡◌, ℕ, zero, suc, ◌+◌, ◌<◌, ◌≤◌, Bool, true, false, not, List, [], ◌∷◌, ◌++◌, append_assoc, append-nil, length, Option, Some, None, Result, Ok, Err, refl, sym, ap, subst, ◌∙◌, arith, inl, inr}
-use Rattle.std.specs.Prelude.{IfOk, ◌⊎◌, ◌==◌, ◌&&◌, if◌then◌else◌, codes}
+use Rattle.std.specs.Prelude.{IfOk, ◌⊎◌, ◌==◌, ◌&&◌, if◌then◌else◌, nat_lt, codes}
 use Rattle.std.specs.Str.{IsUtf8, IsAscii, bytes_eq}
-use Rattle.std.proofs.lemmas.Bool.{cases_Bool, true≢false, not-false}
+use Rattle.std.proofs.lemmas.Bool.{cases_Bool, true≢false, not-false, ltb-true}
 use Rattle.std.proofs.lemmas.Str.{IsUtf8-nil, IsUtf8-append, IsUtf8-from_ascii}
 use Rattle.ror_text.specs.Lines.{bad_utf8_line}
 use Rattle.ror_text.specs.Reading.{◌>>=◌, refuse, need, read_all}
@@ -10,6 +10,7 @@ use Rattle.ror_text.proofs.ReadingLemmas.{bind_ok, bind_err, bind-at_ok, read_al
 use Rattle.ror_elements.specs.declared.element.ElementFault.{ElementFault}
 use Rattle.ror_elements.specs.declared.element.ElementKind.{ElementKind}
 use Rattle.ror_elements.specs.declared.element.ElementKind.TheVariants as kinds
+use Rattle.ror_elements.specs.declared.mode.Home.{Home}
 use Rattle.ror_elements.specs.declared.mode.Home.TheVariants as homes
 use Rattle.ror_elements.specs.declared.mode.Mode.{Mode}
 use Rattle.ror_elements.specs.declared.mode.Mode.TheVariants as modes
@@ -22,11 +23,11 @@ use Rattle.ror_elements.specs.Grammar.{IsSpace, IsName, IsInstruction, Declares,
 use Rattle.ror_elements.specs.Grammar.{IsEndTag, IsElement}
 use Rattle.ror_elements.specs.Kept.{is_kept}
 use Rattle.ror_elements.specs.Laws.{IsReached, IsFirstFaultOf, not_utf8, at_byte, at_end}
-use Rattle.ror_elements.specs.Marks.{is_control, local_name}
+use Rattle.ror_elements.specs.Marks.{is_white, is_control, local_name}
 use Rattle.ror_elements.specs.Mode.{is_between}
 use Rattle.ror_elements.specs.Open.{is_none, last_of}
 use Rattle.ror_elements.specs.Reader.{nothing_read, whole_text, is_outside}
-use Rattle.ror_elements.specs.Refusals.{HasFault, FaultsAreWhatTheySay, end_tag, end_tags, IsRooted, IsFront, StandsAt, HasDoctype, HasMismatched, HasTooDeep, HasEncoding, IsNoName, HasEntity, HasForm, IsBadMarkup, HasBadMarkup}
+use Rattle.ror_elements.specs.Refusals.{IsClean, IsReadable, IsInValue, RefersAt, HasFault, FaultsAreWhatTheySay, end_tag, end_tags, IsRooted, IsFront, StandsAt, HasDoctype, HasMismatched, HasTooDeep, HasEncoding, IsNoName, HasEntity, HasForm, IsBadMarkup, HasBadMarkup}
 use Rattle.ror_elements.specs.References.{entity, number_of, chosen, character_of, digits_number}
 use Rattle.ror_elements.specs.Tags.{root_name}
 use Rattle.ror_elements.specs.Tree.{Tree}
@@ -39,9 +40,7 @@ use Rattle.ror_elements.proofs.DocumentLemmas.{content_of}
 use Rattle.ror_elements.proofs.ElementRuns.{MayOpen, opened_as, empty_tag-goes, end_tag-goes}
 use Rattle.ror_elements.proofs.BackContent.{last_off}
 use Rattle.ror_elements.proofs.EndsLemmas.{Before, question_before}
-use Rattle.ror_elements.proofs.FaultSteps.{in_content-goes, at_start-goes, in_markup-goes, in_first_markup-goes, in_exclamation-goes, in_beginning-goes, in_comment-goes, in_section-goes, in_instruction-goes, in_first_instruction-goes}
-use Rattle.ror_elements.proofs.FaultTags.{behind_end-goes, in_end_name-goes, in_tag-goes, in_start_name-goes, in_empty_tag-goes, behind_name-goes, in_attribute_name-goes, before_value-goes, in_value-goes, in_reference-goes}
-use Rattle.ror_elements.proofs.FaultWords.{not-true, EndsLow, IsBetween, Stacked, open_names, is_closed, Begun, Referred, AtMode, Holds, Mismatches, Deepens, Encodes, NamesNothing, Misnames, Misplaces, Fails, Goes, when, past}
+use Rattle.ror_elements.proofs.FaultWords.{IsInHome, Refers, InValue, not-true, EndsLow, IsBetween, Stacked, open_names, is_closed, Begun, Referred, AtMode, Holds, Mismatches, Deepens, Encodes, NamesNothing, Misnames, Misplaces, Fails, Goes, when, past}
 use Rattle.ror_elements.proofs.Grown.{place_of}
 use Rattle.ror_elements.proofs.LawLemmas.{gives_the_first_fault, lines_are_counted, without_mark-IsUtf8}
 use Rattle.ror_elements.proofs.NameLemmas.{named, decimal_number, hexadecimal_number}
@@ -49,251 +48,8 @@ use Rattle.ror_elements.proofs.PlainReader.{plain, run, around_closed, same_run,
 use Rattle.ror_elements.proofs.Runs.{line_at, line_at-is, at, question_end}
 use Rattle.ror_elements.proofs.StartRuns.{as_anywhere}
 use Rattle.ror_elements.proofs.TextLemmas.{cut_front, nothing-kept}
-
--- ---- each byte
-
-act_in-goes : (mode : Mode) (seen : List ℕ) (r : Reader) (byte : ℕ) → IsReached seen r → r.mode ≡ mode → Stacked r.top r.below → AtMode mode seen r.start r.reference_line r.piece r.tag r.declaration r.top r.below → Goes (seen ++ byte ∷ []) (act_in mode r byte)
-act_in-goes modes.Start seen r byte reached is s h = at_start-goes seen r byte reached is h.0 h.1 h.2 s
-act_in-goes modes.Content seen r byte reached is s h = in_content-goes seen r byte reached is h s
-act_in-goes modes.FirstMarkup seen r byte reached is s h = in_first_markup-goes seen r byte h.0 h.1 h.2 h.3 s
-act_in-goes modes.Markup seen r byte reached is s h = in_markup-goes seen r byte h s
-act_in-goes modes.Exclamation seen r byte reached is s h = in_exclamation-goes seen r byte h s
-act_in-goes (modes.Beginning opening count) seen r byte reached is s h = in_beginning-goes opening count seen r byte h.0 h.1 h.2 s
-act_in-goes (modes.Comment before) seen r byte reached is s h = in_comment-goes before seen r byte s
-act_in-goes (modes.Section before) seen r byte reached is s h = in_section-goes before seen r byte s
-act_in-goes (modes.FirstInstruction question) seen r byte reached is s h = in_first_instruction-goes question seen r byte h s
-act_in-goes (modes.Instruction question) seen r byte reached is s h = in_instruction-goes question seen r byte s
-act_in-goes modes.EndName seen r byte reached is s h = in_end_name-goes seen r byte is h s
-act_in-goes modes.AfterEndName seen r byte reached is s h = behind_end-goes seen r byte h s
-act_in-goes modes.StartName seen r byte reached is s h = in_start_name-goes seen r byte is h.0 h.1 h.2 h.3 s
-act_in-goes (modes.Tag spaced) seen r byte reached is s h = in_tag-goes spaced seen r byte h s
-act_in-goes modes.EmptyTag seen r byte reached is s h = in_empty_tag-goes seen r byte h s
-act_in-goes modes.AttributeName seen r byte reached is s h = in_attribute_name-goes seen r byte is h s
-act_in-goes modes.AfterAttributeName seen r byte reached is s h = behind_name-goes seen r byte h s
-act_in-goes modes.BeforeValue seen r byte reached is s h = before_value-goes seen r byte is h s
-act_in-goes (modes.Value quote) seen r byte reached is s h = in_value-goes quote seen r byte reached is h s
-act_in-goes (modes.Reference homes.Text) seen r byte reached is s h = in_reference-goes homes.Text seen r byte is h.0 h.1 tt s
-act_in-goes (modes.Reference (homes.Value quote)) seen r byte reached is s h = in_reference-goes (homes.Value quote) seen r byte is h.0.0 h.0.1 h.1 s
-
-lined : (seen : List ℕ) (line : ℕ) (acted : Result Reader ElementFault) → Goes seen acted → Goes seen (acted >>= λ next. Ok (record next { line = line }))
-lined seen line (Ok next) h = record { stacked = h.stacked; here = h.here }
-lined seen line (Err f) h = h
-
-read-goes : (seen : List ℕ) (r : Reader) (byte : ℕ) → IsReached seen r → Holds seen r → Goes (seen ++ byte ∷ []) (read r byte)
-unfolding read act
-read-goes seen r byte reached h =
-    past (seen ++ byte ∷ []) _ (is_control byte) _ (λ control. Misplaces.control seen byte refl control (lines_are_counted seen r reached))
-    (λ _. lined (seen ++ byte ∷ []) (line_after r.line byte) (act_in r.mode r byte) (act_in-goes r.mode seen r byte reached refl h.stacked h.here))
-
-one_reached : (seen : List ℕ) (r next : Reader) (byte : ℕ) → IsReached seen r → read r byte ≡ Ok next → IsReached (seen ++ byte ∷ []) next
-one_reached seen r next byte reached e = read_all-append read nothing_read r seen (byte ∷ []) reached ∙ bind-at_ok (read r byte) _ next e
-
-all-holds : (bytes seen : List ℕ) (r last : Reader) → IsReached seen r → Holds seen r → read_all read r bytes ≡ Ok last → Holds (seen ++ bytes) last
-all-holds [] seen r last reached h e =
-    let same : r ≡ last = cc in
-    subst (λ (xs : List ℕ). Holds xs last) (sym (append-nil seen)) (subst (Holds seen) same h)
-all-holds (byte ∷ bytes) seen r last reached h e =
-    let first = bind_ok (read r byte) (λ next. read_all read next bytes) last e in
-    let there : Holds (seen ++ byte ∷ []) first.0 = subst (Goes (seen ++ byte ∷ [])) first.1 (read-goes seen r byte reached h) in
-    subst (λ (xs : List ℕ). Holds xs last) (append_assoc seen (byte ∷ []) bytes) (all-holds bytes (seen ++ byte ∷ []) first.0 last (one_reached seen r first.0 byte reached first.1) there first.2)
-
-nothing-holds : Holds [] nothing_read
-nothing-holds = record { stacked = (refl, refl); here = (refl, refl, refl) }
-
-reached-holds : (seen : List ℕ) (r : Reader) → IsReached seen r → Holds seen r
-reached-holds seen r reached = all-holds seen [] nothing_read r refl nothing-holds reached
-
--- ---- fronts
-
-last_there : (trees : List Tree) → is_none trees ≡ false → (root : Tree) × (last_of trees ≡ Some root)
-last_there [] e = absurd cc
-last_there (t ∷ []) e = (t, refl)
-last_there (t ∷ u ∷ more) e = last_there (u ∷ more) refl
-
-rooted : (text : List ℕ) (last : Reader) (root : Tree) → run nothing_read text ≡ Ok last → finish last ≡ Ok root → IsRooted text
-rooted text last root e f = by (content_of text last root e f refl)
-  where
-    by : ((whole_text.children ≡ []) × BeforeRoot 1 text root) ⊎ BehindRoot whole_text.children text root → IsRooted text
-    by (inl h) =
-        let b = h.1 in
-        record {
-          root = root;
-          before = b.before;
-          element = b.element;
-          after = b.after;
-          whole = b.split;
-          is_before = b.is_before;
-          is_root = subst (λ l. IsElement 0 (Some []) l b.element (root ∷ [])) (line_at-is 1 b.before) b.is_root;
-          is_named = b.is_named;
-          is_after = b.is_after;
-        }
-    by (inr b) = absurd (true≢false b.some)
-
-run_on : (front bytes : List ℕ) (r : Reader) → run nothing_read front ≡ Ok r → run nothing_read (front ++ bytes) ≡ run r bytes
-unfolding run
-run_on front bytes r e = read_all-append plain nothing_read r front bytes e
-
-run_end : (r : Reader) → run r [] ≡ Ok r
-unfolding run
-run_end r = refl
-
-finish_at : (line : ℕ) (top : Open) (j : Reader) (root : Tree) → last_of top.children ≡ Some root → finish (at modes.Content line top [] j) ≡ Ok root
-unfolding finish
-finish_at line top j root e = ap (need _) e
-
-is_root_tag : IsEmptyTag (codes "<XMCDA/>") root_name None
-is_root_tag = IsTag.tag root_name [] [] [] ((refl, (refl, (refl, (refl, (refl, tt))))), λ none. absurd cc) ((λ e. absurd (omega (arith, e))), λ e. absurd (omega (arith, e))) AreAttributes.nothing tt tt
-
-closed_kept : (element around : Open) → element.kept ≡ true → (root : Tree) × (last_of (around_closed element around).children ≡ Some root)
-closed_kept element around kept = rw kept (_, last_of-append around.children _)
-
-root_opens : (top : Open) → is_none top.children ≡ true → MayOpen top [] root_name
-unfolding local_name
-root_opens top none = record { few = omega arith; first = ap not none; form = refl }
-
-before_root : (front : List ℕ) (line : ℕ) (top : Open) (j : Reader) → run nothing_read front ≡ Ok (at modes.Content line top [] j) → Stacked top [] → is_none top.children ≡ true → IsRooted (front ++ codes "<XMCDA/>")
-unfolding is_kept local_name
-before_root front line top j e s none =
-    let g = empty_tag-goes (codes "<XMCDA/>") root_name None is_root_tag line top [] j (root_opens top none) in
-    let l = closed_kept (opened_as top root_name None line) top (root_is_kept top s) in
-    rooted (front ++ codes "<XMCDA/>") _ l.0 (run_on front (codes "<XMCDA/>") _ e ∙ g.1 [] ∙ run_end _) (finish_at _ _ g.0 l.0 l.1)
-  where
-    root_is_kept : (top : Open) → Stacked top [] → (opened_as top root_name None line).kept ≡ true
-    root_is_kept top s = rw (s.0, s.1) refl
-
-blank : IsSpace (32 ∷ [])
-blank = (refl, tt)
-
-closed_name : (element around : Open) → (around_closed element around).name ≡ around.name
-closed_name element around = when (λ (x : Open). x.name ≡ around.name) element.kept _ _ (λ _. refl) (λ _. refl)
-
-closed_stacked : (element around : Open) (outer : List Open) → Stacked around outer → Stacked (around_closed element around) outer
-closed_stacked element around outer s = when (λ (x : Open). Stacked x outer) element.kept _ _ (λ _. s) (λ _. s)
-
--- the end tags of what is open close the root
-all_close : (outer : List Open) (top around : Open) (line : ℕ) (j : Reader) → Stacked top (around ∷ outer) → (last : Reader) × (root : Tree) × (run (at modes.Content line top (around ∷ outer) j) (end_tags (open_names top (around ∷ outer))) ≡ Ok last) × (finish last ≡ Ok root)
-all_close [] top around line j s =
-    let g = end_tag-goes (end_tag top.name) top.name (IsEndTag.end top.name (32 ∷ []) blank) s.0 line top around [] j refl in
-    let l = closed_kept top around s.1 in
-    (_, l.0, g.1 [] ∙ run_end _, finish_at _ _ g.0 l.0 l.1)
-all_close (next ∷ outer) top around line j s =
-    let g = end_tag-goes (end_tag top.name) top.name (IsEndTag.end top.name (32 ∷ []) blank) s.0 line top around (next ∷ outer) j refl in
-    let l = line_at line (end_tag top.name) in
-    let later = all_close outer (around_closed top around) next l g.0 (closed_stacked top around (next ∷ outer) s.2) in (
-      later.0,
-      later.1,
-      g.1 (end_tags (open_names around (next ∷ outer)))
-          ∙ ap (λ (n : List ℕ). run (at modes.Content l (around_closed top around) (next ∷ outer) g.0) (end_tags (n ∷ open_names next outer))) (sym (closed_name top around))
-          ∙ later.2,
-      later.3,
-    )
-
-front_at : (front : List ℕ) (line : ℕ) (top : Open) (below : List Open) (j : Reader) → run nothing_read front ≡ Ok (at modes.Content line top below j) → Stacked top below → IsFront front (open_names top below)
-front_at front line top [] j e s = elim (cases_Bool (is_none top.children)) [
-  | inl none ↦ IsFront.before_root front (before_root front line top j e s none)
-  | inr some ↦
-      let l = last_there top.children some in
-      IsFront.from_root front [] (rooted (front ++ []) _ l.0 (run_on front [] _ e ∙ run_end _) (finish_at line top j l.0 l.1))
-]
-front_at front line top (around ∷ outer) j e s =
-    let c = all_close outer top around line j s in
-    IsFront.from_root front (open_names top (around ∷ outer)) (rooted (front ++ end_tags (open_names top (around ∷ outer))) c.0 c.1 (run_on front _ _ e ∙ c.2) c.3)
-
-plain_reads : (front : List ℕ) (r : Reader) → IsUtf8 front → IsReached front r → run nothing_read front ≡ Ok r
-unfolding run
-plain_reads front r u reached = sym (same_run [] front nothing_read u nothing-kept (read-clean front nothing_read r reached)) ∙ reached
-
--- nothing stands before the root
-at_first : IsRooted (codes "<XMCDA/>")
-unfolding is_kept local_name
-at_first =
-    let g = empty_tag-goes (codes "<XMCDA/>") root_name None is_root_tag 1 whole_text [] nothing_read (root_opens whole_text refl) in
-    let l = closed_kept (opened_as whole_text root_name None 1) whole_text root_is_kept in
-    rooted (codes "<XMCDA/>") _ l.0 (as_anywhere 88 (77 ∷ 67 ∷ 68 ∷ 65 ∷ 47 ∷ 62 ∷ []) (λ e. absurd (omega (arith, e))) ∙ g.1 [] ∙ run_end _) (finish_at _ _ g.0 l.0 l.1)
-  where
-    root_is_kept : (opened_as whole_text root_name None 1).kept ≡ true
-    root_is_kept = refl
-
-nothing_open : (top : Open) (below : List Open) → [] ≡ below → [] ≡ open_names top below
-nothing_open top [] e = refl
-nothing_open top (around ∷ outer) e = absurd cc
-
--- a front that was read
-front_of : (mode : Mode) (front : List ℕ) (line : ℕ) (top : Open) (below : List Open) (like : Reader) → IsReached front (record like { mode = mode; line = line; top = top; below = below }) → IsBetween front mode below → Stacked top below → IsUtf8 front → IsFront front (open_names top below)
-front_of modes.Content front line top below like reads between s u = front_at front line top below like (plain_reads front _ u reads) s
-front_of modes.Start front line top below like reads between s u =
-    let first = subst (λ (xs : List ℕ). IsReached xs (record like { mode = modes.Start; line = line; top = top; below = below })) between reads in
-    let same : nothing_read ≡ record like { mode = modes.Start; line = line; top = top; below = below } = cc in
-    subst (λ (xs : List ℕ). IsFront xs (open_names top below)) (sym between) (subst (IsFront []) (nothing_open top below (ap (λ (r : Reader). r.below) same)) (IsFront.before_root [] at_first))
-front_of _ front line top below like reads between s u = absurd between
-
--- before the root
-before_of : (mode : Mode) (front : List ℕ) (line : ℕ) (top : Open) (below : List Open) (like : Reader) → IsReached front (record like { mode = mode; line = line; top = top; below = below }) → IsBetween front mode below → Stacked top below → IsUtf8 front → is_none below ≡ true → is_closed top below ≡ false → IsRooted (front ++ codes "<XMCDA/>")
-before_of modes.Content front line top [] like reads between s u out first = before_root front line top like (plain_reads front _ u reads) s (not-false (is_none top.children) first)
-before_of modes.Content front line top (around ∷ outer) like reads between s u out first = absurd cc
-before_of modes.Start front line top below like reads between s u out first = subst (λ (xs : List ℕ). IsRooted (xs ++ codes "<XMCDA/>")) (sym between) at_first
-before_of _ front line top below like reads between s u out first = absurd between
-
--- behind the root
-behind_of : (mode : Mode) (front : List ℕ) (line : ℕ) (top : Open) (below : List Open) (like : Reader) → IsReached front (record like { mode = mode; line = line; top = top; below = below }) → IsBetween front mode below → IsUtf8 front → is_closed top below ≡ true → IsRooted front
-behind_of modes.Content front line top [] like reads between u closed =
-    let l = last_there top.children (not-true (is_none top.children) closed) in
-    rooted front _ l.0 (plain_reads front _ u reads) (finish_at line top like l.0 l.1)
-behind_of modes.Content front line top (around ∷ outer) like reads between u closed = absurd cc
-behind_of modes.Start front line top below like reads between u closed =
-    let first = subst (λ (xs : List ℕ). IsReached xs (record like { mode = modes.Start; line = line; top = top; below = below })) between reads in
-    let same : nothing_read ≡ record like { mode = modes.Start; line = line; top = top; below = below } = cc in
-    absurd (true≢false (sym closed ∙ ap (λ (r : Reader). is_closed r.top r.below) (sym same)))
-behind_of _ front line top below like reads between u closed = absurd between
-
--- ---- from what was read to the text
-
--- a text of which these bytes were read
-record IsText (text seen after : List ℕ) : Type 0 where
-  utf8 : IsUtf8 text
-  split : text ≡ seen ++ after
-
-whole_is : (text seen after front piece : List ℕ) → text ≡ seen ++ after → seen ≡ front ++ piece → text ≡ front ++ (piece ++ after)
-whole_is text seen after front piece e f = e ∙ ap (λ (xs : List ℕ). xs ++ after) f ∙ append_assoc front piece after
-
-front_utf8 : (text seen after front piece : List ℕ) (b : ℕ) → b < 128 → IsText text seen after → seen ≡ front ++ b ∷ piece → IsUtf8 front
-front_utf8 text seen after front piece b low t e = cut_front front (piece ++ after) b low (subst IsUtf8 (whole_is text seen after front (b ∷ piece) t.split e) t.utf8)
-
-stands : (text seen after : List ℕ) (line : ℕ) (top : Open) (below : List Open) (b : ℕ) (piece : List ℕ) → b < 128 → IsText text seen after → Begun seen line top below (b ∷ piece) → StandsAt text line (open_names top below) (b ∷ piece)
-stands text seen after line top below b piece low t g = record {
-  front = g.front;
-  after = after;
-  whole = whole_is text seen after g.front (b ∷ piece) t.split g.split;
-  is_front = front_of g.mode g.front line top below g.like g.reads g.between g.stacked (front_utf8 text seen after g.front piece b low t g.split);
-  is_line = lines_are_counted g.front _ g.reads;
-}
-
-one_ascii : (byte : ℕ) → byte < 128 → IsAscii (byte ∷ [])
-one_ascii byte low zero = low
-one_ascii byte low (suc i) = omega arith
-
-low_utf8 : (front rest : List ℕ) → EndsLow front → IsUtf8 (front ++ rest) → IsUtf8 front
-low_utf8 front rest (inl none) u = subst IsUtf8 (sym none) IsUtf8-nil
-low_utf8 front rest (inr (before, byte, split, low)) u =
-    let whole : front ++ rest ≡ before ++ byte ∷ rest = ap (λ (xs : List ℕ). xs ++ rest) split ∙ append_assoc before (byte ∷ []) rest in
-    subst IsUtf8 (sym split) (IsUtf8-append before (byte ∷ []) (cut_front before rest byte low (subst IsUtf8 whole u)) (IsUtf8-from_ascii (byte ∷ []) (one_ascii byte low)))
-
-low_front : (mode : Mode) (front : List ℕ) (below : List Open) → IsBetween front mode below → is_none below ≡ true → EndsLow front
-low_front modes.Content front below between out = between out
-low_front modes.Start front below between out = inl between
-low_front _ front below between out = absurd between
-
--- outside the root any byte may stand there
-stands_outside : (text seen after : List ℕ) (line : ℕ) (top : Open) (below : List Open) (piece : List ℕ) → is_none below ≡ true → IsText text seen after → Begun seen line top below piece → StandsAt text line (open_names top below) piece
-stands_outside text seen after line top below piece out t g =
-    let whole = whole_is text seen after g.front piece t.split g.split in
-    record {
-      front = g.front;
-      after = after;
-      whole = whole;
-      is_front = front_of g.mode g.front line top below g.like g.reads g.between g.stacked (low_utf8 g.front (piece ++ after) (low_front g.mode g.front below g.between out) (subst IsUtf8 whole t.utf8));
-      is_line = lines_are_counted g.front _ g.reads;
-    }
+use Rattle.ror_elements.proofs.FaultFronts.{IsText, clean_behind, tag_stands, none_open-below, count_names, reached-holds, read-goes, rooted, run_on, run_end, finish_at, before_root, plain_reads, at_first, front_of, before_of, behind_of, whole_is, front_utf8, stands, stands_outside}
+use Rattle.ror_elements.proofs.FaultEnds.{cut_at, readable}
 
 -- ---- the kinds
 
@@ -312,10 +68,6 @@ mismatched text seen after line t m = by m.top m.below m.begun m.inside m.other
       other = other;
       stands = stands text seen after line top (around ∷ outer) 60 (47 ∷ m.name ++ m.next ∷ []) (omega arith) t b;
     }
-
-count_names : (top : Open) (below : List Open) → length (open_names top below) ≡ length below
-count_names top [] = refl
-count_names top (around ∷ outer) = ap suc (count_names around outer)
 
 too_deep : (text seen after : List ℕ) (line : ℕ) → IsText text seen after → Deepens seen line → HasTooDeep text line
 too_deep text seen after line t d =
@@ -344,6 +96,7 @@ encoding text seen after line t e =
       inside = b.bytes;
       encoding = d.0;
       whole = t.split ∙ ap (λ (xs : List ℕ). xs ++ after) (e.split ∙ ap (λ (xs : List ℕ). 60 ∷ 63 ∷ xs) b.split);
+      clean = subst IsClean (e.split ∙ ap (λ (xs : List ℕ). 60 ∷ 63 ∷ xs) b.split) t.clean;
       is_instruction = IsInstruction.instruction b.bytes b.is_first;
       declares = d.1;
       foreign = d.2;
@@ -363,20 +116,34 @@ no_character name character a b e = by (is_none name) (entity name) (number_of n
 no_number : (name digits : List ℕ) (code : ℕ) → number_of name ≡ None → number_of digits ≡ Some code → ¬ (name ≡ digits)
 no_number name digits code none some = λ same. let clash = sym none ∙ ap number_of same ∙ some in absurd cc
 
+-- where a reference stands
+refers_at : (text seen after : List ℕ) (line : ℕ) (bytes : List ℕ) → IsText text seen after → Refers seen line (38 ∷ bytes) → RefersAt text line (38 ∷ bytes)
+refers_at text seen after line bytes t r = by r.home r.place
+  where
+    in_text : (top : Open) (below : List Open) → Begun seen line top below (38 ∷ bytes) → is_none below ≡ false → RefersAt text line (38 ∷ bytes)
+    in_text top [] g inside = absurd cc
+    in_text top (around ∷ outer) g inside = RefersAt.in_text top.name (open_names around outer) (stands text seen after line top (around ∷ outer) 38 bytes (omega arith) t g)
+
+    by : (home : Home) → IsInHome home seen r.reader (38 ∷ bytes) → RefersAt text line (38 ∷ bytes)
+    by homes.Text h = in_text r.reader.top r.reader.below (subst (λ l. Begun seen l r.reader.top r.reader.below (38 ∷ bytes)) r.is_line h.0) h.1
+    by (homes.Value quote) v =
+        let n = v.naming in
+        let s = tag_stands text seen after r.reader.start r.reader.top r.reader.below r.reader.tag.name n.names _ t n.tagged in
+        RefersAt.in_value (open_names r.reader.top r.reader.below) n.names n.tagged.bytes r.reader.tag.name _ r.reader.start r.referred.before after s.0
+        (IsInValue.behind n.gap n.name v.before v.after v.written v.value quote n.is_gap n.is_name v.is_before v.is_after v.is_value)
+        (whole_is text seen after r.referred.before (38 ∷ bytes) t.split r.referred.split) r.referred.is_line
+
 entity_fault : (text seen after : List ℕ) (line : ℕ) → IsText text seen after → NamesNothing seen line → HasEntity text line
-entity_fault text seen after line t n = record {
-  before = n.referred.before;
-  name = n.name;
-  after = after;
-  whole = whole_is text seen after n.referred.before (38 ∷ n.name ++ 59 ∷ []) t.split n.referred.split ∙ ap (λ (xs : List ℕ). n.referred.before ++ 38 ∷ xs) (append_assoc n.name (59 ∷ []) after);
-  is_no_name = record {
+entity_fault text seen after line t n = (
+  n.name,
+  record {
     is_name = n.is_name;
     unnamed = λ character h. no_character n.name character n.no_entity n.no_number (named 1 n.name character h);
     no_decimal = λ digits h. no_number n.name (35 ∷ digits) _ n.no_number (decimal_number digits h);
     no_hexadecimal = λ digits h. no_number n.name (35 ∷ 120 ∷ digits) _ n.no_number (hexadecimal_number digits h);
-  };
-  is_line = n.referred.is_line;
-}
+  },
+  refers_at text seen after line (n.name ++ 59 ∷ []) t n.refers,
+)
 
 form : (text seen after : List ℕ) (line : ℕ) → IsText text seen after → Misnames seen line → HasForm text line
 form text seen after line t m = by m.ending m.bytes m.name m.id m.is_tag m.begun m.is_ending m.other
@@ -391,6 +158,7 @@ form text seen after line t m = by m.ending m.bytes m.name m.id m.is_tag m.begun
       id = _;
       whole = whole_is text seen after g.front _ t.split g.split;
       is_front = before_of g.mode g.front line m.top m.below g.like g.reads g.between g.stacked (front_utf8 text seen after g.front _ 60 (omega arith) t g.split) m.outside m.first;
+      clean = clean_behind g.front _ (subst IsClean g.split t.clean);
       is_ending = is_ending;
       is_tag = IsTag.tag same written space list n b a d s;
       other = other;
@@ -407,11 +175,6 @@ first_low names bytes IsBadMarkup.end_outside = inl (60, _, refl, omega arith)
 first_low names bytes IsBadMarkup.section_outside = inl (60, _, refl, omega arith)
 first_low names bytes (IsBadMarkup.end_unnamed some byte a) = inl (60, _, refl, omega arith)
 first_low names bytes (IsBadMarkup.end_unended opened space some byte a b c d) = inl (60, _, refl, omega arith)
-first_low names bytes (IsBadMarkup.in_tag around whole name rest some is bad) = inl (60, _, is.whole, omega arith)
-
-none_open-below : (top : Open) (below : List Open) → open_names top below ≡ [] → is_none below ≡ true
-none_open-below top [] e = refl
-none_open-below top (around ∷ outer) e = absurd cc
 
 markup_stands : (text seen after : List ℕ) (line : ℕ) (top : Open) (below : List Open) (bytes : List ℕ) → IsText text seen after → Begun seen line top below bytes → IsBadMarkup (open_names top below) bytes → StandsAt text line (open_names top below) bytes
 markup_stands text seen after line top below bytes t g bad = elim (first_low (open_names top below) bytes bad) [
@@ -419,26 +182,32 @@ markup_stands text seen after line top below bytes t g bad = elim (first_low (op
   | inr none ↦ stands_outside text seen after line top below bytes (none_open-below top below none) t g
 ]
 
+-- what is clean holds no control byte
+no_control : (before : List ℕ) (byte : ℕ) → is_control byte ≡ true → IsClean (before ++ byte ∷ []) → ⊥
+no_control [] byte is clean = true≢false (sym is ∙ clean.0)
+no_control (first ∷ before) byte is clean = no_control before byte is clean.1
+
 bad_markup : (text seen after : List ℕ) (line : ℕ) → IsText text seen after → Misplaces seen line → HasBadMarkup text line
-bad_markup text seen after line t (Misplaces.control before byte split is e) = HasBadMarkup.control before after byte (whole_is text seen after before (byte ∷ []) t.split split) is e
+bad_markup text seen after line t (Misplaces.control before byte split is e) = absurd (no_control before byte is (subst IsClean split t.clean))
+bad_markup text seen after line t (Misplaces.no_tag top below name names rest g bad) = HasBadMarkup.in_tag (open_names top below) names g.bytes name rest (tag_stands text seen after line top below name names rest t g).0 bad
 bad_markup text seen after line t (Misplaces.markup top below bytes g bad) = HasBadMarkup.markup (open_names top below) bytes bad (markup_stands text seen after line top below bytes t g bad)
 bad_markup text seen after line t (Misplaces.second_root top below byte g closed named no_mark no_question) =
     HasBadMarkup.second_root g.front after byte (whole_is text seen after g.front (60 ∷ byte ∷ []) t.split g.split)
     (behind_of g.mode g.front line top below g.like g.reads g.between (front_utf8 text seen after g.front (byte ∷ []) 60 (omega arith) t g.split) closed) named no_mark no_question (lines_are_counted g.front _ g.reads)
-bad_markup text seen after line t (Misplaces.reference bytes r bad) = HasBadMarkup.reference r.before bytes after (whole_is text seen after r.before (38 ∷ bytes) t.split r.split) bad r.is_line
+bad_markup text seen after line t (Misplaces.reference bytes r bad) = HasBadMarkup.reference bytes bad (refers_at text seen after line bytes t r)
 
 -- ---- the fault of a text
 
-by_kind : (kind : ElementKind) (bytes seen after : List ℕ) (line : ℕ) → IsText (without_mark bytes) seen after → Fails kind seen line → HasFault kind bytes line
-by_kind kinds.NotUtf8 bytes seen after line t f = absurd f
-by_kind kinds.Form bytes seen after line t f = form (without_mark bytes) seen after line t f
-by_kind kinds.BadMarkup bytes seen after line t f = bad_markup (without_mark bytes) seen after line t f
-by_kind kinds.TooDeep bytes seen after line t f = too_deep (without_mark bytes) seen after line t f
-by_kind kinds.Unclosed bytes seen after line t f = absurd f
-by_kind kinds.Mismatched bytes seen after line t f = mismatched (without_mark bytes) seen after line t f
-by_kind kinds.Doctype bytes seen after line t f = (open_names f.0 f.1, stands (without_mark bytes) seen after line f.0 f.1 60 _ (omega arith) t f.2)
-by_kind kinds.Encoding bytes seen after line t f = encoding (without_mark bytes) seen after line t f
-by_kind kinds.Entity bytes seen after line t f = entity_fault (without_mark bytes) seen after line t f
+by_kind : (kind : ElementKind) (bytes seen after : List ℕ) (line : ℕ) → IsUtf8 bytes → IsText (without_mark bytes) seen after → Fails kind seen line → HasFault kind bytes line
+by_kind kinds.NotUtf8 bytes seen after line u t f = absurd f
+by_kind kinds.Form bytes seen after line u t f = (u, form (without_mark bytes) seen after line t f)
+by_kind kinds.BadMarkup bytes seen after line u t f = (u, bad_markup (without_mark bytes) seen after line t f)
+by_kind kinds.TooDeep bytes seen after line u t f = (u, too_deep (without_mark bytes) seen after line t f)
+by_kind kinds.Unclosed bytes seen after line u t f = absurd f
+by_kind kinds.Mismatched bytes seen after line u t f = (u, mismatched (without_mark bytes) seen after line t f)
+by_kind kinds.Doctype bytes seen after line u t f = (u, (open_names f.0 f.1, stands (without_mark bytes) seen after line f.0 f.1 60 _ (omega arith) t f.2))
+by_kind kinds.Encoding bytes seen after line u t f = (u, encoding (without_mark bytes) seen after line t f)
+by_kind kinds.Entity bytes seen after line u t f = (u, entity_fault (without_mark bytes) seen after line t f)
 
 end_fault : (r : Reader) (first : ElementFault) → finish r ≡ Err first → fault kinds.Unclosed r.line ≡ first
 unfolding finish
@@ -450,14 +219,39 @@ end_fault r first e = elim (bind_err (refuse (fault kinds.Unclosed r.line) (not 
   ]
 ]
 
+clean_more : (before : List ℕ) (byte : ℕ) → IsClean before → is_control byte ≡ false → IsClean (before ++ byte ∷ [])
+clean_more [] byte clean is = (is, tt)
+clean_more (first ∷ before) byte clean is = (clean.0, clean_more before byte clean.1 is)
+
+control_low : (byte : ℕ) → is_control byte ≡ true → byte < 128
+control_low byte is = by (nat_lt byte 32) (not (is_white byte)) (ltb-true byte 32) is
+  where
+    by : (low dark : Bool) → (low ≡ true → byte < 32) → (low && dark) ≡ true → byte < 128
+    by true dark h e = let small = h refl in omega arith
+    by false dark h e = absurd cc
+
+control_at : (bytes before after : List ℕ) (byte : ℕ) (reached : Reader) (first : ElementFault) → IsUtf8 bytes → without_mark bytes ≡ before ++ byte ∷ after → IsReached before reached → read reached byte ≡ Err first → is_control byte ≡ true → HasFault first.kind bytes first.line
+unfolding read
+control_at bytes before after byte reached first u split reads fails control =
+    let same : fault kinds.BadMarkup reached.line ≡ first = by (is_control byte) control fails in
+    let utf8 = cut_front before after byte (control_low byte control) (subst IsUtf8 split (without_mark-IsUtf8 bytes u)) in
+    subst (λ (f : ElementFault). HasFault f.kind bytes f.line) same (u, HasBadMarkup.control before after byte split (readable before reached utf8 reads) control (lines_are_counted before reached reads))
+  where
+    by : (test : Bool) → test ≡ true → (refuse (fault kinds.BadMarkup reached.line) test >>= λ _. act reached byte >>= λ next. Ok (record next { line = line_after reached.line byte })) ≡ Err first → fault kinds.BadMarkup reached.line ≡ first
+    by true e f = cc
+    by false e f = absurd cc
+
 of_first : (bytes : List ℕ) (first : ElementFault) → IsFirstFaultOf bytes first → HasFault first.kind bytes first.line
 of_first bytes first (not_utf8 bad e) = subst (λ (f : ElementFault). HasFault f.kind bytes f.line) (sym e) (bad, refl)
-of_first bytes first (at_byte before after byte reached u split reads fails) =
-    let whole : without_mark bytes ≡ (before ++ byte ∷ []) ++ after = split ∙ sym (append_assoc before (byte ∷ []) after) in
-    let goes : Goes (before ++ byte ∷ []) (Err first) = subst (Goes (before ++ byte ∷ [])) fails (read-goes before reached byte reads (reached-holds before reached reads)) in
-    by_kind first.kind bytes (before ++ byte ∷ []) after first.line (record { utf8 = without_mark-IsUtf8 bytes u; split = whole }) goes
+of_first bytes first (at_byte before after byte reached u split reads fails) = elim (cases_Bool (is_control byte)) [
+  | inl control ↦ control_at bytes before after byte reached first u split reads fails control
+  | inr clean ↦
+      let whole : without_mark bytes ≡ (before ++ byte ∷ []) ++ after = split ∙ sym (append_assoc before (byte ∷ []) after) in
+      let goes : Goes (before ++ byte ∷ []) (Err first) = subst (Goes (before ++ byte ∷ [])) fails (read-goes before reached byte reads (reached-holds before reached reads)) in
+      by_kind first.kind bytes (before ++ byte ∷ []) after first.line u (record { utf8 = without_mark-IsUtf8 bytes u; split = whole; clean = clean_more before byte (read-clean before nothing_read reached reads) clean }) goes
+]
 of_first bytes first (at_end reached u reads fails) =
-    subst (λ (f : ElementFault). HasFault f.kind bytes f.line) (end_fault reached first fails) (lines_are_counted (without_mark bytes) reached reads)
+    subst (λ (f : ElementFault). HasFault f.kind bytes f.line) (end_fault reached first fails) (u, (cut_at (without_mark bytes) reached first (without_mark-IsUtf8 bytes u) reads fails, lines_are_counted (without_mark bytes) reached reads))
 
 pub faults_are_what_they_say : FaultsAreWhatTheySay
 faults_are_what_they_say bytes first e = of_first bytes first ((gives_the_first_fault bytes first).0 e)

@@ -32,19 +32,19 @@ use Rattle.ror_elements.specs.Grammar.{IsName, IsSpace, IsGap, BeginsTag, IsRefe
 use Rattle.ror_elements.specs.Kept.{is_kept}
 use Rattle.ror_elements.specs.Laws.{IsReached}
 use Rattle.ror_elements.specs.Marks.{is_white, is_name_byte, is_control, local_name}
-use Rattle.ror_elements.specs.Mode.{is_ended_by, opening_text, quote_of, quote_byte, is_byte_at, is_between}
+use Rattle.ror_elements.specs.Mode.{is_ended_by, seen_after, opening_text, quote_of, quote_byte, is_byte_at, is_between}
 use Rattle.ror_elements.specs.Open.{is_none, finished}
 use Rattle.ror_elements.specs.Reader.{nothing_read, is_outside, is_behind_root, add_text, add_value, outside, at_start, in_content, begin_tag, begin_end_tag, in_first_markup, in_markup, in_exclamation, begin, in_beginning, in_comment, without_brackets, in_section, in_first_instruction, end_first_instruction, in_instruction, referred, end_reference, in_reference}
 use Rattle.ror_elements.specs.Refusals.{IsBegunTag, StandsBehind, IsBadRest, IsBadMarkup, IsBadReference}
 use Rattle.ror_elements.specs.References.{entity, number_of, character_at, chosen, character_of}
 use Rattle.ror_elements.specs.Tags.{root_name, opened, is_bad_root, open_element, close_in, close, after_end_name, in_end_name, begin_attribute, in_tag, in_start_name, in_empty_tag, add_name, after_attribute_name, in_attribute_name, quoted, before_value, end_value, add_byte, in_value}
-use Rattle.ror_elements.proofs.Behind.{EndsQuestion}
+use Rattle.ror_elements.proofs.Behind.{Ends, EndsQuestion}
 use Rattle.ror_elements.proofs.Declared.{known, known_append}
 use Rattle.ror_elements.proofs.DocumentLemmas.{take_one}
 use Rattle.ror_elements.proofs.LawLemmas.{lines_are_counted}
 use Rattle.ror_elements.proofs.NameLemmas.{names, character_at-code}
 use Rattle.ror_elements.proofs.TextLemmas.{white_low}
-use Rattle.ror_elements.proofs.FaultWords.{EndsLow, IsBetween, AreNameBytes, IsFirstKept, IsStacked, Stacked, open_names, is_closed, Begun, Referred, Instructed, Ended, BehindEnd, Tagged, InTag, AtSlash, InName, Naming, BehindName, BehindEquals, InValue, AtMode, Holds, Mismatches, Deepens, Encodes, NamesNothing, Misnames, Misplaces, Fails, Goes, when, past, not-true, more_names, some_more, longer_name, some_name, begins_more, longer, longer_by, further, begins_at, begins, no_names, bad_outside, refers}
+use Rattle.ror_elements.proofs.FaultWords.{UpToMark, UpToQuestion, EndsLow, IsBetween, AreNameBytes, IsFirstKept, IsStacked, Stacked, open_names, is_closed, Begun, Referred, Instructed, Ended, BehindEnd, Tagged, InTag, AtSlash, InName, Naming, BehindName, BehindEquals, InValue, AtMode, Holds, Mismatches, Deepens, Encodes, NamesNothing, Misnames, Misplaces, Fails, Goes, when, past, not-true, more_names, some_more, longer_name, some_name, begins_more, longer, longer_by, further, begins_at, begins, no_names, bad_outside, refers}
 
 -- ---- outside of tags
 
@@ -81,7 +81,7 @@ in_content-goes seen r byte reached is low s =
     let between : IsBetween seen r.mode r.below = subst (λ (m : Mode). IsBetween seen m r.below) (sym is) low in
     when (Goes (seen ++ byte ∷ [])) (byte == 60) _ _ (λ e. record { stacked = s; here = begins seen r byte 60 reached between s e })
     (λ other. when (Goes (seen ++ byte ∷ [])) (is_outside r) _ _ (λ out. outside-goes seen r byte reached between s out other)
-    (λ inside. when (Goes (seen ++ byte ∷ [])) (byte == 38) _ _ (λ e. record { stacked = s; here = (refers seen r byte reached e, tt) })
+    (λ inside. when (Goes (seen ++ byte ∷ [])) (byte == 38) _ _ (λ e. record { stacked = s; here = ((refers seen r byte reached e, tt), (begins seen r byte 38 reached between s e, inside)) })
     (λ _. text-goes (seen ++ byte ∷ []) r (byte ∷ []) is inside s)))
 
 nil_of : (seen : List ℕ) (byte other : ℕ) → seen ≡ [] → (byte == other) ≡ true → seen ++ byte ∷ [] ≡ other ∷ []
@@ -122,7 +122,7 @@ pub in_markup-goes : (seen : List ℕ) (r : Reader) (byte : ℕ) → Begun seen 
 unfolding in_markup
 in_markup-goes seen r byte b s =
     when (Goes (seen ++ byte ∷ [])) (byte == 33) _ _ (λ e. record { stacked = s; here = longer_by seen r.start r.top r.below (60 ∷ []) byte 33 e b })
-    (λ no_mark. when (Goes (seen ++ byte ∷ [])) (byte == 63) _ _ (λ e. record { stacked = s; here = tt })
+    (λ no_mark. when (Goes (seen ++ byte ∷ [])) (byte == 63) _ _ (λ e. record { stacked = s; here = record { inside = []; begun = longer_by seen r.start r.top r.below (60 ∷ []) byte 63 e b; goes = λ more h. h } })
     (λ no_question. when (Goes (seen ++ byte ∷ [])) (byte == 47) _ _
     (λ e. past (seen ++ byte ∷ []) _ (is_outside r) _ (λ out. bad_outside (seen ++ byte ∷ []) r.start r.top r.below (60 ∷ 47 ∷ []) out (longer_by seen r.start r.top r.below (60 ∷ []) byte 47 e b) IsBadMarkup.end_outside) (λ inside. record { stacked = s; here = (longer_by seen r.start r.top r.below (60 ∷ []) byte 47 e b, tt, inside) }))
     (λ no_slash. begin_tag-goes seen r byte b s no_mark no_question no_slash)))
@@ -148,8 +148,8 @@ in_exclamation-goes seen r byte b s =
 
 begin-goes : (opening : Opening) (seen : List ℕ) (r : Reader) → Begun seen r.start r.top r.below (60 ∷ 33 ∷ opening_text opening) → Stacked r.top r.below → Goes seen (begin opening r)
 unfolding begin
-begin-goes openings.Comment seen r b s = record { stacked = s; here = tt }
-begin-goes openings.Section seen r b s = past seen _ (is_outside r) _ (λ out. bad_outside seen r.start r.top r.below _ out b IsBadMarkup.section_outside) (λ _. record { stacked = s; here = tt })
+begin-goes openings.Comment seen r b s = record { stacked = s; here = record { top = r.top; inside = []; begun = b; goes = λ more h. h } }
+begin-goes openings.Section seen r b s = past seen _ (is_outside r) _ (λ out. bad_outside seen r.start r.top r.below _ out b IsBadMarkup.section_outside) (λ inside. record { stacked = s; here = (record { top = r.top; inside = []; begun = b; goes = λ more h. h }, inside) })
 begin-goes openings.Doctype seen r b s = (r.top, r.below, b)
 
 -- one more byte of what stands behind `<!`
@@ -195,27 +195,52 @@ ended_low marks.Nothing byte e = absurd cc
 ended_low marks.One byte e = absurd cc
 ended_low marks.Two byte e = subst (λ n. n < 128) (sym (eqb-true byte 62 e)) (omega arith)
 
-pub in_comment-goes : (before : Seen) (seen : List ℕ) (r : Reader) (byte : ℕ) → Stacked r.top r.below → Holds (seen ++ byte ∷ []) (in_comment before r byte)
+-- a byte that does not end it
+mark_more : (lead : List ℕ) (mark : ℕ) (before : Seen) (seen : List ℕ) (start : ℕ) (below : List Open) (byte : ℕ) → is_ended_by before byte ≡ false → UpToMark lead mark before seen start below → UpToMark lead mark (seen_after before mark byte) (seen ++ byte ∷ []) start below
+mark_more lead mark before seen start below byte goes u = record {
+  top = u.top;
+  inside = u.inside ++ byte ∷ [];
+  begun = subst (Begun (seen ++ byte ∷ []) start u.top below) (append_assoc lead u.inside (byte ∷ [])) (longer seen start u.top below (lead ++ u.inside) byte u.begun);
+  goes = λ more h. subst (Ends mark marks.Nothing) (sym (append_assoc u.inside (byte ∷ []) more)) (u.goes (byte ∷ more) (Ends.more before byte more goes h));
+}
+
+pub in_comment-goes : (before : Seen) (seen : List ℕ) (r : Reader) (byte : ℕ) → UpToMark (60 ∷ 33 ∷ opening_text openings.Comment) 45 before seen r.start r.below → Stacked r.top r.below → Holds (seen ++ byte ∷ []) (in_comment before r byte)
 unfolding in_comment
-in_comment-goes before seen r byte s = when (Holds (seen ++ byte ∷ [])) (is_ended_by before byte) _ _ (λ ends. content seen r byte (ended_low before byte ends) s) (λ _. record { stacked = s; here = tt })
+in_comment-goes before seen r byte u s =
+    when (Holds (seen ++ byte ∷ [])) (is_ended_by before byte) _ _ (λ ends. content seen r byte (ended_low before byte ends) s)
+    (λ goes. record { stacked = s; here = mark_more (60 ∷ 33 ∷ opening_text openings.Comment) 45 before seen r.start r.below byte goes u })
 
 without_brackets-stacked : (r : Reader) → Stacked r.top r.below → Stacked (without_brackets r).top (without_brackets r).below
 unfolding without_brackets
 without_brackets-stacked r s = when (λ (x : Reader). Stacked x.top x.below) r.top.kept _ _ (λ _. s) (λ _. s)
 
-pub in_section-goes : (before : Seen) (seen : List ℕ) (r : Reader) (byte : ℕ) → Stacked r.top r.below → Goes (seen ++ byte ∷ []) (in_section before r byte)
+section_stays : (seen : List ℕ) (r : Reader) (bytes : List ℕ) (next : Seen) → UpToMark (60 ∷ 33 ∷ opening_text openings.Section) 93 next seen r.start r.below → is_none r.below ≡ false → Stacked r.top r.below → Holds seen (record (add_text r bytes) { mode = modes.Section next })
+unfolding add_text
+section_stays seen r bytes next u inside s =
+    when (λ (x : Reader). Holds seen (record x { mode = modes.Section next })) r.top.kept _ _ (λ _. record { stacked = s; here = (u, inside) }) (λ _. record { stacked = s; here = (u, inside) })
+
+pub in_section-goes : (before : Seen) (seen : List ℕ) (r : Reader) (byte : ℕ) → UpToMark (60 ∷ 33 ∷ opening_text openings.Section) 93 before seen r.start r.below → is_none r.below ≡ false → Stacked r.top r.below → Goes (seen ++ byte ∷ []) (in_section before r byte)
 unfolding in_section
-in_section-goes before seen r byte s =
+in_section-goes before seen r byte u inside s =
     when (Goes (seen ++ byte ∷ [])) (is_ended_by before byte) _ _ (λ ends. content seen (without_brackets r) byte (ended_low before byte ends) (without_brackets-stacked r s))
-    (λ _. record { stacked = add_text-stacked r (byte ∷ []) s; here = tt })
+    (λ goes. section_stays (seen ++ byte ∷ []) r (byte ∷ []) (seen_after before 93 byte) (mark_more (60 ∷ 33 ∷ opening_text openings.Section) 93 before seen r.start r.below byte goes u) inside s)
 
 question_low : (question : Bool) (byte : ℕ) → (question && byte == 62) ≡ true → byte < 128
 question_low true byte e = subst (λ n. n < 128) (sym (eqb-true byte 62 e)) (omega arith)
 question_low false byte e = absurd cc
 
-pub in_instruction-goes : (question : Bool) (seen : List ℕ) (r : Reader) (byte : ℕ) → Stacked r.top r.below → Holds (seen ++ byte ∷ []) (in_instruction question r byte)
+pub in_instruction-goes : (question : Bool) (seen : List ℕ) (r : Reader) (byte : ℕ) → UpToQuestion question seen r.start r.top r.below → Stacked r.top r.below → Holds (seen ++ byte ∷ []) (in_instruction question r byte)
 unfolding in_instruction
-in_instruction-goes question seen r byte s = when (Holds (seen ++ byte ∷ [])) (question && byte == 62) _ _ (λ ends. content seen r byte (question_low question byte ends) s) (λ _. record { stacked = s; here = tt })
+in_instruction-goes question seen r byte u s =
+    when (Holds (seen ++ byte ∷ [])) (question && byte == 62) _ _ (λ ends. content seen r byte (question_low question byte ends) s)
+    (λ goes. record {
+      stacked = s;
+      here = record {
+        inside = u.inside ++ byte ∷ [];
+        begun = longer seen r.start r.top r.below (60 ∷ 63 ∷ u.inside) byte u.begun;
+        goes = λ more h. subst (EndsQuestion false) (sym (append_assoc u.inside (byte ∷ []) more)) (u.goes (byte ∷ more) (EndsQuestion.more question byte more goes h));
+      };
+    })
 
 instructed_more : (question : Bool) (seen : List ℕ) (start : ℕ) (declaration : Declaration) (byte : ℕ) → (question && byte == 62) ≡ false → Instructed seen start question declaration → Instructed (seen ++ byte ∷ []) start (byte == 63) (after declaration byte)
 instructed_more question seen start declaration byte goes i = record {

@@ -21,6 +21,7 @@ use Rattle.ror_elements.specs.declared.mode.Opening.{Opening}
 use Rattle.ror_elements.specs.declared.mode.Opening.TheVariants as openings
 use Rattle.ror_elements.specs.declared.mode.Quote.{Quote}
 use Rattle.ror_elements.specs.declared.mode.Seen.{Seen}
+use Rattle.ror_elements.specs.declared.mode.Seen.TheVariants as marks
 use Rattle.ror_elements.specs.declared.open.Open.{Open}
 use Rattle.ror_elements.specs.declared.reader.Reader.{Reader}
 use Rattle.ror_elements.specs.declared.reader.Tag.{Tag}
@@ -34,10 +35,10 @@ use Rattle.ror_elements.specs.Marks.{is_white, is_name_byte, is_control, local_n
 use Rattle.ror_elements.specs.Mode.{is_ended_by, opening_text, quote_of, quote_byte, is_byte_at, is_between}
 use Rattle.ror_elements.specs.Open.{is_none, finished}
 use Rattle.ror_elements.specs.Reader.{nothing_read, is_outside, is_behind_root, add_text, add_value, outside, at_start, in_content, begin_tag, begin_end_tag, in_first_markup, in_markup, in_exclamation, begin, in_beginning, in_comment, without_brackets, in_section, in_first_instruction, end_first_instruction, in_instruction, referred, end_reference, in_reference}
-use Rattle.ror_elements.specs.Refusals.{IsBegunTag, StandsBehind, IsBadRest, IsBadMarkup, IsBadReference}
+use Rattle.ror_elements.specs.Refusals.{IsClean, IsBegunTag, StandsBehind, IsBadRest, IsBadMarkup, IsBadReference}
 use Rattle.ror_elements.specs.References.{entity, number_of, character_at, chosen, character_of}
 use Rattle.ror_elements.specs.Tags.{root_name, opened, is_bad_root, open_element, close_in, close, after_end_name, in_end_name, begin_attribute, in_tag, in_start_name, in_empty_tag, add_name, after_attribute_name, in_attribute_name, quoted, before_value, end_value, add_byte, in_value}
-use Rattle.ror_elements.proofs.Behind.{EndsQuestion}
+use Rattle.ror_elements.proofs.Behind.{Ends, EndsQuestion}
 use Rattle.ror_elements.proofs.Declared.{known, known_append}
 use Rattle.ror_elements.proofs.DocumentLemmas.{take_one}
 use Rattle.ror_elements.proofs.LawLemmas.{lines_are_counted}
@@ -106,6 +107,19 @@ pub record Instructed (seen : List ℕ) (start : ℕ) (question : Bool) (declara
   pub first : start ≡ 1
   pub goes : (more : List ℕ) → EndsQuestion question more → EndsQuestion false (inside ++ more)
 
+-- what ends with two marks and `>`, so far: how it begins, and what was read of it
+pub record UpToMark (lead : List ℕ) (mark : ℕ) (before : Seen) (seen : List ℕ) (start : ℕ) (below : List Open) : Type 0 where
+  pub top : Open
+  pub inside : List ℕ
+  pub begun : Begun seen start top below (lead ++ inside)
+  pub goes : (more : List ℕ) → Ends mark before more → Ends mark marks.Nothing (inside ++ more)
+
+-- an instruction so far
+pub record UpToQuestion (question : Bool) (seen : List ℕ) (start : ℕ) (top : Open) (below : List Open) : Type 0 where
+  pub inside : List ℕ
+  pub begun : Begun seen start top below (60 ∷ 63 ∷ inside)
+  pub goes : (more : List ℕ) → EndsQuestion question more → EndsQuestion false (inside ++ more)
+
 -- an end tag so far
 abbrev pub Ended : List ℕ → ℕ → Open → List Open → List ℕ → Type 0
 Ended seen start top below piece = Begun seen start top below (60 ∷ 47 ∷ piece) × AreNameBytes piece × (is_none below ≡ false)
@@ -123,6 +137,7 @@ pub record Tagged (seen : List ℕ) (start : ℕ) (top : Open) (below : List Ope
   pub bytes : List ℕ
   pub begun : Begun seen start top below bytes
   pub is_begun : IsBegunTag bytes name names rest
+  pub few : length below < 64
   pub first : is_closed top below ≡ false
 
 pub record InTag (spaced : Bool) (seen : List ℕ) (start : ℕ) (top : Open) (below : List Open) (tag : Tag) : Type 0 where
@@ -186,6 +201,9 @@ AtMode modes.FirstMarkup seen start line piece tag declaration top below = Begun
 AtMode modes.Markup seen start line piece tag declaration top below = Begun seen start top below (60 ∷ [])
 AtMode modes.Exclamation seen start line piece tag declaration top below = Begun seen start top below (60 ∷ 33 ∷ [])
 AtMode (modes.Beginning opening count) seen start line piece tag declaration top below = Begun seen start top below (60 ∷ 33 ∷ take count (opening_text opening)) × (0 < count) × (count < length (opening_text opening))
+AtMode (modes.Comment before) seen start line piece tag declaration top below = UpToMark (60 ∷ 33 ∷ opening_text openings.Comment) 45 before seen start below
+AtMode (modes.Section before) seen start line piece tag declaration top below = UpToMark (60 ∷ 33 ∷ opening_text openings.Section) 93 before seen start below × (is_none below ≡ false)
+AtMode (modes.Instruction question) seen start line piece tag declaration top below = UpToQuestion question seen start top below
 AtMode (modes.FirstInstruction question) seen start line piece tag declaration top below = Instructed seen start question declaration
 AtMode modes.EndName seen start line piece tag declaration top below = Ended seen start top below piece
 AtMode modes.AfterEndName seen start line piece tag declaration top below = BehindEnd seen start top below
@@ -196,13 +214,24 @@ AtMode modes.AttributeName seen start line piece tag declaration top below = InN
 AtMode modes.AfterAttributeName seen start line piece tag declaration top below = BehindName seen start top below tag
 AtMode modes.BeforeValue seen start line piece tag declaration top below = BehindEquals seen start top below tag
 AtMode (modes.Value quote) seen start line piece tag declaration top below = InValue quote seen start top below tag []
-AtMode (modes.Reference homes.Text) seen start line piece tag declaration top below = Referred seen line (38 ∷ piece) × AreNameBytes piece
+AtMode (modes.Reference homes.Text) seen start line piece tag declaration top below = (Referred seen line (38 ∷ piece) × AreNameBytes piece) × (Begun seen line top below (38 ∷ piece) × (is_none below ≡ false))
 AtMode (modes.Reference (homes.Value quote)) seen start line piece tag declaration top below = (Referred seen line (38 ∷ piece) × AreNameBytes piece) × InValue quote seen start top below tag (38 ∷ piece)
-AtMode _ seen start line piece tag declaration top below = Unit {0}
 
 pub record Holds (seen : List ℕ) (r : Reader) : Type 0 where
   pub stacked : Stacked r.top r.below
   pub here : AtMode r.mode seen r.start r.reference_line r.piece r.tag r.declaration r.top r.below
+
+-- these bytes stand in a text or in a value
+abbrev pub IsInHome : Home → List ℕ → Reader → List ℕ → Type 0
+IsInHome homes.Text seen r rest = Begun seen r.reference_line r.top r.below rest × (is_none r.below ≡ false)
+IsInHome (homes.Value quote) seen r rest = InValue quote seen r.start r.top r.below r.tag rest
+
+pub record Refers (seen : List ℕ) (line : ℕ) (bytes : List ℕ) : Type 0 where
+  pub referred : Referred seen line bytes
+  pub home : Home
+  pub reader : Reader
+  pub is_line : reader.reference_line ≡ line
+  pub place : IsInHome home seen reader bytes
 
 -- ---- what is at fault
 
@@ -237,7 +266,7 @@ pub record Encodes (seen : List ℕ) (line : ℕ) : Type 0 where
 
 pub record NamesNothing (seen : List ℕ) (line : ℕ) : Type 0 where
   pub name : List ℕ
-  pub referred : Referred seen line (38 ∷ name ++ 59 ∷ [])
+  pub refers : Refers seen line (38 ∷ name ++ 59 ∷ [])
   pub is_name : IsName name
   pub no_entity : entity name ≡ None
   pub no_number : number_of name ≡ None
@@ -259,8 +288,9 @@ pub record Misnames (seen : List ℕ) (line : ℕ) : Type 0 where
 pub data Misplaces (seen : List ℕ) (line : ℕ) : Type 0 where
   control : (before : List ℕ) (byte : ℕ) → seen ≡ before ++ byte ∷ [] → is_control byte ≡ true → line ≡ line_behind 1 before → Misplaces seen line
   markup : (top : Open) (below : List Open) (bytes : List ℕ) → Begun seen line top below bytes → IsBadMarkup (open_names top below) bytes → Misplaces seen line
+  no_tag : (top : Open) (below : List Open) (name : List ℕ) (names : List (List ℕ)) (rest : List ℕ) → Tagged seen line top below name names rest → IsBadRest names rest → Misplaces seen line
   second_root : (top : Open) (below : List Open) (byte : ℕ) → Begun seen line top below (60 ∷ byte ∷ []) → is_closed top below ≡ true → is_name_byte byte ≡ true → ¬ (byte ≡ 33) → ¬ (byte ≡ 63) → Misplaces seen line
-  reference : (bytes : List ℕ) → Referred seen line (38 ∷ bytes) → IsBadReference bytes → Misplaces seen line
+  reference : (bytes : List ℕ) → Refers seen line (38 ∷ bytes) → IsBadReference bytes → Misplaces seen line
 
 abbrev pub Fails : ElementKind → List ℕ → ℕ → Type 0
 Fails kinds.NotUtf8 seen line = ⊥

@@ -24,5 +24,8 @@ pub mod BackContent
 pub mod DocumentLemmas
 pub mod FaultWords
 pub mod FaultSteps
+pub mod FaultValues
 pub mod FaultTags
+pub mod FaultFronts
+pub mod FaultEnds
 pub mod FaultLemmas

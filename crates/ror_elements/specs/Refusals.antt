@@ -1,5 +1,5 @@
 -- Which fault a text has, by what stands in it.
-use Rattle.std.specs.Prelude.{◌≡◌, ◌⊎◌, ℕ, ◌+◌, true, false, List, [], ◌∷◌, ◌++◌, length, map, codes, Option, Some, None, Err}
+use Rattle.std.specs.Prelude.{◌≡◌, ◌⊎◌, ℕ, ◌<◌, true, false, List, [], ◌∷◌, ◌++◌, length, map, codes, Option, Some, None, Err}
 use Rattle.std.specs.List.{AllByRecursion}
 use Rattle.std.specs.Str.{IsUtf8}
 use Rattle.ror_text.specs.Lines.{bad_utf8_line}
@@ -11,7 +11,7 @@ use Rattle.ror_elements.specs.Declarations.{is_utf8_name}
 use Rattle.ror_elements.specs.declared.mode.Opening.{Opening}
 use Rattle.ror_elements.specs.declared.mode.Quote.{Quote}
 use Rattle.ror_elements.specs.Elements.{elements_of, without_mark}
-use Rattle.ror_elements.specs.Grammar.{IsName, IsSpace, IsGap, BeginsTag, IsValue, Attribute, AreAttributes, AreDistinct, IsAround, IsElement, IsInstruction, IsTag, Declares, Names, AreDigits, IsCharacter, line_behind}
+use Rattle.ror_elements.specs.Grammar.{IsName, IsSpace, IsGap, BeginsTag, IsValue, Attribute, AreAttributes, AreDistinct, IsAround, IsElement, IsComment, IsInstruction, IsSection, IsTag, Declares, DeclaresUtf8, Names, AreDigits, IsCharacter, line_behind}
 use Rattle.ror_elements.specs.Marks.{is_white, is_control, is_name_byte, local_name}
 use Rattle.ror_elements.specs.Mode.{opening_text, quote_byte, quote_of}
 use Rattle.ror_elements.specs.References.{number_of}
@@ -29,7 +29,7 @@ abbrev pub end_tags : List (List ℕ) → List ℕ
 end_tags [] = []
 end_tags (name ∷ names) = end_tag name ++ end_tags names
 
--- white space, comments and instructions, a root that is an `XMCDA`, and such again
+-- white space, comments and instructions, a root that is an `XMCDA`, and such again; and no other encoding is declared
 pub record IsRooted (text : List ℕ) : Type 0 where
   pub root : Tree
   pub before : List ℕ
@@ -40,12 +40,27 @@ pub record IsRooted (text : List ℕ) : Type 0 where
   pub is_root : IsElement 0 (Some []) (line_behind 1 before) element (root ∷ [])
   pub is_named : name_of root ≡ root_name
   pub is_after : IsAround after
+  pub declared : DeclaresUtf8 text
 
--- Behind these bytes, the first of a text, a construct may begin. Before the root they make a whole text with
--- `<XMCDA/>` behind them; from the root on, with the end tags of the elements that are open, from the innermost
-pub data IsFront : List ℕ → List (List ℕ) → Type 0 where
-  before_root : (front : List ℕ) → IsRooted (front ++ codes "<XMCDA/>") → IsFront front []
-  from_root : (front : List ℕ) (names : List (List ℕ)) → IsRooted (front ++ end_tags names) → IsFront front names
+-- no byte is a control byte
+abbrev pub IsClean : List ℕ → Type 0
+IsClean bytes = AllByRecursion (λ byte. is_control byte ≡ false) bytes
+
+-- the first bytes of a text, behind which the root may begin: with `<XMCDA/>` behind them they are a whole text
+abbrev pub IsBeforeRoot : List ℕ → Type 0
+IsBeforeRoot front = IsClean front × IsRooted (front ++ codes "<XMCDA/>")
+
+-- the first bytes of a text, behind which these elements are open, from the innermost: with their end tags they are a
+-- whole text. Behind the root none is open
+pub record IsFromRoot (front : List ℕ) (names : List (List ℕ)) : Type 0 where
+  pub clean : IsClean front
+  pub named : AllByRecursion IsName names
+  pub is_rooted : IsRooted (front ++ end_tags names)
+
+-- the first bytes of a text, behind which a construct may begin, with these elements open
+pub data IsFront (front : List ℕ) : List (List ℕ) → Type 0 where
+  before_root : IsBeforeRoot front → IsFront front []
+  from_root : (names : List (List ℕ)) → IsFromRoot front names → IsFront front names
 
 -- these bytes stand where a construct may begin, with these elements open, and on this line
 pub record StandsAt (text : List ℕ) (line : ℕ) (names : List (List ℕ)) (bytes : List ℕ) : Type 0 where
@@ -53,6 +68,7 @@ pub record StandsAt (text : List ℕ) (line : ℕ) (names : List (List ℕ)) (by
   pub after : List ℕ
   pub whole : text ≡ front ++ (bytes ++ after)
   pub is_front : IsFront front names
+  pub clean : IsClean bytes
   pub is_line : line ≡ line_behind 1 front
 
 -- ---- the kinds of fault
@@ -90,26 +106,11 @@ pub record HasEncoding (text : List ℕ) (line : ℕ) : Type 0 where
   pub inside : List ℕ
   pub encoding : List ℕ
   pub whole : text ≡ first ++ rest
+  pub clean : IsClean first
   pub is_instruction : IsInstruction first inside
   pub declares : Declares inside encoding
   pub foreign : is_utf8_name encoding ≡ false
   pub is_line : line ≡ 1
-
--- a name for no character, and not by a number: `#` and decimal digits, or `#x` and hexadecimal ones
-pub record IsNoName (name : List ℕ) : Type 0 where
-  pub is_name : IsName name
-  pub unnamed : (character : ℕ) → ¬ (Names name character)
-  pub no_decimal : (digits : List ℕ) → AreDigits 10 digits → ¬ (name ≡ 35 ∷ digits)
-  pub no_hexadecimal : (digits : List ℕ) → AreDigits 16 digits → ¬ (name ≡ 35 ∷ 120 ∷ digits)
-
--- `&`, such a name and `;`
-pub record HasEntity (text : List ℕ) (line : ℕ) : Type 0 where
-  pub before : List ℕ
-  pub name : List ℕ
-  pub after : List ℕ
-  pub whole : text ≡ before ++ (38 ∷ name ++ 59 ∷ after)
-  pub is_no_name : IsNoName name
-  pub is_line : line ≡ line_behind 1 before
 
 -- ---- tags
 
@@ -123,6 +124,15 @@ pub record IsBegunTag (bytes : List ℕ) (name : List ℕ) (names : List (List �
   pub are : AreAttributes written attributes
   pub distinct : AreDistinct names
   pub named : names ≡ map (λ (attribute : Attribute). attribute.0) attributes
+
+-- these bytes of a tag stand where it may begin, with these elements around it: there is room for one more, and it is no
+-- second root
+pub record TagStandsAt (text : List ℕ) (line : ℕ) (around : List (List ℕ)) (bytes name : List ℕ) (names : List (List ℕ))
+    (rest : List ℕ) : Type 0 where
+  pub stands : StandsAt text line around bytes
+  pub is_begun : IsBegunTag bytes name names rest
+  pub few : length around < MOST_DEPTH
+  pub first : around ≡ [] → IsBeforeRoot stands.front
 
 -- the byte ends an attribute's name, or stands behind white space that does
 abbrev pub StandsBehind : List ℕ → ℕ → Type 0
@@ -157,18 +167,101 @@ pub record HasForm (text : List ℕ) (line : ℕ) : Type 0 where
   pub name : List ℕ
   pub id : Option (List ℕ)
   pub whole : text ≡ front ++ (tag ++ after)
-  pub is_front : IsRooted (front ++ codes "<XMCDA/>")
+  pub is_front : IsBeforeRoot front
+  pub clean : IsClean tag
   pub is_ending : (ending ≡ codes ">") ⊎ (ending ≡ codes "/>")
   pub is_tag : IsTag ending tag name id
   pub other : ¬ (local_name name ≡ root_name)
   pub is_line : line ≡ line_behind 1 front
+
+-- ---- references
+
+-- these bytes stand in a value, behind so much of it
+pub data IsInValue (bytes : List ℕ) : List ℕ → Type 0 where
+  behind : (gap name before after written value : List ℕ) (quote : Quote) → IsGap gap → IsName name → IsSpace before
+      → IsSpace after → IsValue quote written value
+      → IsInValue bytes (gap ++ (name ++ (before ++ (61 ∷ after ++ (quote_byte quote ∷ written ++ bytes)))))
+
+-- these bytes stand in the text of an element, or in a value of a tag, and begin on this line
+pub data RefersAt (text : List ℕ) (line : ℕ) (bytes : List ℕ) : Type 0 where
+  in_text : (opened : List ℕ) (names : List (List ℕ)) → StandsAt text line (opened ∷ names) bytes
+      → RefersAt text line bytes
+  in_value : (around names : List (List ℕ)) (tag name rest : List ℕ) (start : ℕ) (before after : List ℕ)
+      → TagStandsAt text start around tag name names rest → IsInValue bytes rest
+      → text ≡ before ++ (bytes ++ after) → line ≡ line_behind 1 before → RefersAt text line bytes
+
+-- a name for no character, and not by a number: `#` and decimal digits, or `#x` and hexadecimal ones
+pub record IsNoName (name : List ℕ) : Type 0 where
+  pub is_name : IsName name
+  pub unnamed : (character : ℕ) → ¬ (Names name character)
+  pub no_decimal : (digits : List ℕ) → AreDigits 10 digits → ¬ (name ≡ 35 ∷ digits)
+  pub no_hexadecimal : (digits : List ℕ) → AreDigits 16 digits → ¬ (name ≡ 35 ∷ 120 ∷ digits)
+
+-- `&`, such a name and `;`
+abbrev pub HasEntity : List ℕ → ℕ → Type 0
+HasEntity text line = (name : List ℕ) × IsNoName name × RefersAt text line (38 ∷ name ++ 59 ∷ [])
+
+-- ---- texts that end too early
+
+-- what stands in a tag behind its attributes where the text ends: white space, maybe with `/` behind it, or so much of
+-- an attribute
+pub data IsUnfinishedRest : List ℕ → Type 0 where
+  space : (space : List ℕ) → IsSpace space → IsUnfinishedRest space
+  slash : (space : List ℕ) → IsSpace space → IsUnfinishedRest (space ++ 47 ∷ [])
+  name : (gap name : List ℕ) → IsGap gap → IsName name → IsUnfinishedRest (gap ++ name)
+  behind_name : (gap name space : List ℕ) → IsGap gap → IsName name → IsSpace space
+      → IsUnfinishedRest (gap ++ (name ++ space))
+  behind_equals : (gap name before after : List ℕ) → IsGap gap → IsName name → IsSpace before → IsSpace after
+      → IsUnfinishedRest (gap ++ (name ++ (before ++ (61 ∷ after))))
+  value : (gap name before after written value : List ℕ) (quote : Quote) → IsGap gap → IsName name → IsSpace before
+      → IsSpace after → IsValue quote written value
+      → IsUnfinishedRest (gap ++ (name ++ (before ++ (61 ∷ after ++ (quote_byte quote ∷ written ++ [])))))
+  reference : (gap name before after written value part : List ℕ) (quote : Quote) → IsGap gap → IsName name
+      → IsSpace before → IsSpace after → IsValue quote written value
+      → AllByRecursion (λ byte. is_name_byte byte ≡ true) part
+      → IsUnfinishedRest (gap ++ (name ++ (before ++ (61 ∷ after ++ (quote_byte quote ∷ written ++ 38 ∷ part)))))
+
+-- What stands where a construct may begin, with these elements open, and is no whole one: so much of what begins it; a
+-- comment, an instruction or a section without its end; so much of an end tag or of a reference
+pub data IsUnfinished : List (List ℕ) → List ℕ → Type 0 where
+  markup : (names : List (List ℕ)) → IsUnfinished names (60 ∷ [])
+  opening : (names : List (List ℕ)) (opening : Opening) (first more : List ℕ) → opening_text opening ≡ first ++ more
+      → ¬ (more ≡ []) → IsUnfinished names (60 ∷ 33 ∷ first)
+  comment : (names : List (List ℕ)) (bytes : List ℕ) → IsComment (bytes ++ codes "-->") → IsUnfinished names bytes
+  instruction : (names : List (List ℕ)) (bytes inside : List ℕ) → IsInstruction (bytes ++ codes "?>") inside
+      → IsUnfinished names bytes
+  section : (opened : List ℕ) (names : List (List ℕ)) (bytes text : List ℕ) → IsSection (bytes ++ codes "]]>") text
+      → IsUnfinished (opened ∷ names) bytes
+  end_name : (opened name : List ℕ) (names : List (List ℕ)) → AllByRecursion (λ byte. is_name_byte byte ≡ true) name
+      → IsUnfinished (opened ∷ names) (60 ∷ 47 ∷ name)
+  end_space : (opened space : List ℕ) (names : List (List ℕ)) → IsGap space
+      → IsUnfinished (opened ∷ names) (60 ∷ 47 ∷ opened ++ space)
+  reference : (opened name : List ℕ) (names : List (List ℕ)) → AllByRecursion (λ byte. is_name_byte byte ≡ true) name
+      → IsUnfinished (opened ∷ names) (38 ∷ name)
+
+-- the text ends before the root, where an element is open, in what is no whole construct, in the name of a tag, or behind
+-- it in a tag
+pub data IsCut (text : List ℕ) : Type 0 where
+  before_root : IsBeforeRoot text → IsCut text
+  inside : (opened : List ℕ) (names : List (List ℕ)) → IsFromRoot text (opened ∷ names) → IsCut text
+  within : (front bytes : List ℕ) (names : List (List ℕ)) → text ≡ front ++ bytes → IsFront front names
+      → IsClean bytes → IsUnfinished names bytes → IsCut text
+  in_name : (front name : List ℕ) (around : List (List ℕ)) → text ≡ front ++ 60 ∷ name → IsFront front around
+      → (around ≡ [] → IsBeforeRoot front) → IsClean name → IsName name → BeginsTag name → IsCut text
+  in_tag : (around names : List (List ℕ)) (bytes name rest : List ℕ) (line : ℕ)
+      → (there : TagStandsAt text line around bytes name names rest) → there.stands.after ≡ [] → IsUnfinishedRest rest
+      → IsCut text
+
+-- no byte of these is at fault: they are whole, or end too early
+abbrev pub IsReadable : List ℕ → Type 0
+IsReadable text = IsFromRoot text [] ⊎ IsCut text
 
 -- ---- bad markup
 
 -- What stands where a construct may begin, with these elements open, up to the first byte that makes it none: outside
 -- the root, what is no white space; behind `<` what begins nothing; behind `<!` what begins neither `--`, `[CDATA[` nor
 -- `DOCTYPE`, or what is none of these; outside the root, an end tag or a section; an end tag without a name, or with
--- another byte than `>` behind its name; a tag that is none
+-- another byte than `>` behind its name
 pub data IsBadMarkup : List (List ℕ) → List ℕ → Type 0 where
   outside : (byte : ℕ) → is_white byte ≡ false → ¬ (byte ≡ 60) → IsBadMarkup [] (byte ∷ [])
   no_markup : (names : List (List ℕ)) (byte : ℕ) → is_name_byte byte ≡ false → ¬ (byte ≡ 33) → ¬ (byte ≡ 63) → ¬ (byte ≡ 47)
@@ -183,8 +276,6 @@ pub data IsBadMarkup : List (List ℕ) → List ℕ → Type 0 where
   end_unnamed : (names : List (List ℕ)) (byte : ℕ) → is_name_byte byte ≡ false → IsBadMarkup names (60 ∷ 47 ∷ byte ∷ [])
   end_unended : (opened space : List ℕ) (names : List (List ℕ)) (byte : ℕ) → IsSpace space → StandsBehind space byte
       → is_white byte ≡ false → ¬ (byte ≡ 62) → IsBadMarkup (opened ∷ names) (60 ∷ 47 ∷ opened ++ (space ++ byte ∷ []))
-  in_tag : (around : List (List ℕ)) (bytes name rest : List ℕ) (names : List (List ℕ)) → IsBegunTag bytes name names rest
-      → IsBadRest names rest → IsBadMarkup around bytes
 
 -- What stands behind `&`, up to the first byte that makes it no reference: name bytes and another byte, which is not
 -- `;`; a `;` at once; and the number of no character
@@ -195,34 +286,37 @@ pub data IsBadReference : List ℕ → Type 0 where
   no_character : (name : List ℕ) (code : ℕ) → number_of name ≡ Some code → ¬ (IsCharacter code)
       → IsBadReference (name ++ 59 ∷ [])
 
--- a control byte, markup that is bad where it stands, a second root, or a reference that is none
+-- a control byte behind what has no fault, markup that is bad where it stands, a tag that is none, a second root, or a
+-- reference that is none
 pub data HasBadMarkup (text : List ℕ) (line : ℕ) : Type 0 where
-  control : (before after : List ℕ) (byte : ℕ) → text ≡ before ++ byte ∷ after → is_control byte ≡ true
-      → line ≡ line_behind 1 before → HasBadMarkup text line
+  control : (before after : List ℕ) (byte : ℕ) → text ≡ before ++ byte ∷ after → IsReadable before
+      → is_control byte ≡ true → line ≡ line_behind 1 before → HasBadMarkup text line
   markup : (names : List (List ℕ)) (bytes : List ℕ) → IsBadMarkup names bytes → StandsAt text line names bytes
       → HasBadMarkup text line
-  second_root : (front after : List ℕ) (byte : ℕ) → text ≡ front ++ (60 ∷ byte ∷ after) → IsRooted front
+  in_tag : (around names : List (List ℕ)) (bytes name rest : List ℕ) → TagStandsAt text line around bytes name names rest
+      → IsBadRest names rest → HasBadMarkup text line
+  second_root : (front after : List ℕ) (byte : ℕ) → text ≡ front ++ (60 ∷ byte ∷ after) → IsFromRoot front []
       → is_name_byte byte ≡ true → ¬ (byte ≡ 33) → ¬ (byte ≡ 63) → line ≡ line_behind 1 front → HasBadMarkup text line
-  reference : (before bytes after : List ℕ) → text ≡ before ++ (38 ∷ bytes ++ after) → IsBadReference bytes
-      → line ≡ line_behind 1 before → HasBadMarkup text line
+  reference : (bytes : List ℕ) → IsBadReference bytes → RefersAt text line (38 ∷ bytes) → HasBadMarkup text line
+
+-- the line is that of the text's end
+abbrev pub HasUnclosed : List ℕ → ℕ → Type 0
+HasUnclosed text line = IsCut text × (line ≡ line_behind 1 text)
 
 -- ---- the kinds together
 
--- the text ends, at this line
-abbrev pub HasUnclosed : List ℕ → ℕ → Type 0
-HasUnclosed text line = line ≡ line_behind 1 text
-
--- a fault of this kind, at this line
+-- a fault of this kind, at this line. Only that the bytes are no UTF-8 is asked of all; of all others, of what is UTF-8,
+-- behind a byte order mark if there is one
 abbrev pub HasFault : ElementKind → List ℕ → ℕ → Type 0
 HasFault kinds.NotUtf8 bytes line = ¬ (IsUtf8 bytes) × (line ≡ bad_utf8_line bytes)
-HasFault kinds.Form bytes line = HasForm (without_mark bytes) line
-HasFault kinds.BadMarkup bytes line = HasBadMarkup (without_mark bytes) line
-HasFault kinds.TooDeep bytes line = HasTooDeep (without_mark bytes) line
-HasFault kinds.Unclosed bytes line = HasUnclosed (without_mark bytes) line
-HasFault kinds.Mismatched bytes line = HasMismatched (without_mark bytes) line
-HasFault kinds.Doctype bytes line = HasDoctype (without_mark bytes) line
-HasFault kinds.Encoding bytes line = HasEncoding (without_mark bytes) line
-HasFault kinds.Entity bytes line = HasEntity (without_mark bytes) line
+HasFault kinds.Form bytes line = IsUtf8 bytes × HasForm (without_mark bytes) line
+HasFault kinds.BadMarkup bytes line = IsUtf8 bytes × HasBadMarkup (without_mark bytes) line
+HasFault kinds.TooDeep bytes line = IsUtf8 bytes × HasTooDeep (without_mark bytes) line
+HasFault kinds.Unclosed bytes line = IsUtf8 bytes × HasUnclosed (without_mark bytes) line
+HasFault kinds.Mismatched bytes line = IsUtf8 bytes × HasMismatched (without_mark bytes) line
+HasFault kinds.Doctype bytes line = IsUtf8 bytes × HasDoctype (without_mark bytes) line
+HasFault kinds.Encoding bytes line = IsUtf8 bytes × HasEncoding (without_mark bytes) line
+HasFault kinds.Entity bytes line = IsUtf8 bytes × HasEntity (without_mark bytes) line
 
 -- the fault that is given is one that the text has, of its kind and at its line
 abbrev pub FaultsAreWhatTheySay : Type 0
