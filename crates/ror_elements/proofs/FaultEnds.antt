@@ -31,7 +31,7 @@ use Rattle.ror_elements.specs.Marks.{is_control, local_name}
 use Rattle.ror_elements.specs.Mode.{is_between, opening_text, quote_byte}
 use Rattle.ror_elements.specs.Open.{is_none, last_of}
 use Rattle.ror_elements.specs.Reader.{nothing_read, whole_text, is_outside}
-use Rattle.ror_elements.specs.Refusals.{IsClean, IsReadable, IsBeforeRoot, IsUnfinishedRest, IsUnfinished, IsCut, HasFault, FaultsAreWhatTheySay, end_tag, end_tags, IsRooted, IsFront, StandsAt, HasDoctype, HasMismatched, HasTooDeep, HasEncoding, IsNoName, HasEntity, HasForm, IsBadMarkup, HasBadMarkup}
+use Rattle.ror_elements.specs.Refusals.{IsInValue, IsClean, IsReadable, IsBeforeRoot, IsUnfinishedRest, IsUnfinished, IsCut, HasFault, FaultsAreWhatTheySay, end_tag, end_tags, IsRooted, IsFront, StandsAt, HasDoctype, HasMismatched, HasTooDeep, HasEncoding, IsNoName, HasEntity, HasForm, IsBadMarkup, HasBadMarkup}
 use Rattle.ror_elements.specs.References.{entity, number_of, chosen, character_of, digits_number}
 use Rattle.ror_elements.specs.Tags.{root_name}
 use Rattle.ror_elements.specs.Tree.{Tree}
@@ -105,14 +105,14 @@ an_instruction q inside goes =
     let b = question_before (inside ++ 63 ∷ 62 ∷ []) false (goes (63 ∷ 62 ∷ []) (question q)) in
     (b.bytes, subst (λ (xs : List ℕ). IsInstruction (60 ∷ 63 ∷ xs) b.bytes) (sym b.split) (IsInstruction.instruction b.bytes b.is_first))
 
-in_a_tag : (text : List ℕ) (line : ℕ) (top : Open) (below : List Open) (name : List ℕ) (names : List (List ℕ)) (rest : List ℕ) → IsUtf8 text → IsClean text → Tagged text line top below name names rest → IsUnfinishedRest rest → IsCut text
+in_a_tag : (text : List ℕ) (line : ℕ) (top : Open) (below : List Open) (name : List ℕ) (names : List (List ℕ)) (rest : List ℕ) → IsUtf8 text → IsClean text → Tagged text line top below name names rest → IsUnfinishedRest names rest → IsCut text
 in_a_tag text line top below name names rest u clean t is =
     let s = tag_stands text text [] line top below name names rest (record { utf8 = u; split = sym (append-nil text); clean = clean }) t in
     IsCut.in_tag (open_names top below) names t.bytes name rest line s.0 s.1 is
 
-in_a_value : (quote : Quote) (text : List ℕ) (line : ℕ) (top : Open) (below : List Open) (tag : Tag) (rest : List ℕ) → IsUtf8 text → IsClean text → (v : InValue quote text line top below tag rest)
-    → IsUnfinishedRest (v.naming.gap ++ (v.naming.name ++ (v.before ++ (61 ∷ v.after ++ (quote_byte quote ∷ v.written ++ rest))))) → IsCut text
-in_a_value quote text line top below tag rest u clean v is = in_a_tag text line top below tag.name v.naming.names _ u clean v.naming.tagged is
+an_attribute : (quote : Quote) (text : List ℕ) (line : ℕ) (top : Open) (below : List Open) (tag : Tag) (rest : List ℕ) → (v : InValue quote text line top below tag rest)
+    → IsInValue v.naming.names rest (v.naming.gap ++ (v.naming.name ++ (v.before ++ (61 ∷ v.after ++ (quote_byte quote ∷ v.written ++ rest)))))
+an_attribute quote text line top below tag rest v = IsInValue.behind v.naming.gap v.naming.name v.before v.after v.written v.value quote v.naming.is_gap v.naming.is_name v.naming.distinct v.is_before v.is_after v.is_value
 
 in_a_name : (text : List ℕ) (line : ℕ) (top : Open) (below : List Open) (name : List ℕ) → IsUtf8 text → IsClean text → Begun text line top below (60 ∷ name) → IsName name → BeginsTag name → is_closed top below ≡ false → IsCut text
 in_a_name text line top below name u clean g is first closed =
@@ -151,19 +151,17 @@ cut_in modes.EmptyTag text r u clean e h = in_a_tag text r.start r.top r.below r
 cut_in modes.AttributeName text r u clean e h = in_a_tag text r.start r.top r.below r.tag.name r.tag.names _ u clean h.tagged (IsUnfinishedRest.name h.gap r.piece h.is_gap h.is_name)
 cut_in modes.AfterAttributeName text r u clean e h =
     let n = h.naming in
-    in_a_tag text r.start r.top r.below r.tag.name n.names _ u clean n.tagged (IsUnfinishedRest.behind_name n.gap n.name h.space n.is_gap n.is_name h.is_space)
+    in_a_tag text r.start r.top r.below r.tag.name n.names _ u clean n.tagged (IsUnfinishedRest.behind_name n.gap n.name h.space n.is_gap n.is_name n.distinct (h.is_space, h.some))
 cut_in modes.BeforeValue text r u clean e h =
     let n = h.naming in
-    in_a_tag text r.start r.top r.below r.tag.name n.names _ u clean n.tagged (IsUnfinishedRest.behind_equals n.gap n.name h.before h.after n.is_gap n.is_name h.is_before h.is_after)
+    in_a_tag text r.start r.top r.below r.tag.name n.names _ u clean n.tagged (IsUnfinishedRest.behind_equals n.gap n.name h.before h.after n.is_gap n.is_name n.distinct h.is_before h.is_after)
 cut_in (modes.Value quote) text r u clean e h =
-    let n = h.naming in
-    in_a_value quote text r.start r.top r.below r.tag [] u clean h (IsUnfinishedRest.value n.gap n.name h.before h.after h.written h.value quote n.is_gap n.is_name h.is_before h.is_after h.is_value)
+    in_a_tag text r.start r.top r.below r.tag.name h.naming.names _ u clean h.naming.tagged (IsUnfinishedRest.in_value _ (an_attribute quote text r.start r.top r.below r.tag [] h))
 cut_in (modes.Reference homes.Text) text r u clean e h =
     within_open text r.reference_line r.top r.below 38 r.piece (omega arith) u clean h.1.0 h.1.1 (λ names. IsUnfinished.reference r.top.name r.piece names h.0.1)
 cut_in (modes.Reference (homes.Value quote)) text r u clean e h =
     let v = h.1 in
-    let n = v.naming in
-    in_a_value quote text r.start r.top r.below r.tag (38 ∷ r.piece) u clean v (IsUnfinishedRest.reference n.gap n.name v.before v.after v.written v.value r.piece quote n.is_gap n.is_name v.is_before v.is_after v.is_value h.0.1)
+    in_a_tag text r.start r.top r.below r.tag.name v.naming.names _ u clean v.naming.tagged (IsUnfinishedRest.reference r.piece _ h.0.1 (an_attribute quote text r.start r.top r.below r.tag (38 ∷ r.piece) v))
 
 -- between constructs
 cut_inside : (text : List ℕ) (r : Reader) (below : List Open) → r.mode ≡ modes.Content → IsUtf8 text → IsReached text (record r { below = below }) → Stacked r.top below → is_none below ≡ false → IsCut text

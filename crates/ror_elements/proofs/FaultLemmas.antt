@@ -129,15 +129,16 @@ refers_at text seen after line bytes t r = by r.home r.place
     by (homes.Value quote) v =
         let n = v.naming in
         let s = tag_stands text seen after r.reader.start r.reader.top r.reader.below r.reader.tag.name n.names _ t n.tagged in
-        RefersAt.in_value (open_names r.reader.top r.reader.below) n.names n.tagged.bytes r.reader.tag.name _ r.reader.start r.referred.before after s.0
-        (IsInValue.behind n.gap n.name v.before v.after v.written v.value quote n.is_gap n.is_name v.is_before v.is_after v.is_value)
-        (whole_is text seen after r.referred.before (38 ∷ bytes) t.split r.referred.split) r.referred.is_line
+        RefersAt.in_value (open_names r.reader.top r.reader.below) n.names n.tagged.bytes r.reader.tag.name _ r.reader.start r.referred.before s.0
+        (IsInValue.behind n.gap n.name v.before v.after v.written v.value quote n.is_gap n.is_name n.distinct v.is_before v.is_after v.is_value)
+        (subst (λ (xs : List ℕ). text ≡ r.referred.before ++ (38 ∷ bytes ++ xs)) (sym s.1) (whole_is text seen after r.referred.before (38 ∷ bytes) t.split r.referred.split)) r.referred.is_line
 
 entity_fault : (text seen after : List ℕ) (line : ℕ) → IsText text seen after → NamesNothing seen line → HasEntity text line
 entity_fault text seen after line t n = (
   n.name,
   record {
-    is_name = n.is_name;
+    are = n.are;
+    some = n.some;
     unnamed = λ character h. no_character n.name character n.no_entity n.no_number (named 1 n.name character h);
     no_decimal = λ digits h. no_number n.name (35 ∷ digits) _ n.no_number (decimal_number digits h);
     no_hexadecimal = λ digits h. no_number n.name (35 ∷ 120 ∷ digits) _ n.no_number (hexadecimal_number digits h);

@@ -43,7 +43,7 @@ use Rattle.ror_elements.proofs.Declared.{known, known_append}
 use Rattle.ror_elements.proofs.DocumentLemmas.{take_one}
 use Rattle.ror_elements.proofs.LawLemmas.{lines_are_counted}
 use Rattle.ror_elements.proofs.NameLemmas.{names, which, some_same, character_at-code}
-use Rattle.ror_elements.proofs.FaultWords.{EndsLow, IsBetween, AreNameBytes, IsFirstKept, IsStacked, Stacked, open_names, is_closed, Begun, Referred, Instructed, Ended, BehindEnd, Tagged, InTag, AtSlash, InName, Naming, BehindName, BehindEquals, InValue, AtMode, Holds, Mismatches, Deepens, Encodes, NamesNothing, Misnames, Misplaces, Fails, Goes, when, past, not-true, more_names, some_more, longer_name, some_name, begins_more, longer, longer_by, further, begins_at, begins, no_names, bad_outside, refers}
+use Rattle.ror_elements.proofs.FaultWords.{AtSpace, EndsLow, IsBetween, AreNameBytes, IsFirstKept, IsStacked, Stacked, open_names, is_closed, Begun, Referred, Instructed, Ended, BehindEnd, Tagged, InTag, AtSlash, InName, Naming, BehindName, BehindEquals, InValue, AtMode, Holds, Mismatches, Deepens, Encodes, NamesNothing, Misnames, Misplaces, Fails, Goes, when, past, not-true, more_names, some_more, longer_name, some_name, begins_more, longer, longer_by, further, begins_at, begins, no_names, bad_outside, refers}
 use Rattle.ror_elements.proofs.FaultSteps.{content_behind, add_text-stacked}
 use Rattle.ror_elements.proofs.TagRuns.{names_of}
 use Rattle.ror_elements.proofs.FaultValues.{more_white, distinct_last, twice_last, no_test, value_append, a_character, attributes_last, names_last, tagged_more, tagged_as, naming_more, in_value_more, value_more, bad_rest, retag, value-goes, value_stays}
@@ -148,14 +148,14 @@ in_end_name-goes seen r byte is b s =
 
 -- ---- start tags
 
-begin_attribute-goes : (spaced : Bool) (seen : List ℕ) (r : Reader) (byte : ℕ) → InTag spaced seen r.start r.top r.below r.tag → is_white byte ≡ false → ¬ (byte ≡ 62) → ¬ (byte ≡ 47) → Stacked r.top r.below → Goes (seen ++ byte ∷ []) (begin_attribute spaced r byte)
+begin_attribute-goes : (spaced : Bool) (seen : List ℕ) (r : Reader) (byte : ℕ) → AtSpace spaced seen r.start r.top r.below r.tag → (spaced ≡ false → (is_name_byte byte ≡ false) ⊎ ¬ (r.tag.names ≡ [])) → is_white byte ≡ false → ¬ (byte ≡ 62) → ¬ (byte ≡ 47) → Stacked r.top r.below → Goes (seen ++ byte ∷ []) (begin_attribute spaced r byte)
 unfolding begin_attribute
-begin_attribute-goes spaced seen r byte t dark no_end no_slash s =
+begin_attribute-goes spaced seen r byte t behind dark no_end no_slash s =
     let more = tagged_more seen r.start r.top r.below r.tag.name r.tag.names t.space byte t.tagged in
     past (seen ++ byte ∷ []) _ (not spaced) _
     (λ unspaced. bad_rest (seen ++ byte ∷ []) r.start r.top r.below r.tag.name r.tag.names (byte ∷ [])
     (subst (λ (xs : List ℕ). Tagged (seen ++ byte ∷ []) r.start r.top r.below r.tag.name r.tag.names (xs ++ byte ∷ [])) (t.none (not-true spaced unspaced)) more)
-    (IsBadRest.no_space byte dark no_end no_slash))
+    (IsBadRest.no_space byte (behind (not-true spaced unspaced)) dark no_end no_slash))
     (λ is. past (seen ++ byte ∷ []) _ (not (is_name_byte byte)) _
     (λ unnamed. bad_rest (seen ++ byte ∷ []) r.start r.top r.below r.tag.name r.tag.names (t.space ++ byte ∷ []) more
     (IsBadRest.no_name t.space byte (t.is_space, t.some (not-false spaced is)) dark no_end no_slash (not-true (is_name_byte byte) unnamed)))
@@ -164,18 +164,21 @@ begin_attribute-goes spaced seen r byte t dark no_end no_slash s =
       here = record { gap = t.space; tagged = more; is_gap = (t.is_space, t.some (not-false spaced is)); is_name = ((not-false (is_name_byte byte) named, tt), λ none. absurd cc) };
     }))
 
-pub in_tag-goes : (spaced : Bool) (seen : List ℕ) (r : Reader) (byte : ℕ) → InTag spaced seen r.start r.top r.below r.tag → Stacked r.top r.below → Goes (seen ++ byte ∷ []) (in_tag spaced r byte)
+at_space-goes : (spaced : Bool) (seen : List ℕ) (r : Reader) (byte : ℕ) → AtSpace spaced seen r.start r.top r.below r.tag → (spaced ≡ false → (is_name_byte byte ≡ false) ⊎ ¬ (r.tag.names ≡ [])) → Stacked r.top r.below → Goes (seen ++ byte ∷ []) (in_tag spaced r byte)
 unfolding in_tag
-in_tag-goes spaced seen r byte t s =
+at_space-goes spaced seen r byte t behind s =
     let more = tagged_more seen r.start r.top r.below r.tag.name r.tag.names t.space byte t.tagged in
     when (Goes (seen ++ byte ∷ [])) (is_white byte) _ _
-    (λ white. record { stacked = s; here = record { space = t.space ++ byte ∷ []; tagged = more; is_space = more_white t.space byte t.is_space white; some = λ _. some_more t.space byte; none = λ e. absurd cc } })
+    (λ white. record { stacked = s; here = record { space = t.space ++ byte ∷ []; tagged = more; is_space = more_white t.space byte t.is_space white; some = λ _. some_more t.space byte; none = λ e. absurd cc; behind = λ e. absurd cc } })
     (λ dark. when (Goes (seen ++ byte ∷ [])) (byte == 62) _ _
     (λ ends. open_element-goes (seen ++ byte ∷ []) r t.space (62 ∷ []) t.is_space (inl refl)
     (subst (λ n. Tagged (seen ++ byte ∷ []) r.start r.top r.below r.tag.name r.tag.names (t.space ++ n ∷ [])) (eqb-true byte 62 ends) more) s)
     (λ no_end. when (Goes (seen ++ byte ∷ [])) (byte == 47) _ _
     (λ slash. record { stacked = s; here = record { space = t.space; tagged = subst (λ n. Tagged (seen ++ byte ∷ []) r.start r.top r.below r.tag.name r.tag.names (t.space ++ n ∷ [])) (eqb-true byte 47 slash) more; is_space = t.is_space } })
-    (λ no_slash. begin_attribute-goes spaced seen r byte t dark (eqb-false byte 62 no_end) (eqb-false byte 47 no_slash) s)))
+    (λ no_slash. begin_attribute-goes spaced seen r byte t behind dark (eqb-false byte 62 no_end) (eqb-false byte 47 no_slash) s)))
+
+pub in_tag-goes : (spaced : Bool) (seen : List ℕ) (r : Reader) (byte : ℕ) → InTag spaced seen r.start r.top r.below r.tag → Stacked r.top r.below → Goes (seen ++ byte ∷ []) (in_tag spaced r byte)
+in_tag-goes spaced seen r byte t s = at_space-goes spaced seen r byte (record { space = t.space; tagged = t.tagged; is_space = t.is_space; some = t.some; none = t.none }) (λ e. inr (t.behind e)) s
 
 pub in_start_name-goes : (seen : List ℕ) (r : Reader) (byte : ℕ) → r.mode ≡ modes.StartName → Begun seen r.start r.top r.below (60 ∷ r.piece) → IsName r.piece → BeginsTag r.piece → is_closed r.top r.below ≡ false → Stacked r.top r.below → Goes (seen ++ byte ∷ []) (in_start_name r byte)
 unfolding in_start_name
@@ -185,7 +188,7 @@ in_start_name-goes seen r byte is b name first closed s =
     (λ named. record { stacked = s; here = subst (λ (m : Mode). AtMode m (seen ++ byte ∷ []) r.start r.reference_line (r.piece ++ byte ∷ []) r.tag r.declaration r.top r.below) (sym is) (more, longer_name r.piece byte name.0 named, begins_more r.piece byte first, closed) })
     (λ unnamed. past (seen ++ byte ∷ []) _ (nat_le 64 (length r.below)) _
     (λ deep. record { name = r.piece; next = byte; top = r.top; below = r.below; begun = more; is_name = name; begins = first; ends = unnamed; many = leb-true 64 (length r.below) deep })
-    (λ few. in_tag-goes false seen (record r { tag = record empty_tag { name = r.piece }; piece = [] }) byte (record { space = []; tagged = tagged (leb-false 64 (length r.below) few); is_space = tt; some = λ e. absurd cc; none = λ _. refl }) s))
+    (λ few. at_space-goes false seen (record r { tag = record empty_tag { name = r.piece }; piece = [] }) byte (record { space = []; tagged = tagged (leb-false 64 (length r.below) few); is_space = tt; some = λ e. absurd cc; none = λ _. refl }) (λ _. inl unnamed) s))
   where
     tagged : length r.below < 64 → Tagged seen r.start r.top r.below r.piece [] []
     tagged few = record {
@@ -322,12 +325,16 @@ attribute_ends quote seen start top below tag v =
       first = t.first;
     }
 
-end_value-goes : (seen : List ℕ) (r : Reader) → Tagged seen r.start r.top r.below r.tag.name r.tag.names [] → Stacked r.top r.below → Holds seen (end_value r)
+some_last : (names : List (List ℕ)) (name : List ℕ) → ¬ (names ++ name ∷ [] ≡ [])
+some_last [] name = λ e. absurd cc
+some_last (first ∷ names) name = λ e. absurd cc
+
+end_value-goes : (seen : List ℕ) (r : Reader) → Tagged seen r.start r.top r.below r.tag.name r.tag.names [] → ¬ (r.tag.names ≡ []) → Stacked r.top r.below → Holds seen (end_value r)
 unfolding end_value
-end_value-goes seen r t s =
+end_value-goes seen r t named s =
     when (Holds seen) r.tag.is_id _ _
-    (λ _. record { stacked = s; here = record { space = []; tagged = t; is_space = tt; some = λ e. absurd cc; none = λ _. refl } })
-    (λ _. record { stacked = s; here = record { space = []; tagged = t; is_space = tt; some = λ e. absurd cc; none = λ _. refl } })
+    (λ _. record { stacked = s; here = record { space = []; tagged = t; is_space = tt; some = λ e. absurd cc; none = λ _. refl; behind = λ _. named } })
+    (λ _. record { stacked = s; here = record { space = []; tagged = t; is_space = tt; some = λ e. absurd cc; none = λ _. refl; behind = λ _. named } })
 
 add_byte-goes : (quote : Quote) (seen : List ℕ) (r : Reader) (byte : ℕ) → IsReached seen r → r.mode ≡ modes.Value quote → InValue quote (seen ++ byte ∷ []) r.start r.top r.below r.tag (byte ∷ []) → (byte == quote_byte quote) ≡ false → (byte == 60) ≡ false → Stacked r.top r.below → Holds (seen ++ byte ∷ []) (add_byte quote r byte)
 unfolding add_byte
@@ -343,7 +350,7 @@ unfolding in_value
 in_value-goes quote seen r byte reached is v s =
     let more = in_value_more quote seen r.start r.top r.below r.tag [] byte v in
     when (Goes (seen ++ byte ∷ [])) (byte == quote_byte quote) _ _
-    (λ e. end_value-goes (seen ++ byte ∷ []) r (attribute_ends quote (seen ++ byte ∷ []) r.start r.top r.below r.tag (subst (λ n. InValue quote (seen ++ byte ∷ []) r.start r.top r.below r.tag (n ∷ [])) (eqb-true byte (quote_byte quote) e) more)) s)
+    (λ e. end_value-goes (seen ++ byte ∷ []) r (attribute_ends quote (seen ++ byte ∷ []) r.start r.top r.below r.tag (subst (λ n. InValue quote (seen ++ byte ∷ []) r.start r.top r.below r.tag (n ∷ [])) (eqb-true byte (quote_byte quote) e) more)) (λ none. some_last v.naming.names v.naming.name (sym v.naming.named ∙ none)) s)
     (λ no_quote. past (seen ++ byte ∷ []) _ (byte == 60) _
     (λ e. bad_rest (seen ++ byte ∷ []) r.start r.top r.below r.tag.name more.naming.names _ more.naming.tagged
     (subst (λ n. IsBadRest more.naming.names (more.naming.gap ++ (more.naming.name ++ (more.before ++ (61 ∷ more.after ++ (quote_byte quote ∷ more.written ++ n ∷ [])))))) (sym (eqb-true byte 60 e))

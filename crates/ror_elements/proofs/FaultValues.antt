@@ -35,7 +35,7 @@ use Rattle.ror_elements.specs.Marks.{is_white, is_name_byte, is_control, local_n
 use Rattle.ror_elements.specs.Mode.{is_ended_by, opening_text, quote_of, quote_byte, is_byte_at, is_between}
 use Rattle.ror_elements.specs.Open.{is_none, finished}
 use Rattle.ror_elements.specs.Reader.{nothing_read, empty_tag, is_outside, is_behind_root, add_text, add_value, outside, at_start, in_content, begin_tag, begin_end_tag, in_first_markup, in_markup, in_exclamation, begin, in_beginning, in_comment, without_brackets, in_section, in_first_instruction, end_first_instruction, in_instruction, referred, end_reference, in_reference}
-use Rattle.ror_elements.specs.Refusals.{IsBegunTag, StandsBehind, IsBadRest, IsBadMarkup, IsBadReference}
+use Rattle.ror_elements.specs.Refusals.{AreReferenceBytes, IsBegunTag, StandsBehind, IsBadRest, IsBadMarkup, IsBadReference}
 use Rattle.ror_elements.specs.References.{entity, number_of, character_at, chosen, character_of}
 use Rattle.ror_elements.specs.Tags.{root_name, id_name, opened, is_bad_root, open_element, close_in, close, after_end_name, in_end_name, begin_attribute, in_tag, in_start_name, in_empty_tag, add_name, after_attribute_name, in_attribute_name, quoted, before_value, end_value, add_byte, in_value}
 use Rattle.ror_elements.proofs.Behind.{EndsQuestion}
@@ -43,7 +43,7 @@ use Rattle.ror_elements.proofs.Declared.{known, known_append}
 use Rattle.ror_elements.proofs.DocumentLemmas.{take_one}
 use Rattle.ror_elements.proofs.LawLemmas.{lines_are_counted}
 use Rattle.ror_elements.proofs.NameLemmas.{names, which, some_same, character_at-code}
-use Rattle.ror_elements.proofs.FaultWords.{IsInHome, Refers, EndsLow, IsBetween, AreNameBytes, IsFirstKept, IsStacked, Stacked, open_names, is_closed, Begun, Referred, Instructed, Ended, BehindEnd, Tagged, InTag, AtSlash, InName, Naming, BehindName, BehindEquals, InValue, AtMode, Holds, Mismatches, Deepens, Encodes, NamesNothing, Misnames, Misplaces, Fails, Goes, when, past, not-true, more_names, some_more, longer_name, some_name, begins_more, longer, longer_by, further, begins_at, begins, no_names, bad_outside, refers}
+use Rattle.ror_elements.proofs.FaultWords.{more_of_reference, IsInHome, Refers, EndsLow, IsBetween, AreNameBytes, IsFirstKept, IsStacked, Stacked, open_names, is_closed, Begun, Referred, Instructed, Ended, BehindEnd, Tagged, InTag, AtSlash, InName, Naming, BehindName, BehindEquals, InValue, AtMode, Holds, Mismatches, Deepens, Encodes, NamesNothing, Misnames, Misplaces, Fails, Goes, when, past, not-true, more_names, some_more, longer_name, some_name, begins_more, longer, longer_by, further, begins_at, begins, no_names, bad_outside, refers}
 use Rattle.ror_elements.proofs.FaultSteps.{content_behind, add_text-stacked}
 use Rattle.ror_elements.proofs.TagRuns.{names_of}
 
@@ -219,7 +219,7 @@ value_stays seen r quote bytes is s v =
     })
     (λ _. record { stacked = s; here = subst (λ (m : Mode). AtMode m seen r.start r.reference_line r.piece r.tag r.declaration r.top r.below) (sym is) v })
 
-named_fault : (seen : List ℕ) (name : List ℕ) (line : ℕ) → Refers seen line (38 ∷ name ++ 59 ∷ []) → AreNameBytes name → (f : ElementFault) → character_of line name ≡ Err f → Fails f.kind seen f.line
+named_fault : (seen : List ℕ) (name : List ℕ) (line : ℕ) → Refers seen line (38 ∷ name ++ 59 ∷ []) → AreReferenceBytes name → (f : ElementFault) → character_of line name ≡ Err f → Fails f.kind seen f.line
 unfolding character_of
 named_fault seen name line r all f e = tested (is_none name) (entity name) (number_of name) (some_name name) (nothing name) refl refl e
   where
@@ -231,7 +231,7 @@ named_fault seen name line r all f e = tested (is_none name) (entity name) (numb
     bad bytes referred is same = subst (λ (g : ElementFault). Fails g.kind seen g.line) same (Misplaces.reference bytes referred is)
 
     numbered : (code : ℕ) (there : Option ℕ) → number_of name ≡ Some code → character_at code ≡ there → need (fault kinds.BadMarkup line) there ≡ Err f → Fails f.kind seen f.line
-    numbered code None number none e = bad (name ++ 59 ∷ []) r (IsBadReference.no_character name code number (λ h. let clash = character_at-code code h in absurd cc)) cc
+    numbered code None number none e = bad (name ++ 59 ∷ []) r (IsBadReference.no_character name code all number (λ h. let clash = character_at-code code h in absurd cc)) cc
     numbered code (Some x) number none e = absurd cc
 
     tested : (none : Bool) (named number : Option ℕ) → (none ≡ false → ¬ (name ≡ [])) → (none ≡ true → name ≡ []) → entity name ≡ named → number_of name ≡ number → (refuse (fault kinds.BadMarkup line) none >>= λ _. chosen line named number) ≡ Err f → Fails f.kind seen f.line
@@ -239,17 +239,17 @@ named_fault seen name line r all f e = tested (is_none name) (entity name) (numb
     tested false (Some x) number some nil a b e = absurd cc
     tested false None None some nil a b e =
         let same : fault kinds.Entity line ≡ f = cc in
-        subst (λ (g : ElementFault). Fails g.kind seen g.line) same (record { name = name; refers = r; is_name = (all, some refl); no_entity = a; no_number = b })
+        subst (λ (g : ElementFault). Fails g.kind seen g.line) same (record { name = name; refers = r; are = all; some = some refl; no_entity = a; no_number = b })
     tested false None (Some code) some nil a b e = numbered code (character_at code) b refl e
 
-referred-goes : (home : Home) (before seen : List ℕ) (byte : ℕ) (r : Reader) → seen ≡ before ++ byte ∷ [] → (byte == 59) ≡ true → Referred seen r.reference_line (38 ∷ r.piece ++ 59 ∷ []) → AreNameBytes r.piece → Stacked r.top r.below → IsInHome home seen r (38 ∷ r.piece ++ 59 ∷ []) → (character : Result ℕ ElementFault) → character_of r.reference_line r.piece ≡ character
+referred-goes : (home : Home) (before seen : List ℕ) (byte : ℕ) (r : Reader) → seen ≡ before ++ byte ∷ [] → (byte == 59) ≡ true → Referred seen r.reference_line (38 ∷ r.piece ++ 59 ∷ []) → AreReferenceBytes r.piece → Stacked r.top r.below → IsInHome home seen r (38 ∷ r.piece ++ 59 ∷ []) → (character : Result ℕ ElementFault) → character_of r.reference_line r.piece ≡ character
     → Goes seen (character >>= λ c. Ok (referred home r (encode_utf8 c)))
 referred-goes home before seen byte r split semicolon b all s h (Err f) e = named_fault seen r.piece r.reference_line (record { referred = b; home = home; reader = r; is_line = refl; place = h }) all f e
 referred-goes homes.Text before seen byte r split semicolon b all s h (Ok c) e = subst (λ (xs : List ℕ). Holds xs (record (add_text r (encode_utf8 c)) { mode = modes.Content })) (sym split) (content_behind before (add_text r (encode_utf8 c)) byte 59 semicolon (omega arith) (add_text-stacked r (encode_utf8 c) s))
 referred-goes (homes.Value quote) before seen byte r split semicolon b all s h (Ok c) e =
     value-goes seen r quote (encode_utf8 c) s (value_more quote seen r.start r.top r.below r.tag (38 ∷ r.piece ++ 59 ∷ []) (encode_utf8 c) h (a_character quote (38 ∷ r.piece ++ 59 ∷ []) c (IsReference.reference r.piece c (names r.reference_line r.piece c e))))
 
-pub in_reference-goes : (home : Home) (seen : List ℕ) (r : Reader) (byte : ℕ) → r.mode ≡ modes.Reference home → Referred seen r.reference_line (38 ∷ r.piece) → AreNameBytes r.piece → IsInHome home seen r (38 ∷ r.piece) → Stacked r.top r.below → Goes (seen ++ byte ∷ []) (in_reference home r byte)
+pub in_reference-goes : (home : Home) (seen : List ℕ) (r : Reader) (byte : ℕ) → r.mode ≡ modes.Reference home → Referred seen r.reference_line (38 ∷ r.piece) → AreReferenceBytes r.piece → IsInHome home seen r (38 ∷ r.piece) → Stacked r.top r.below → Goes (seen ++ byte ∷ []) (in_reference home r byte)
 unfolding in_reference end_reference
 in_reference-goes home seen r byte is b all h s =
     let longer_b = further seen r.reference_line (38 ∷ r.piece) byte b in
@@ -257,18 +257,18 @@ in_reference-goes home seen r byte is b all h s =
     when (Goes (seen ++ byte ∷ [])) (byte == 59) _ _
     (λ e. referred-goes home seen (seen ++ byte ∷ []) byte r refl e (subst (λ n. Referred (seen ++ byte ∷ []) r.reference_line (38 ∷ r.piece ++ n ∷ [])) (eqb-true byte 59 e) longer_b) all s
     (subst (λ n. IsInHome home (seen ++ byte ∷ []) r (38 ∷ r.piece ++ n ∷ [])) (eqb-true byte 59 e) longer_h) (character_of r.reference_line r.piece) refl)
-    (λ _. past (seen ++ byte ∷ []) _ (not (is_name_byte byte)) _
+    (λ no_end. past (seen ++ byte ∷ []) _ (not (is_name_byte byte)) _
     (λ unnamed. Misplaces.reference (r.piece ++ byte ∷ []) (record { referred = longer_b; home = home; reader = r; is_line = refl; place = longer_h }) (IsBadReference.unended r.piece byte all (not-true (is_name_byte byte) unnamed)))
     (λ named. record {
       stacked = s;
       here = subst (λ (m : Mode). AtMode m (seen ++ byte ∷ []) r.start r.reference_line (r.piece ++ byte ∷ []) r.tag r.declaration r.top r.below) (sym is)
-          (there home longer_b (more_names r.piece byte all (not-false (is_name_byte byte) named)) longer_h);
+          (there home longer_b (more_of_reference r.piece byte all (not-false (is_name_byte byte) named) (eqb-false byte 59 no_end)) longer_h);
     }))
   where
     home_more : (home : Home) → IsInHome home seen r (38 ∷ r.piece) → IsInHome home (seen ++ byte ∷ []) r (38 ∷ r.piece ++ byte ∷ [])
     home_more homes.Text h = (longer seen r.reference_line r.top r.below (38 ∷ r.piece) byte h.0, h.1)
     home_more (homes.Value quote) h = in_value_more quote seen r.start r.top r.below r.tag (38 ∷ r.piece) byte h
 
-    there : (home : Home) → Referred (seen ++ byte ∷ []) r.reference_line (38 ∷ r.piece ++ byte ∷ []) → AreNameBytes (r.piece ++ byte ∷ []) → IsInHome home (seen ++ byte ∷ []) r (38 ∷ r.piece ++ byte ∷ []) → AtMode (modes.Reference home) (seen ++ byte ∷ []) r.start r.reference_line (r.piece ++ byte ∷ []) r.tag r.declaration r.top r.below
+    there : (home : Home) → Referred (seen ++ byte ∷ []) r.reference_line (38 ∷ r.piece ++ byte ∷ []) → AreReferenceBytes (r.piece ++ byte ∷ []) → IsInHome home (seen ++ byte ∷ []) r (38 ∷ r.piece ++ byte ∷ []) → AtMode (modes.Reference home) (seen ++ byte ∷ []) r.start r.reference_line (r.piece ++ byte ∷ []) r.tag r.declaration r.top r.below
     there homes.Text b all h = ((b, all), h)
     there (homes.Value quote) b all h = ((b, all), h)

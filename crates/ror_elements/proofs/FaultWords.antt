@@ -35,7 +35,7 @@ use Rattle.ror_elements.specs.Marks.{is_white, is_name_byte, is_control, local_n
 use Rattle.ror_elements.specs.Mode.{is_ended_by, opening_text, quote_of, quote_byte, is_byte_at, is_between}
 use Rattle.ror_elements.specs.Open.{is_none, finished}
 use Rattle.ror_elements.specs.Reader.{nothing_read, is_outside, is_behind_root, add_text, add_value, outside, at_start, in_content, begin_tag, begin_end_tag, in_first_markup, in_markup, in_exclamation, begin, in_beginning, in_comment, without_brackets, in_section, in_first_instruction, end_first_instruction, in_instruction, referred, end_reference, in_reference}
-use Rattle.ror_elements.specs.Refusals.{IsClean, IsBegunTag, StandsBehind, IsBadRest, IsBadMarkup, IsBadReference}
+use Rattle.ror_elements.specs.Refusals.{AreReferenceBytes, IsClean, IsBegunTag, StandsBehind, IsBadRest, IsBadMarkup, IsBadReference}
 use Rattle.ror_elements.specs.References.{entity, number_of, character_at, chosen, character_of}
 use Rattle.ror_elements.specs.Tags.{root_name, opened, is_bad_root, open_element, close_in, close, after_end_name, in_end_name, begin_attribute, in_tag, in_start_name, in_empty_tag, add_name, after_attribute_name, in_attribute_name, quoted, before_value, end_value, add_byte, in_value}
 use Rattle.ror_elements.proofs.Behind.{Ends, EndsQuestion}
@@ -140,12 +140,20 @@ pub record Tagged (seen : List ℕ) (start : ℕ) (top : Open) (below : List Ope
   pub few : length below < 64
   pub first : is_closed top below ≡ false
 
+pub record AtSpace (spaced : Bool) (seen : List ℕ) (start : ℕ) (top : Open) (below : List Open) (tag : Tag) : Type 0 where
+  pub space : List ℕ
+  pub tagged : Tagged seen start top below tag.name tag.names space
+  pub is_space : IsSpace space
+  pub some : spaced ≡ true → ¬ (space ≡ [])
+  pub none : spaced ≡ false → space ≡ []
+
 pub record InTag (spaced : Bool) (seen : List ℕ) (start : ℕ) (top : Open) (below : List Open) (tag : Tag) : Type 0 where
   pub space : List ℕ
   pub tagged : Tagged seen start top below tag.name tag.names space
   pub is_space : IsSpace space
   pub some : spaced ≡ true → ¬ (space ≡ [])
   pub none : spaced ≡ false → space ≡ []
+  pub behind : spaced ≡ false → ¬ (tag.names ≡ [])
 
 pub record AtSlash (seen : List ℕ) (start : ℕ) (top : Open) (below : List Open) (tag : Tag) : Type 0 where
   pub space : List ℕ
@@ -214,8 +222,8 @@ AtMode modes.AttributeName seen start line piece tag declaration top below = InN
 AtMode modes.AfterAttributeName seen start line piece tag declaration top below = BehindName seen start top below tag
 AtMode modes.BeforeValue seen start line piece tag declaration top below = BehindEquals seen start top below tag
 AtMode (modes.Value quote) seen start line piece tag declaration top below = InValue quote seen start top below tag []
-AtMode (modes.Reference homes.Text) seen start line piece tag declaration top below = (Referred seen line (38 ∷ piece) × AreNameBytes piece) × (Begun seen line top below (38 ∷ piece) × (is_none below ≡ false))
-AtMode (modes.Reference (homes.Value quote)) seen start line piece tag declaration top below = (Referred seen line (38 ∷ piece) × AreNameBytes piece) × InValue quote seen start top below tag (38 ∷ piece)
+AtMode (modes.Reference homes.Text) seen start line piece tag declaration top below = (Referred seen line (38 ∷ piece) × AreReferenceBytes piece) × (Begun seen line top below (38 ∷ piece) × (is_none below ≡ false))
+AtMode (modes.Reference (homes.Value quote)) seen start line piece tag declaration top below = (Referred seen line (38 ∷ piece) × AreReferenceBytes piece) × InValue quote seen start top below tag (38 ∷ piece)
 
 pub record Holds (seen : List ℕ) (r : Reader) : Type 0 where
   pub stacked : Stacked r.top r.below
@@ -267,7 +275,8 @@ pub record Encodes (seen : List ℕ) (line : ℕ) : Type 0 where
 pub record NamesNothing (seen : List ℕ) (line : ℕ) : Type 0 where
   pub name : List ℕ
   pub refers : Refers seen line (38 ∷ name ++ 59 ∷ [])
-  pub is_name : IsName name
+  pub are : AreReferenceBytes name
+  pub some : ¬ (name ≡ [])
   pub no_entity : entity name ≡ None
   pub no_number : number_of name ≡ None
 
@@ -326,6 +335,10 @@ not-true false e = refl
 pub more_names : (bytes : List ℕ) (byte : ℕ) → AreNameBytes bytes → is_name_byte byte ≡ true → AreNameBytes (bytes ++ byte ∷ [])
 more_names [] byte all is = (is, tt)
 more_names (first ∷ bytes) byte all is = (all.0, more_names bytes byte all.1 is)
+
+pub more_of_reference : (bytes : List ℕ) (byte : ℕ) → AreReferenceBytes bytes → is_name_byte byte ≡ true → ¬ (byte ≡ 59) → AreReferenceBytes (bytes ++ byte ∷ [])
+more_of_reference [] byte all is other = ((is, other), tt)
+more_of_reference (first ∷ bytes) byte all is other = (all.0, more_of_reference bytes byte all.1 is other)
 
 pub some_more : (bytes : List ℕ) (byte : ℕ) → ¬ (bytes ++ byte ∷ [] ≡ [])
 some_more [] byte = λ e. absurd cc

@@ -143,7 +143,8 @@ StandsBehind space byte = (is_name_byte byte ≡ false) ⊎ ¬ (space ≡ [])
 -- that comes twice, up to the byte that ends it; another byte than `=` behind a name; another than a quote behind that;
 -- and a `<` in a value
 pub data IsBadRest (names : List (List ℕ)) : List ℕ → Type 0 where
-  no_space : (byte : ℕ) → is_white byte ≡ false → ¬ (byte ≡ 62) → ¬ (byte ≡ 47) → IsBadRest names (byte ∷ [])
+  no_space : (byte : ℕ) → (is_name_byte byte ≡ false) ⊎ ¬ (names ≡ []) → is_white byte ≡ false → ¬ (byte ≡ 62)
+      → ¬ (byte ≡ 47) → IsBadRest names (byte ∷ [])
   no_name : (space : List ℕ) (byte : ℕ) → IsGap space → is_white byte ≡ false → ¬ (byte ≡ 62) → ¬ (byte ≡ 47)
       → is_name_byte byte ≡ false → IsBadRest names (space ++ byte ∷ [])
   no_end : (space : List ℕ) (byte : ℕ) → IsSpace space → ¬ (byte ≡ 62) → IsBadRest names (space ++ 47 ∷ byte ∷ [])
@@ -176,23 +177,28 @@ pub record HasForm (text : List ℕ) (line : ℕ) : Type 0 where
 
 -- ---- references
 
--- these bytes stand in a value, behind so much of it
-pub data IsInValue (bytes : List ℕ) : List ℕ → Type 0 where
-  behind : (gap name before after written value : List ℕ) (quote : Quote) → IsGap gap → IsName name → IsSpace before
-      → IsSpace after → IsValue quote written value
-      → IsInValue bytes (gap ++ (name ++ (before ++ (61 ∷ after ++ (quote_byte quote ∷ written ++ bytes)))))
+-- what may stand between `&` and `;`: bytes of a name other than `;`
+abbrev pub AreReferenceBytes : List ℕ → Type 0
+AreReferenceBytes bytes = AllByRecursion (λ byte. (is_name_byte byte ≡ true) × ¬ (byte ≡ 59)) bytes
 
--- these bytes stand in the text of an element, or in a value of a tag, and begin on this line
+-- behind attributes with these names stands another one, as far as its value goes, and these bytes in the value
+pub data IsInValue (names : List (List ℕ)) (bytes : List ℕ) : List ℕ → Type 0 where
+  behind : (gap name before after written value : List ℕ) (quote : Quote) → IsGap gap → IsName name
+      → AreDistinct (names ++ name ∷ []) → IsSpace before → IsSpace after → IsValue quote written value
+      → IsInValue names bytes (gap ++ (name ++ (before ++ (61 ∷ after ++ (quote_byte quote ∷ written ++ bytes)))))
+
+-- these bytes stand in the text of an element, or at the end of a tag that has a value so far, and begin on this line
 pub data RefersAt (text : List ℕ) (line : ℕ) (bytes : List ℕ) : Type 0 where
   in_text : (opened : List ℕ) (names : List (List ℕ)) → StandsAt text line (opened ∷ names) bytes
       → RefersAt text line bytes
-  in_value : (around names : List (List ℕ)) (tag name rest : List ℕ) (start : ℕ) (before after : List ℕ)
-      → TagStandsAt text start around tag name names rest → IsInValue bytes rest
-      → text ≡ before ++ (bytes ++ after) → line ≡ line_behind 1 before → RefersAt text line bytes
+  in_value : (around names : List (List ℕ)) (tag name rest : List ℕ) (start : ℕ) (before : List ℕ)
+      → (there : TagStandsAt text start around tag name names rest) → IsInValue names bytes rest
+      → text ≡ before ++ (bytes ++ there.stands.after) → line ≡ line_behind 1 before → RefersAt text line bytes
 
 -- a name for no character, and not by a number: `#` and decimal digits, or `#x` and hexadecimal ones
 pub record IsNoName (name : List ℕ) : Type 0 where
-  pub is_name : IsName name
+  pub are : AreReferenceBytes name
+  pub some : ¬ (name ≡ [])
   pub unnamed : (character : ℕ) → ¬ (Names name character)
   pub no_decimal : (digits : List ℕ) → AreDigits 10 digits → ¬ (name ≡ 35 ∷ digits)
   pub no_hexadecimal : (digits : List ℕ) → AreDigits 16 digits → ¬ (name ≡ 35 ∷ 120 ∷ digits)
@@ -203,23 +209,19 @@ HasEntity text line = (name : List ℕ) × IsNoName name × RefersAt text line (
 
 -- ---- texts that end too early
 
--- what stands in a tag behind its attributes where the text ends: white space, maybe with `/` behind it, or so much of
--- an attribute
-pub data IsUnfinishedRest : List ℕ → Type 0 where
-  space : (space : List ℕ) → IsSpace space → IsUnfinishedRest space
-  slash : (space : List ℕ) → IsSpace space → IsUnfinishedRest (space ++ 47 ∷ [])
-  name : (gap name : List ℕ) → IsGap gap → IsName name → IsUnfinishedRest (gap ++ name)
-  behind_name : (gap name space : List ℕ) → IsGap gap → IsName name → IsSpace space
-      → IsUnfinishedRest (gap ++ (name ++ space))
-  behind_equals : (gap name before after : List ℕ) → IsGap gap → IsName name → IsSpace before → IsSpace after
-      → IsUnfinishedRest (gap ++ (name ++ (before ++ (61 ∷ after))))
-  value : (gap name before after written value : List ℕ) (quote : Quote) → IsGap gap → IsName name → IsSpace before
-      → IsSpace after → IsValue quote written value
-      → IsUnfinishedRest (gap ++ (name ++ (before ++ (61 ∷ after ++ (quote_byte quote ∷ written ++ [])))))
-  reference : (gap name before after written value part : List ℕ) (quote : Quote) → IsGap gap → IsName name
-      → IsSpace before → IsSpace after → IsValue quote written value
-      → AllByRecursion (λ byte. is_name_byte byte ≡ true) part
-      → IsUnfinishedRest (gap ++ (name ++ (before ++ (61 ∷ after ++ (quote_byte quote ∷ written ++ 38 ∷ part)))))
+-- what stands behind attributes with these names where the text ends: white space, maybe with `/` behind it; so much of
+-- the name of another one; or such a name, which comes once, and so much of what follows it
+pub data IsUnfinishedRest (names : List (List ℕ)) : List ℕ → Type 0 where
+  space : (space : List ℕ) → IsSpace space → IsUnfinishedRest names space
+  slash : (space : List ℕ) → IsSpace space → IsUnfinishedRest names (space ++ 47 ∷ [])
+  name : (gap name : List ℕ) → IsGap gap → IsName name → IsUnfinishedRest names (gap ++ name)
+  behind_name : (gap name space : List ℕ) → IsGap gap → IsName name → AreDistinct (names ++ name ∷ []) → IsGap space
+      → IsUnfinishedRest names (gap ++ (name ++ space))
+  behind_equals : (gap name before after : List ℕ) → IsGap gap → IsName name → AreDistinct (names ++ name ∷ [])
+      → IsSpace before → IsSpace after → IsUnfinishedRest names (gap ++ (name ++ (before ++ (61 ∷ after))))
+  in_value : (rest : List ℕ) → IsInValue names [] rest → IsUnfinishedRest names rest
+  reference : (part rest : List ℕ) → AreReferenceBytes part → IsInValue names (38 ∷ part) rest
+      → IsUnfinishedRest names rest
 
 -- What stands where a construct may begin, with these elements open, and is no whole one: so much of what begins it; a
 -- comment, an instruction or a section without its end; so much of an end tag or of a reference
@@ -236,7 +238,7 @@ pub data IsUnfinished : List (List ℕ) → List ℕ → Type 0 where
       → IsUnfinished (opened ∷ names) (60 ∷ 47 ∷ name)
   end_space : (opened space : List ℕ) (names : List (List ℕ)) → IsGap space
       → IsUnfinished (opened ∷ names) (60 ∷ 47 ∷ opened ++ space)
-  reference : (opened name : List ℕ) (names : List (List ℕ)) → AllByRecursion (λ byte. is_name_byte byte ≡ true) name
+  reference : (opened name : List ℕ) (names : List (List ℕ)) → AreReferenceBytes name
       → IsUnfinished (opened ∷ names) (38 ∷ name)
 
 -- the text ends before the root, where an element is open, in what is no whole construct, in the name of a tag, or behind
@@ -249,7 +251,7 @@ pub data IsCut (text : List ℕ) : Type 0 where
   in_name : (front name : List ℕ) (around : List (List ℕ)) → text ≡ front ++ 60 ∷ name → IsFront front around
       → (around ≡ [] → IsBeforeRoot front) → IsClean name → IsName name → BeginsTag name → IsCut text
   in_tag : (around names : List (List ℕ)) (bytes name rest : List ℕ) (line : ℕ)
-      → (there : TagStandsAt text line around bytes name names rest) → there.stands.after ≡ [] → IsUnfinishedRest rest
+      → (there : TagStandsAt text line around bytes name names rest) → there.stands.after ≡ [] → IsUnfinishedRest names rest
       → IsCut text
 
 -- no byte of these is at fault: they are whole, or end too early
@@ -280,10 +282,9 @@ pub data IsBadMarkup : List (List ℕ) → List ℕ → Type 0 where
 -- What stands behind `&`, up to the first byte that makes it no reference: name bytes and another byte, which is not
 -- `;`; a `;` at once; and the number of no character
 pub data IsBadReference : List ℕ → Type 0 where
-  unended : (name : List ℕ) (byte : ℕ) → AllByRecursion (λ byte. is_name_byte byte ≡ true) name → is_name_byte byte ≡ false
-      → IsBadReference (name ++ byte ∷ [])
+  unended : (name : List ℕ) (byte : ℕ) → AreReferenceBytes name → is_name_byte byte ≡ false → IsBadReference (name ++ byte ∷ [])
   unnamed : IsBadReference (59 ∷ [])
-  no_character : (name : List ℕ) (code : ℕ) → number_of name ≡ Some code → ¬ (IsCharacter code)
+  no_character : (name : List ℕ) (code : ℕ) → AreReferenceBytes name → number_of name ≡ Some code → ¬ (IsCharacter code)
       → IsBadReference (name ++ 59 ∷ [])
 
 -- a control byte behind what has no fault, markup that is bad where it stands, a tag that is none, a second root, or a
