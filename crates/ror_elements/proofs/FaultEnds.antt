@@ -1,14 +1,11 @@
 -- Texts that end too early.
-use Rattle.std.proofs.Common.{◌≡◌, ℕ, zero, suc, ◌+◌, ◌<◌, ◌≤◌, Bool, true, false, not, List, [], ◌∷◌, ◌++◌, append_assoc, append-nil, length, take, drop, take-append-drop, length-drop, Option, Some, None, Result, Ok, Err, refl, sym, ap, subst, ◌∙◌, arith, inl, inr}
-use Rattle.std.specs.Prelude.{IfOk, ◌⊎◌, ◌==◌, ◌&&◌, if◌then◌else◌, codes}
-use Rattle.std.specs.Str.{IsUtf8, IsAscii, bytes_eq}
-use Rattle.std.proofs.lemmas.Bool.{cases_Bool, true≢false, not-false}
-use Rattle.std.proofs.lemmas.Str.{IsUtf8-nil, IsUtf8-append, IsUtf8-from_ascii}
-use Rattle.ror_text.specs.Lines.{bad_utf8_line}
-use Rattle.ror_text.specs.Reading.{◌>>=◌, refuse, need, read_all}
-use Rattle.ror_text.proofs.ReadingLemmas.{bind_ok, bind_err, bind-at_ok, read_all-append, read_all_keeps, refuse_ok, refuse_err, need_err}
+use Rattle.std.proofs.Common.{◌≡◌, ℕ, ◌<◌, Bool, true, false, not, List, [], ◌∷◌, ◌++◌, append-nil, length, take, drop, take-append-drop, length-drop, None, Result, Ok, Err, refl, sym, ap, subst, ◌∙◌, arith, inl, inr}
+use Rattle.std.specs.Prelude.{◌⊎◌, codes}
+use Rattle.std.specs.Str.{IsUtf8}
+use Rattle.std.proofs.lemmas.Bool.{true≢false, not-false}
+use Rattle.ror_text.specs.Reading.{refuse}
+use Rattle.ror_text.proofs.ReadingLemmas.{bind_err, refuse_ok, refuse_err, need_err}
 use Rattle.ror_elements.specs.declared.element.ElementFault.{ElementFault}
-use Rattle.ror_elements.specs.declared.element.ElementKind.{ElementKind}
 use Rattle.ror_elements.specs.declared.element.ElementKind.TheVariants as kinds
 use Rattle.ror_elements.specs.declared.mode.Home.TheVariants as homes
 use Rattle.ror_elements.specs.declared.mode.Mode.{Mode}
@@ -20,39 +17,22 @@ use Rattle.ror_elements.specs.declared.mode.Seen.TheVariants as marks
 use Rattle.ror_elements.specs.declared.open.Open.{Open}
 use Rattle.ror_elements.specs.declared.reader.Reader.{Reader}
 use Rattle.ror_elements.specs.declared.reader.Tag.{Tag}
-use Rattle.ror_elements.specs.Declarations.{nothing_declared, is_foreign, is_utf8_name}
-use Rattle.ror_elements.specs.Elements.{act_in, act, read, finish, elements_of, without_mark, line_after}
+use Rattle.ror_elements.specs.Elements.{finish}
 use Rattle.ror_elements.specs.Faults.{fault}
-use Rattle.ror_elements.specs.Grammar.{IsSpace, IsName, IsComment, IsSection, IsInstruction, Declares, Names, AreDigits, IsEmptyTag, IsTag, AreAttributes, line_behind}
-use Rattle.ror_elements.specs.Grammar.{BeginsTag, IsEndTag, IsElement}
-use Rattle.ror_elements.specs.Kept.{is_kept}
-use Rattle.ror_elements.specs.Laws.{IsReached, IsFirstFaultOf, not_utf8, at_byte, at_end}
-use Rattle.ror_elements.specs.Marks.{is_control, local_name}
+use Rattle.ror_elements.specs.Grammar.{IsName, IsComment, IsSection, IsInstruction}
+use Rattle.ror_elements.specs.Grammar.{BeginsTag}
+use Rattle.ror_elements.specs.Laws.{IsReached}
 use Rattle.ror_elements.specs.Mode.{is_between, opening_text, quote_byte}
 use Rattle.ror_elements.specs.Open.{is_none, last_of}
-use Rattle.ror_elements.specs.Reader.{nothing_read, whole_text, is_outside}
-use Rattle.ror_elements.specs.Refusals.{IsInValue, IsClean, IsReadable, IsBeforeRoot, IsUnfinishedRest, IsUnfinished, IsCut, HasFault, FaultsAreWhatTheySay, end_tag, end_tags, IsRooted, IsFront, StandsAt, HasDoctype, HasMismatched, HasTooDeep, HasEncoding, IsNoName, HasEntity, HasForm, IsBadMarkup, HasBadMarkup}
-use Rattle.ror_elements.specs.References.{entity, number_of, chosen, character_of, digits_number}
-use Rattle.ror_elements.specs.Tags.{root_name}
+use Rattle.ror_elements.specs.Reader.{nothing_read, is_outside}
+use Rattle.ror_elements.specs.Refusals.{IsInValue, IsClean, IsReadable, IsBeforeRoot, IsUnfinishedRest, IsUnfinished, IsCut, IsFront}
 use Rattle.ror_elements.specs.Tree.{Tree}
-use Rattle.ror_elements.proofs.Behind.{Ends, EndsQuestion, BeforeRoot, BehindRoot, Content}
-use Rattle.ror_elements.proofs.ChildLemmas.{last_of-append}
-use Rattle.ror_elements.proofs.Declared.{known}
-use Rattle.ror_elements.proofs.DeclaredBack.{foreign_declared, question_says_nothing}
-use Rattle.ror_elements.proofs.DepthLemmas.{IsPlaced, read-placed, none_open}
-use Rattle.ror_elements.proofs.DocumentLemmas.{content_of}
-use Rattle.ror_elements.proofs.ElementRuns.{MayOpen, opened_as, empty_tag-goes, end_tag-goes}
-use Rattle.ror_elements.proofs.BackContent.{last_off}
-use Rattle.ror_elements.proofs.EndsLemmas.{Before, ends_before, question_before}
-use Rattle.ror_elements.proofs.FaultWords.{Tagged, InValue, not-true, EndsLow, IsBetween, Stacked, open_names, is_closed, Begun, Referred, AtMode, Holds, Mismatches, Deepens, Encodes, NamesNothing, Misnames, Misplaces, Fails, Goes, when, past}
-use Rattle.ror_elements.proofs.Grown.{place_of}
-use Rattle.ror_elements.proofs.LawLemmas.{gives_the_first_fault, lines_are_counted, without_mark-IsUtf8}
-use Rattle.ror_elements.proofs.NameLemmas.{named, decimal_number, hexadecimal_number}
-use Rattle.ror_elements.proofs.PlainReader.{plain, run, around_closed, same_run, read-clean}
-use Rattle.ror_elements.proofs.Runs.{line_at, line_at-is, at, question_end}
-use Rattle.ror_elements.proofs.StartRuns.{as_anywhere}
-use Rattle.ror_elements.proofs.TextLemmas.{cut_front, nothing-kept}
-use Rattle.ror_elements.proofs.FaultFronts.{IsText, clean_behind, tag_stands, none_open-below, reached-holds, read-goes, rooted, run_on, run_end, finish_at, before_root, inside_at, plain_reads, at_first, front_of, before_of, behind_of, whole_is, front_utf8, stands, stands_outside}
+use Rattle.ror_elements.proofs.Behind.{Ends, EndsQuestion}
+use Rattle.ror_elements.proofs.EndsLemmas.{ends_before, question_before}
+use Rattle.ror_elements.proofs.FaultWords.{Tagged, InValue, not-true, Stacked, open_names, is_closed, Begun, AtMode, Holds}
+use Rattle.ror_elements.proofs.PlainReader.{read-clean}
+use Rattle.ror_elements.proofs.TextLemmas.{cut_front}
+use Rattle.ror_elements.proofs.FaultFronts.{clean_behind, tag_stands, none_open-below, reached-holds, rooted, run_on, run_end, before_root, inside_at, plain_reads, at_first, front_of, before_of}
 
 -- ---- the last of what was read
 

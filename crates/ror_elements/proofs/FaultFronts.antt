@@ -1,54 +1,40 @@
 -- The fronts of texts, behind which constructs begin.
-use Rattle.std.proofs.Common.{◌≡◌, ℕ, zero, suc, ◌+◌, ◌<◌, ◌≤◌, Bool, true, false, not, List, [], ◌∷◌, ◌++◌, append_assoc, append-nil, length, Option, Some, None, Result, Ok, Err, refl, sym, ap, subst, ◌∙◌, arith, inl, inr}
-use Rattle.std.specs.Prelude.{IfOk, ◌⊎◌, ◌==◌, ◌&&◌, if◌then◌else◌, codes}
+use Rattle.std.proofs.Common.{◌≡◌, ℕ, zero, suc, ◌<◌, true, false, not, List, [], ◌∷◌, ◌++◌, append_assoc, append-nil, length, Some, None, Result, Ok, Err, refl, sym, ap, subst, ◌∙◌, arith, inl, inr}
+use Rattle.std.specs.Prelude.{◌⊎◌, codes}
 use Rattle.std.specs.List.{AllByRecursion}
-use Rattle.std.specs.Str.{IsUtf8, IsAscii, bytes_eq}
+use Rattle.std.specs.Str.{IsUtf8, IsAscii}
 use Rattle.std.proofs.lemmas.Bool.{cases_Bool, true≢false, not-false}
 use Rattle.std.proofs.lemmas.Str.{IsUtf8-nil, IsUtf8-append, IsUtf8-from_ascii}
-use Rattle.ror_text.specs.Lines.{bad_utf8_line}
-use Rattle.ror_text.specs.Reading.{◌>>=◌, refuse, need, read_all}
-use Rattle.ror_text.proofs.ReadingLemmas.{bind_ok, bind_err, bind-at_ok, read_all-append, read_all_keeps, refuse_err, need_err}
+use Rattle.ror_text.specs.Reading.{◌>>=◌, need, read_all}
+use Rattle.ror_text.proofs.ReadingLemmas.{bind_ok, bind-at_ok, read_all-append}
 use Rattle.ror_elements.specs.declared.element.ElementFault.{ElementFault}
-use Rattle.ror_elements.specs.declared.element.ElementKind.{ElementKind}
-use Rattle.ror_elements.specs.declared.element.ElementKind.TheVariants as kinds
 use Rattle.ror_elements.specs.declared.mode.Home.TheVariants as homes
 use Rattle.ror_elements.specs.declared.mode.Mode.{Mode}
 use Rattle.ror_elements.specs.declared.mode.Mode.TheVariants as modes
 use Rattle.ror_elements.specs.declared.open.Open.{Open}
 use Rattle.ror_elements.specs.declared.reader.Reader.{Reader}
-use Rattle.ror_elements.specs.Declarations.{nothing_declared, is_foreign, is_utf8_name}
-use Rattle.ror_elements.specs.Elements.{act_in, act, read, finish, elements_of, without_mark, line_after}
-use Rattle.ror_elements.specs.Faults.{fault}
-use Rattle.ror_elements.specs.Grammar.{IsSpace, IsName, IsInstruction, Declares, Names, AreDigits, IsEmptyTag, IsTag, AreAttributes, line_behind}
+use Rattle.ror_elements.specs.Elements.{act_in, act, read, finish, line_after}
+use Rattle.ror_elements.specs.Grammar.{IsSpace, IsName, IsEmptyTag, IsTag, AreAttributes}
 use Rattle.ror_elements.specs.Grammar.{IsEndTag, IsElement}
 use Rattle.ror_elements.specs.Kept.{is_kept}
-use Rattle.ror_elements.specs.Laws.{IsReached, IsFirstFaultOf, not_utf8, at_byte, at_end}
+use Rattle.ror_elements.specs.Laws.{IsReached}
 use Rattle.ror_elements.specs.Marks.{is_control, local_name}
-use Rattle.ror_elements.specs.Mode.{is_between}
 use Rattle.ror_elements.specs.Open.{is_none, last_of}
-use Rattle.ror_elements.specs.Reader.{nothing_read, whole_text, is_outside}
-use Rattle.ror_elements.specs.Refusals.{TagStandsAt, IsClean, IsBeforeRoot, IsFromRoot, HasFault, FaultsAreWhatTheySay, end_tag, end_tags, IsRooted, IsFront, StandsAt, HasDoctype, HasMismatched, HasTooDeep, HasEncoding, IsNoName, HasEntity, HasForm, IsBadMarkup, HasBadMarkup}
-use Rattle.ror_elements.specs.References.{entity, number_of, chosen, character_of, digits_number}
+use Rattle.ror_elements.specs.Reader.{nothing_read, whole_text}
+use Rattle.ror_elements.specs.Refusals.{TagStandsAt, IsClean, IsBeforeRoot, IsFromRoot, end_tag, end_tags, IsRooted, IsFront, StandsAt}
 use Rattle.ror_elements.specs.Tags.{root_name}
 use Rattle.ror_elements.specs.Tree.{Tree}
-use Rattle.ror_elements.proofs.Behind.{EndsQuestion, BeforeRoot, BehindRoot, Content}
+use Rattle.ror_elements.proofs.Behind.{BeforeRoot, BehindRoot}
 use Rattle.ror_elements.proofs.ChildLemmas.{last_of-append}
-use Rattle.ror_elements.proofs.Declared.{known}
-use Rattle.ror_elements.proofs.DeclaredBack.{foreign_declared, question_says_nothing}
-use Rattle.ror_elements.proofs.DepthLemmas.{IsPlaced, read-placed, none_open}
 use Rattle.ror_elements.proofs.DocumentLemmas.{content_of, declares_utf8}
 use Rattle.ror_elements.proofs.ElementRuns.{MayOpen, opened_as, empty_tag-goes, end_tag-goes}
-use Rattle.ror_elements.proofs.BackContent.{last_off}
-use Rattle.ror_elements.proofs.EndsLemmas.{Before, question_before}
 use Rattle.ror_elements.proofs.FaultSteps.{in_content-goes, at_start-goes, in_markup-goes, in_first_markup-goes, in_exclamation-goes, in_beginning-goes, in_comment-goes, in_section-goes, in_instruction-goes, in_first_instruction-goes}
 use Rattle.ror_elements.proofs.FaultTags.{behind_end-goes, in_end_name-goes, in_tag-goes, in_start_name-goes, in_empty_tag-goes, behind_name-goes, in_attribute_name-goes, before_value-goes, in_value-goes}
 use Rattle.ror_elements.proofs.FaultValues.{in_reference-goes}
-use Rattle.ror_elements.proofs.FaultWords.{Tagged, not-true, EndsLow, IsBetween, Stacked, open_names, is_closed, Begun, Referred, AtMode, Holds, Mismatches, Deepens, Encodes, NamesNothing, Misnames, Misplaces, Fails, Goes, when, past}
-use Rattle.ror_elements.proofs.Grown.{place_of}
-use Rattle.ror_elements.proofs.LawLemmas.{gives_the_first_fault, lines_are_counted, without_mark-IsUtf8}
-use Rattle.ror_elements.proofs.NameLemmas.{named, decimal_number, hexadecimal_number}
+use Rattle.ror_elements.proofs.FaultWords.{Tagged, not-true, EndsLow, IsBetween, Stacked, open_names, is_closed, Begun, AtMode, Holds, Misplaces, Goes, when, past}
+use Rattle.ror_elements.proofs.LawLemmas.{lines_are_counted}
 use Rattle.ror_elements.proofs.PlainReader.{plain, run, around_closed, same_run, read-clean}
-use Rattle.ror_elements.proofs.Runs.{line_at, line_at-is, at, question_end}
+use Rattle.ror_elements.proofs.Runs.{line_at, line_at-is, at}
 use Rattle.ror_elements.proofs.StartRuns.{as_anywhere}
 use Rattle.ror_elements.proofs.TextLemmas.{cut_front, nothing-kept}
 

@@ -1,50 +1,31 @@
 -- A byte outside of tags, behind what was read.
-use Rattle.std.proofs.Common.{◌≡◌, ℕ, zero, suc, ◌+◌, ◌<◌, ◌≤◌, Bool, true, false, not, List, [], ◌∷◌, ◌++◌, append_assoc, append-nil, length, take, map, Option, Some, None, Result, Ok, Err, refl, sym, ap, subst, ◌∙◌, arith, inl, inr}
-use Rattle.std.specs.Char.{encode_utf8}
-use Rattle.std.specs.Prelude.{IfOk, ◌⊎◌, ◌==◌, ◌&&◌, if◌then◌else◌, nat_le, nat_lt, count_by}
-use Rattle.std.specs.List.{AllByRecursion, list_any}
-use Rattle.std.specs.Str.{bytes_eq}
-use Rattle.std.proofs.lemmas.Bool.{eqb-true, eqb-false, not-false, leb-true, ltb-true, ltb-false, both_ways}
+use Rattle.std.proofs.Common.{◌≡◌, ℕ, zero, suc, ◌+◌, ◌<◌, Bool, true, false, not, List, [], ◌∷◌, ◌++◌, append_assoc, length, take, refl, sym, ap, subst, ◌∙◌, arith, inr}
+use Rattle.std.specs.Prelude.{◌==◌, ◌&&◌, nat_lt}
+use Rattle.std.proofs.lemmas.Bool.{eqb-true, eqb-false, not-false, ltb-true, ltb-false, both_ways}
 use Rattle.std.proofs.lemmas.List.{take_all}
-use Rattle.std.proofs.lemmas.Slice.Eq.{bytes_eq-Decides}
-use Rattle.ror_text.specs.Reading.{◌>>=◌, refuse, need, read_all}
-use Rattle.ror_text.proofs.ReadingLemmas.{bind_ok, bind-at_ok, read_all-append}
 use Rattle.ror_elements.specs.declared.declaration.Declaration.{Declaration}
-use Rattle.ror_elements.specs.declared.element.ElementFault.{ElementFault}
-use Rattle.ror_elements.specs.declared.element.ElementKind.{ElementKind}
-use Rattle.ror_elements.specs.declared.element.ElementKind.TheVariants as kinds
-use Rattle.ror_elements.specs.declared.mode.Home.{Home}
-use Rattle.ror_elements.specs.declared.mode.Home.TheVariants as homes
 use Rattle.ror_elements.specs.declared.mode.Mode.{Mode}
 use Rattle.ror_elements.specs.declared.mode.Mode.TheVariants as modes
 use Rattle.ror_elements.specs.declared.mode.Opening.{Opening}
 use Rattle.ror_elements.specs.declared.mode.Opening.TheVariants as openings
-use Rattle.ror_elements.specs.declared.mode.Quote.{Quote}
 use Rattle.ror_elements.specs.declared.mode.Seen.{Seen}
 use Rattle.ror_elements.specs.declared.mode.Seen.TheVariants as marks
 use Rattle.ror_elements.specs.declared.open.Open.{Open}
 use Rattle.ror_elements.specs.declared.reader.Reader.{Reader}
-use Rattle.ror_elements.specs.declared.reader.Tag.{Tag}
 use Rattle.ror_elements.specs.Declarations.{nothing_declared, is_foreign, after}
-use Rattle.ror_elements.specs.Elements.{act_in, act, read, line_after}
-use Rattle.ror_elements.specs.Faults.{fault}
-use Rattle.ror_elements.specs.Grammar.{IsName, IsSpace, IsGap, BeginsTag, IsReference, IsValue, Attribute, IsAttribute, AreAttributes, AreDistinct, IsTag, Names, line_behind, IsCharacter}
-use Rattle.ror_elements.specs.Kept.{is_kept}
+use Rattle.ror_elements.specs.Grammar.{line_behind}
 use Rattle.ror_elements.specs.Laws.{IsReached}
-use Rattle.ror_elements.specs.Marks.{is_white, is_name_byte, is_control, local_name}
-use Rattle.ror_elements.specs.Mode.{is_ended_by, seen_after, opening_text, quote_of, quote_byte, is_byte_at, is_between}
-use Rattle.ror_elements.specs.Open.{is_none, finished}
-use Rattle.ror_elements.specs.Reader.{nothing_read, is_outside, is_behind_root, add_text, add_value, outside, at_start, in_content, begin_tag, begin_end_tag, in_first_markup, in_markup, in_exclamation, begin, in_beginning, in_comment, without_brackets, in_section, in_first_instruction, end_first_instruction, in_instruction, referred, end_reference, in_reference}
-use Rattle.ror_elements.specs.Refusals.{IsBegunTag, StandsBehind, IsBadRest, IsBadMarkup, IsBadReference}
-use Rattle.ror_elements.specs.References.{entity, number_of, character_at, chosen, character_of}
-use Rattle.ror_elements.specs.Tags.{root_name, opened, is_bad_root, open_element, close_in, close, after_end_name, in_end_name, begin_attribute, in_tag, in_start_name, in_empty_tag, add_name, after_attribute_name, in_attribute_name, quoted, before_value, end_value, add_byte, in_value}
+use Rattle.ror_elements.specs.Marks.{is_white, is_name_byte}
+use Rattle.ror_elements.specs.Mode.{is_ended_by, seen_after, opening_text, is_byte_at}
+use Rattle.ror_elements.specs.Open.{is_none}
+use Rattle.ror_elements.specs.Reader.{is_outside, is_behind_root, add_text, outside, at_start, in_content, begin_tag, in_first_markup, in_markup, in_exclamation, begin, in_beginning, in_comment, without_brackets, in_section, in_first_instruction, end_first_instruction, in_instruction}
+use Rattle.ror_elements.specs.Refusals.{IsBadMarkup}
 use Rattle.ror_elements.proofs.Behind.{Ends, EndsQuestion}
-use Rattle.ror_elements.proofs.Declared.{known, known_append}
+use Rattle.ror_elements.proofs.Declared.{known_append}
 use Rattle.ror_elements.proofs.DocumentLemmas.{take_one}
 use Rattle.ror_elements.proofs.LawLemmas.{lines_are_counted}
-use Rattle.ror_elements.proofs.NameLemmas.{names, character_at-code}
 use Rattle.ror_elements.proofs.TextLemmas.{white_low}
-use Rattle.ror_elements.proofs.FaultWords.{UpToMark, UpToQuestion, EndsLow, IsBetween, AreNameBytes, IsFirstKept, IsStacked, Stacked, open_names, is_closed, Begun, Referred, Instructed, Ended, BehindEnd, Tagged, InTag, AtSlash, InName, Naming, BehindName, BehindEquals, InValue, AtMode, Holds, Mismatches, Deepens, Encodes, NamesNothing, Misnames, Misplaces, Fails, Goes, when, past, not-true, more_names, some_more, longer_name, some_name, begins_more, longer, longer_by, further, begins_at, begins, no_names, bad_outside, refers}
+use Rattle.ror_elements.proofs.FaultWords.{UpToMark, UpToQuestion, EndsLow, IsBetween, Stacked, open_names, Begun, Instructed, AtMode, Holds, Encodes, Misplaces, Goes, when, past, not-true, longer, longer_by, begins_at, begins, bad_outside, refers}
 
 -- ---- outside of tags
 
