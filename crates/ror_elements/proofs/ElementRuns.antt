@@ -100,7 +100,7 @@ pub record TagRead (name : List ℕ) (id : Option (List ℕ)) (from : Reader) (b
   pub is_id : tag.id ≡ id
   pub reads : (rest : List ℕ) → run from (bytes ++ rest) ≡ run (tagged (modes.Tag spaced) (line_at line front) line top below tag j) (ending ++ rest)
 
-start_name-run : (name : List ℕ) → IsName name → BeginsTag name → (line : ℕ) (top : Open) (below : List Open) (j : Reader) (rest : List ℕ) → (is_none below && not (is_none top.children)) ≡ false
+pub start_name-run : (name : List ℕ) → IsName name → BeginsTag name → (line : ℕ) (top : Open) (below : List Open) (j : Reader) (rest : List ℕ) → (is_none below && not (is_none top.children)) ≡ false
     → run (at modes.Content line top below j) (60 ∷ name ++ rest) ≡ run (in_start name (line_at line name) line top below j) rest
 unfolding run plain in_content in_start_name
 start_name-run [] n b line top below j rest first = absurd (n.1 refl)
@@ -229,11 +229,11 @@ end-run (byte ∷ space) s name line start top around outer j rest some same =
     ∙ pass is_white (λ n. at modes.AfterEndName n top (around ∷ outer) k) (λ n b white. rw white refl) space s.1 (line_after line byte) (62 ∷ rest)
     ∙ run_step (at modes.AfterEndName l top (around ∷ outer) k) _ 62 rest (end_later l top around outer k)
 
-some_name : (name : List ℕ) → ¬ (name ≡ []) → is_none name ≡ false
+pub some_name : (name : List ℕ) → ¬ (name ≡ []) → is_none name ≡ false
 some_name [] h = absurd (h refl)
 some_name (byte ∷ name) h = refl
 
-end_name-run : (name : List ℕ) → IsName name → (line start : ℕ) (top around : Open) (outer : List Open) (j : Reader) (rest : List ℕ)
+pub end_name-run : (name : List ℕ) → IsName name → (line start : ℕ) (top around : Open) (outer : List Open) (j : Reader) (rest : List ℕ)
     → run (in_end [] line start top (around ∷ outer) j) (name ++ rest) ≡ run (in_end name (line_at line name) start top (around ∷ outer) j) rest
 unfolding plain plain_in_end_name
 end_name-run name n line start top around outer j rest = gather is_name_byte (λ l piece. in_end piece l start top (around ∷ outer) j) (λ l piece b is. rw is refl) name n.0 line [] rest

@@ -76,7 +76,7 @@ read-goes seen r byte reached h =
 one_reached : (seen : List ℕ) (r next : Reader) (byte : ℕ) → IsReached seen r → read r byte ≡ Ok next → IsReached (seen ++ byte ∷ []) next
 one_reached seen r next byte reached e = read_all-append read nothing_read r seen (byte ∷ []) reached ∙ bind-at_ok (read r byte) _ next e
 
-all-holds : (bytes seen : List ℕ) (r last : Reader) → IsReached seen r → Holds seen r → read_all read r bytes ≡ Ok last → Holds (seen ++ bytes) last
+pub all-holds : (bytes seen : List ℕ) (r last : Reader) → IsReached seen r → Holds seen r → read_all read r bytes ≡ Ok last → Holds (seen ++ bytes) last
 all-holds [] seen r last reached h e =
     let same : r ≡ last = cc in
     subst (λ (xs : List ℕ). Holds xs last) (sym (append-nil seen)) (subst (Holds seen) same h)
@@ -153,10 +153,10 @@ before_root front line top j e s none =
 blank : IsSpace (32 ∷ [])
 blank = (refl, tt)
 
-closed_name : (element around : Open) → (around_closed element around).name ≡ around.name
+pub closed_name : (element around : Open) → (around_closed element around).name ≡ around.name
 closed_name element around = when (λ (x : Open). x.name ≡ around.name) element.kept _ _ (λ _. refl) (λ _. refl)
 
-closed_stacked : (element around : Open) (outer : List Open) → Stacked around outer → Stacked (around_closed element around) outer
+pub closed_stacked : (element around : Open) (outer : List Open) → Stacked around outer → Stacked (around_closed element around) outer
 closed_stacked element around outer s = when (λ (x : Open). Stacked x outer) element.kept _ _ (λ _. s) (λ _. s)
 
 -- the end tags of what is open close the root
@@ -277,7 +277,7 @@ stands text seen after line top below b piece low t g = record {
   is_line = lines_are_counted g.front _ g.reads;
 }
 
-one_ascii : (byte : ℕ) → byte < 128 → IsAscii (byte ∷ [])
+pub one_ascii : (byte : ℕ) → byte < 128 → IsAscii (byte ∷ [])
 one_ascii byte low zero = low
 one_ascii byte low (suc i) = omega arith
 

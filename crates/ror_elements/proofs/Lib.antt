@@ -29,3 +29,5 @@ pub mod FaultTags
 pub mod FaultFronts
 pub mod FaultEnds
 pub mod FaultLemmas
+pub mod FrontRuns
+pub mod GivenFaults

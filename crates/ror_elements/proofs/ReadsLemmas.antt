@@ -23,7 +23,7 @@ tag_first ending bytes name rest id (IsTag.tag same written space list n b a d s
     let h = named_first same ((written ++ (space ++ ending)) ++ rest) n b in
     record { byte = h.byte; more = h.more; split = ap (λ (xs : List ℕ). 60 ∷ xs) (append_assoc same (written ++ (space ++ ending)) rest) ∙ h.split; other = h.other }
 
-element_first : (depth : ℕ) (place : Place) (line : ℕ) (bytes rest : List ℕ) (kept : List Tree) → IsElement depth place line bytes kept → start.BeginsTag (bytes ++ rest)
+pub element_first : (depth : ℕ) (place : Place) (line : ℕ) (bytes rest : List ℕ) (kept : List Tree) → IsElement depth place line bytes kept → start.BeginsTag (bytes ++ rest)
 element_first depth place line bytes rest kept (IsElement.empty d p l same name id few t) = tag_first (47 ∷ 62 ∷ []) bytes name rest id t
 element_first depth place line bytes rest kept (IsElement.whole d p l begin content end name text id inside few t within e) =
     let h = tag_first (62 ∷ []) begin name ((content ++ end) ++ rest) id t in
@@ -33,7 +33,7 @@ finished-root : (line : ℕ) (root : Tree) (j : Reader) → finish (at modes.Con
 unfolding finish
 finished-root line root j = refl
 
-behind_root : (after : List ℕ) (line : ℕ) (root : Tree) (j : Reader) → IsAround after → (run (at modes.Content line (grown whole_text [] (root ∷ [])) [] j) after >>= finish) ≡ Ok root
+pub behind_root : (after : List ℕ) (line : ℕ) (root : Tree) (j : Reader) → IsAround after → (run (at modes.Content line (grown whole_text [] (root ∷ [])) [] j) after >>= finish) ≡ Ok root
 unfolding run
 behind_root after line root j h =
     let g = around-goes after h line (grown whole_text [] (root ∷ [])) j in

@@ -11,6 +11,7 @@ use Rattle.ror_elements.specs.Declarations.{is_utf8_name}
 use Rattle.ror_elements.specs.declared.mode.Opening.{Opening}
 use Rattle.ror_elements.specs.declared.mode.Quote.{Quote}
 use Rattle.ror_elements.specs.Elements.{elements_of, without_mark}
+use Rattle.ror_elements.specs.Faults.{fault}
 use Rattle.ror_elements.specs.Grammar.{IsName, IsSpace, IsGap, BeginsTag, IsValue, Attribute, AreAttributes, AreDistinct, IsAround, IsElement, IsComment, IsInstruction, IsSection, IsTag, Declares, DeclaresUtf8, Names, AreDigits, IsCharacter, line_behind}
 use Rattle.ror_elements.specs.Marks.{is_white, is_control, is_name_byte, local_name}
 use Rattle.ror_elements.specs.Mode.{opening_text, quote_byte, quote_of}
@@ -322,3 +323,16 @@ HasFault kinds.Entity bytes line = IsUtf8 bytes × HasEntity (without_mark bytes
 -- the fault that is given is one that the text has, of its kind and at its line
 abbrev pub FaultsAreWhatTheySay : Type 0
 FaultsAreWhatTheySay = (bytes : List ℕ) (first : ElementFault) → elements_of bytes ≡ Err first → HasFault first.kind bytes first.line
+
+-- these kinds of fault are given wherever the text has them: each is then the only one
+abbrev pub IsSettled : ElementKind → Type 0
+IsSettled kinds.NotUtf8 = Unit {0}
+IsSettled kinds.TooDeep = Unit {0}
+IsSettled kinds.Mismatched = Unit {0}
+IsSettled kinds.Doctype = Unit {0}
+IsSettled kinds.Encoding = Unit {0}
+IsSettled _ = ⊥
+
+abbrev pub SettledFaultsAreGiven : Type 0
+SettledFaultsAreGiven = (bytes : List ℕ) (kind : ElementKind) (line : ℕ) → IsSettled kind → HasFault kind bytes line
+    → elements_of bytes ≡ Err (fault kind line)

@@ -3,7 +3,7 @@
 ghost use Rattle.ror_elements.specs.Laws.{LinesAreCounted, GivesTheFirstFault, NoneIsTooDeep, LimitsAre};
 ghost use Rattle.ror_elements.specs.Laws.{NothingIsReplaced, DocumentsAreRead, OneRoot};
 ghost use Rattle.ror_elements.specs.Laws.{KeptElementsAreListed};
-ghost use Rattle.ror_elements.specs.Refusals.{FaultsAreWhatTheySay};
+ghost use Rattle.ror_elements.specs.Refusals.{FaultsAreWhatTheySay, SettledFaultsAreGiven};
 
 /// The line that is known of a byte is one more than the line ends before it.
 pub fn lines_are_counted()
@@ -20,6 +20,12 @@ pub fn the_first_fault_is_given()
 /// The fault that is given is one of its kind that stands in the text, at the line where it begins.
 pub fn faults_are_what_they_say()
     ensures { FaultsAreWhatTheySay }
+{}
+
+/// A text that has a fault of one of these kinds is given it, and so has no other: that it is no UTF-8, a
+/// document type, another encoding, an end tag with another name, an element that is too deep.
+pub fn settled_faults_are_given()
+    ensures { SettledFaultsAreGiven }
 {}
 
 /// No element that is read is deeper than [`MOST_DEPTH`](crate::MOST_DEPTH).
