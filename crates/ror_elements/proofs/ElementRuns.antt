@@ -108,7 +108,7 @@ start_name-run (byte ∷ name) n b line top below j rest first =
     run_step (at modes.Markup line top below (record j { start = line })) (in_start (byte ∷ []) (line_after line byte) line top below j) byte (name ++ rest) (start_begins byte line top below (record j { start = line }) b.0 b.1 n.0.0 first)
     ∙ gather is_name_byte (λ l piece. in_start piece l line top below j) (λ l piece c is. rw is refl) name n.0.1 (line_after line byte) (byte ∷ []) rest
 
-tag-read : (byte : ℕ) (ending : List ℕ) → (byte ≡ 62) ⊎ (byte ≡ 47) → (bytes name : List ℕ) (id : Option (List ℕ)) → IsTag (byte ∷ ending) bytes name id → (line : ℕ) (top : Open) (below : List Open) (j : Reader)
+pub tag-read : (byte : ℕ) (ending : List ℕ) → (byte ≡ 62) ⊎ (byte ≡ 47) → (bytes name : List ℕ) (id : Option (List ℕ)) → IsTag (byte ∷ ending) bytes name id → (line : ℕ) (top : Open) (below : List Open) (j : Reader)
     → length below < 64 → (is_none below && not (is_none top.children)) ≡ false → TagRead name id (at modes.Content line top below j) bytes (byte ∷ ending) line top below
 tag-read byte ending is bytes name id (IsTag.tag same written space list n b a d s) line top below j few first =
     let k = record j { piece = [] } in

@@ -130,7 +130,7 @@ pub finish_at : (line : ℕ) (top : Open) (j : Reader) (root : Tree) → last_of
 unfolding finish
 finish_at line top j root e = ap (need _) e
 
-is_root_tag : IsEmptyTag (codes "<XMCDA/>") root_name None
+pub is_root_tag : IsEmptyTag (codes "<XMCDA/>") root_name None
 is_root_tag = IsTag.tag root_name [] [] [] ((refl, (refl, (refl, (refl, (refl, tt))))), λ none. absurd cc) ((λ e. absurd (omega (arith, e))), λ e. absurd (omega (arith, e))) AreAttributes.nothing tt tt
 
 closed_kept : (element around : Open) → element.kept ≡ true → (root : Tree) × (last_of (around_closed element around).children ≡ Some root)

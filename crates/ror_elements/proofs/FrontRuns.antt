@@ -373,11 +373,11 @@ other_name name n line top around outer j last bytes differs e =
     refused false true e f g = absurd cc
     refused false false e f g = absurd cc
 
-ended : (r last : Reader) → run r [] ≡ Ok last → r ≡ last
+pub ended : (r last : Reader) → run r [] ≡ Ok last → r ≡ last
 unfolding run
 ended r last e = cc
 
-unclosed : (top around : Open) (outer : List Open) (line : ℕ) (j : Reader) (root : Tree) → finish (at modes.Content line top (around ∷ outer) j) ≡ Ok root → ⊥
+pub unclosed : (top around : Open) (outer : List Open) (line : ℕ) (j : Reader) (root : Tree) → finish (at modes.Content line top (around ∷ outer) j) ≡ Ok root → ⊥
 unfolding finish
 unclosed top around outer line j root e = absurd cc
 

@@ -47,7 +47,7 @@ read_err (x ∷ xs) ys r f e = elim (bind_err (read r x) (λ next. read_all read
   | inr later ↦ bind-at_ok (read r x) (λ next. read_all read next (xs ++ ys)) later.0 later.1 ∙ read_err xs ys later.0 f later.2
 ]
 
-clean_append : (xs ys : List ℕ) → IsClean xs → IsClean ys → IsClean (xs ++ ys)
+pub clean_append : (xs ys : List ℕ) → IsClean xs → IsClean ys → IsClean (xs ++ ys)
 clean_append [] ys a b = b
 clean_append (x ∷ xs) ys a b = (a.0, clean_append xs ys a.1 b)
 
@@ -55,7 +55,7 @@ clean_append (x ∷ xs) ys a b = (a.0, clean_append xs ys a.1 b)
 part_utf8 : (before after : List ℕ) (byte : ℕ) → byte < 128 → IsUtf8 (before ++ byte ∷ after) → IsUtf8 (before ++ byte ∷ [])
 part_utf8 before after byte low u = IsUtf8-append before (byte ∷ []) (cut_front before after byte low u) (IsUtf8-from_ascii (byte ∷ []) (one_ascii byte low))
 
-given : (bytes before after : List ℕ) (byte : ℕ) (f : ElementFault) → IsUtf8 bytes → byte < 128 → without_mark bytes ≡ (before ++ byte ∷ []) ++ after → IsClean (before ++ byte ∷ []) → run nothing_read (before ++ byte ∷ []) ≡ Err f → elements_of bytes ≡ Err f
+pub given : (bytes before after : List ℕ) (byte : ℕ) (f : ElementFault) → IsUtf8 bytes → byte < 128 → without_mark bytes ≡ (before ++ byte ∷ []) ++ after → IsClean (before ++ byte ∷ []) → run nothing_read (before ++ byte ∷ []) ≡ Err f → elements_of bytes ≡ Err f
 unfolding run
 given bytes before after byte f u low split clean e =
     let whole : IsUtf8 (before ++ byte ∷ after) = subst IsUtf8 (split ∙ append_assoc before (byte ∷ []) after) (without_mark-IsUtf8 bytes u) in
@@ -112,7 +112,7 @@ from_known : (front : List ℕ) (name : List ℕ) (names all : List (List ℕ)) 
 from_known front name names all e (IsFront.before_root h) = absurd cc
 from_known front name names all e (IsFront.from_root some h) = known_open front some h
 
-reached_by : (front : List ℕ) (r : Reader) → IsUtf8 front → IsClean front → run nothing_read front ≡ Ok r → IsReached front r
+pub reached_by : (front : List ℕ) (r : Reader) → IsUtf8 front → IsClean front → run nothing_read front ≡ Ok r → IsReached front r
 unfolding run
 reached_by front r u clean e = same_run [] front nothing_read u nothing-kept clean ∙ e
 
@@ -127,7 +127,7 @@ unfolding run plain at_start in_first_markup in_markup in_exclamation in_beginni
 doctype_first = refl
 
 -- at the start nothing was read
-start_only : (front : List ℕ) (r : Reader) → IsReached front r → r.mode ≡ modes.Start → front ≡ []
+pub start_only : (front : List ℕ) (r : Reader) → IsReached front r → r.mode ≡ modes.Start → front ≡ []
 start_only front r reached is = (subst (λ (m : Mode). AtMode m front r.start r.reference_line r.piece r.tag r.declaration r.top r.below) is (reached-holds front r reached).here).0
 
 doctype_runs : (front : List ℕ) (r : Reader) → run nothing_read front ≡ Ok r → IsReached front r → (r.mode ≡ modes.Start) ⊎ (r.mode ≡ modes.Content) → run nothing_read (front ++ codes "<!DOCTYPE") ≡ Err (fault kinds.Doctype (line_behind 1 front))
@@ -138,7 +138,7 @@ doctype_runs front r e reached (inr is) =
     let same : run r (codes "<!DOCTYPE") ≡ Err (fault kinds.Doctype r.line) = subst (λ (m : Mode). run (record r { mode = m }) (codes "<!DOCTYPE") ≡ Err (fault kinds.Doctype r.line)) (sym is) (doctype_at r.line r.top r.below r) in
     run_on front (codes "<!DOCTYPE") r e ∙ same ∙ ap (λ l. Err (fault kinds.Doctype l)) (lines_are_counted front r reached)
 
-doctype_given : (bytes : List ℕ) (line : ℕ) → IsUtf8 bytes → HasDoctype (without_mark bytes) line → elements_of bytes ≡ Err (fault kinds.Doctype line)
+pub doctype_given : (bytes : List ℕ) (line : ℕ) → IsUtf8 bytes → HasDoctype (without_mark bytes) line → elements_of bytes ≡ Err (fault kinds.Doctype line)
 doctype_given bytes line u h =
     let s = h.1 in
     let k = front_known s.front h.0 s.is_front in
@@ -236,7 +236,7 @@ mismatch_open (next ∷ outer) name opened around byte line top j n unnamed othe
     let same : top.name ≡ opened = cc in
     mismatch_at name byte line top next outer j n unnamed (false_from_ne_true (bytes_eq name top.name) (λ is. other ((bytes_eq-Decides name top.name).0 is ∙ same)))
 
-mismatched_given : (bytes : List ℕ) (line : ℕ) → IsUtf8 bytes → HasMismatched (without_mark bytes) line → elements_of bytes ≡ Err (fault kinds.Mismatched line)
+pub mismatched_given : (bytes : List ℕ) (line : ℕ) → IsUtf8 bytes → HasMismatched (without_mark bytes) line → elements_of bytes ≡ Err (fault kinds.Mismatched line)
 mismatched_given bytes line u h =
     let s = h.stands in
     let names = h.opened ∷ h.around in
@@ -251,7 +251,7 @@ mismatched_given bytes line u h =
 
 -- ---- tags that are too deep
 
-deep_here : (name : List ℕ) (byte line start : ℕ) (top : Open) (below : List Open) (j : Reader) → is_name_byte byte ≡ false → nat_le 64 (length below) ≡ true → run (in_start name line start top below j) (byte ∷ []) ≡ Err (fault kinds.TooDeep start)
+pub deep_here : (name : List ℕ) (byte line start : ℕ) (top : Open) (below : List Open) (j : Reader) → is_name_byte byte ≡ false → nat_le 64 (length below) ≡ true → run (in_start name line start top below j) (byte ∷ []) ≡ Err (fault kinds.TooDeep start)
 unfolding run plain in_start_name
 deep_here name byte line start top below j unnamed deep = rw (unnamed, deep) refl
 
@@ -266,7 +266,7 @@ deep_open (next ∷ outer) name opened around byte line top j n b unnamed many e
     let count : length (next ∷ outer) ≡ 64 = sym (count_names top (next ∷ outer)) ∙ ap length e ∙ many in
     deep_at name byte line top (next ∷ outer) j n b unnamed refl (le-leb 64 (length (next ∷ outer)) (omega (arith, count)))
 
-deep_given : (bytes : List ℕ) (line : ℕ) (name : List ℕ) (around : List (List ℕ)) (byte : ℕ) → IsUtf8 bytes → IsName name → BeginsTag name → is_name_byte byte ≡ false → length around ≡ 64 → StandsAt (without_mark bytes) line around (60 ∷ name ++ byte ∷ []) → elements_of bytes ≡ Err (fault kinds.TooDeep line)
+pub deep_given : (bytes : List ℕ) (line : ℕ) (name : List ℕ) (around : List (List ℕ)) (byte : ℕ) → IsUtf8 bytes → IsName name → BeginsTag name → is_name_byte byte ≡ false → length around ≡ 64 → StandsAt (without_mark bytes) line around (60 ∷ name ++ byte ∷ []) → elements_of bytes ≡ Err (fault kinds.TooDeep line)
 deep_given bytes line name [] byte u n b unnamed many s = absurd (omega (arith, many))
 deep_given bytes line name (opened ∷ around) byte u n b unnamed many s =
     let names = opened ∷ around in
@@ -290,7 +290,7 @@ foreign_is bytes encoding d e = elim (cases_Bool (is_foreign (known nothing_decl
 refused_first : (line : ℕ) (d : Declaration) → is_foreign d ≡ true → behind_first line d nothing_read [] ≡ Err (fault kinds.Encoding 1)
 refused_first line d e = rw e refl
 
-encoding_given : (bytes : List ℕ) (line : ℕ) → IsUtf8 bytes → HasEncoding (without_mark bytes) line → elements_of bytes ≡ Err (fault kinds.Encoding line)
+pub encoding_given : (bytes : List ℕ) (line : ℕ) → IsUtf8 bytes → HasEncoding (without_mark bytes) line → elements_of bytes ≡ Err (fault kinds.Encoding line)
 encoding_given bytes line u h = by h.first h.inside h.is_instruction h.whole h.clean h.declares
   where
     by : (first inside : List ℕ) → IsInstruction first inside → without_mark bytes ≡ first ++ h.rest → IsClean first → Declares inside h.encoding → elements_of bytes ≡ Err (fault kinds.Encoding line)
@@ -302,16 +302,3 @@ encoding_given bytes line u h = by h.first h.inside h.is_instruction h.whole h.c
         ∙ first_instruction same [] is
         ∙ refused_first (line_at 1 (60 ∷ 63 ∷ same ++ question_end)) (known nothing_declared (same ++ 63 ∷ [])) (foreign_is same h.encoding d h.foreign)
         ∙ ap (λ l. Err (fault kinds.Encoding l)) (sym h.is_line))
-
--- ---- all of them
-
-pub settled_faults_are_given : SettledFaultsAreGiven
-settled_faults_are_given bytes kinds.NotUtf8 line is h = (gives_the_first_fault bytes (fault kinds.NotUtf8 line)).1 (not_utf8 h.0 (ap (fault kinds.NotUtf8) h.1))
-settled_faults_are_given bytes kinds.TooDeep line is h = deep_given bytes line h.1.name h.1.around h.1.next h.0 h.1.is_name h.1.begins h.1.ends h.1.deep h.1.stands
-settled_faults_are_given bytes kinds.Mismatched line is h = mismatched_given bytes line h.0 h.1
-settled_faults_are_given bytes kinds.Doctype line is h = doctype_given bytes line h.0 h.1
-settled_faults_are_given bytes kinds.Encoding line is h = encoding_given bytes line h.0 h.1
-settled_faults_are_given bytes kinds.Form line is h = absurd is
-settled_faults_are_given bytes kinds.BadMarkup line is h = absurd is
-settled_faults_are_given bytes kinds.Unclosed line is h = absurd is
-settled_faults_are_given bytes kinds.Entity line is h = absurd is

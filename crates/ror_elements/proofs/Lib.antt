@@ -31,3 +31,5 @@ pub mod FaultEnds
 pub mod FaultLemmas
 pub mod FrontRuns
 pub mod GivenFaults
+pub mod GivenForm
+pub mod GivenLaw

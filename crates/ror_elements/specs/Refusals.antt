@@ -324,9 +324,10 @@ HasFault kinds.Entity bytes line = IsUtf8 bytes × HasEntity (without_mark bytes
 abbrev pub FaultsAreWhatTheySay : Type 0
 FaultsAreWhatTheySay = (bytes : List ℕ) (first : ElementFault) → elements_of bytes ≡ Err first → HasFault first.kind bytes first.line
 
--- these kinds of fault are given wherever the text has them: each is then the only one
+-- these kinds of fault are given wherever a text has them, so that it has no other of them
 abbrev pub IsSettled : ElementKind → Type 0
 IsSettled kinds.NotUtf8 = Unit {0}
+IsSettled kinds.Form = Unit {0}
 IsSettled kinds.TooDeep = Unit {0}
 IsSettled kinds.Mismatched = Unit {0}
 IsSettled kinds.Doctype = Unit {0}

@@ -22,8 +22,9 @@ pub fn faults_are_what_they_say()
     ensures { FaultsAreWhatTheySay }
 {}
 
-/// A text that has a fault of one of these kinds is given it, and so has no other: that it is no UTF-8, a
-/// document type, another encoding, an end tag with another name, an element that is too deep.
+/// Where a text has a fault of one of these kinds by the rule, that fault is given, so that it has no other of
+/// them: that it is no UTF-8, a root of another name, an element that is too deep, an end tag of another
+/// name, a document type, another encoding.
 pub fn settled_faults_are_given()
     ensures { SettledFaultsAreGiven }
 {}
