@@ -1,15 +1,14 @@
 -- A front of a text is read, with its elements open.
-use Rattle.std.proofs.Common.{◌≡◌, ℕ, zero, suc, ◌<◌, Bool, true, false, not, List, [], ◌∷◌, ◌++◌, append_assoc, append-nil, length, Option, Some, None, Result, Ok, Err, refl, sym, ap, subst, ◌∙◌, arith, inl, inr}
-use Rattle.std.specs.Prelude.{◌⊎◌, ◌==◌, ◌&&◌, nat_le, codes}
+use Rattle.std.proofs.Common.{◌≡◌, ℕ, zero, suc, Bool, true, false, not, List, [], ◌∷◌, ◌++◌, append_assoc, length, Some, Result, Ok, Err, refl, sym, ap, subst, ◌∙◌, inl, inr}
+use Rattle.std.specs.Prelude.{◌⊎◌, ◌==◌, nat_le, codes}
 use Rattle.std.specs.List.{AllByRecursion, list_any}
-use Rattle.std.specs.Str.{IsUtf8, bytes_eq}
+use Rattle.std.specs.Str.{bytes_eq}
 use Rattle.std.proofs.lemmas.Bool.{cases_Bool, true≢false}
 use Rattle.std.proofs.lemmas.Slice.Eq.{bytes_eq-Decides}
-use Rattle.ror_text.specs.Reading.{◌>>=◌, refuse, need, read_all}
+use Rattle.ror_text.specs.Reading.{◌>>=◌, refuse, read_all}
 use Rattle.ror_text.proofs.ReadingLemmas.{bind_ok, bind-at_ok, refuse_ok}
 use Rattle.ror_elements.specs.declared.element.ElementFault.{ElementFault}
 use Rattle.ror_elements.specs.declared.element.ElementKind.TheVariants as kinds
-use Rattle.ror_elements.specs.declared.mode.Home.{Home}
 use Rattle.ror_elements.specs.declared.mode.Mode.{Mode}
 use Rattle.ror_elements.specs.declared.mode.Mode.TheVariants as modes
 use Rattle.ror_elements.specs.declared.mode.Opening.{Opening}
@@ -19,15 +18,14 @@ use Rattle.ror_elements.specs.declared.mode.Seen.TheVariants as marks
 use Rattle.ror_elements.specs.declared.open.Open.{Open}
 use Rattle.ror_elements.specs.declared.reader.Reader.{Reader}
 use Rattle.ror_elements.specs.Faults.{fault}
-use Rattle.ror_elements.specs.Elements.{act_in, act, read, finish}
-use Rattle.ror_elements.specs.Grammar.{IsName, IsSpace, IsEndTag, DeclaresUtf8, line_behind}
-use Rattle.ror_elements.specs.Laws.{IsReached}
-use Rattle.ror_elements.specs.Marks.{is_white, is_name_byte}
-use Rattle.ror_elements.specs.Mode.{opening_text, is_byte_at, is_between, is_ended_by, seen_after}
-use Rattle.ror_elements.specs.Open.{is_none, last_of}
-use Rattle.ror_elements.specs.Reader.{bad, nothing_read, whole_text, is_outside, add_text, in_content, begin_tag, begin_end_tag, in_first_markup, in_markup, in_exclamation, in_beginning, in_comment, without_brackets, in_section, in_first_instruction, end_first_instruction, in_instruction, in_reference}
-use Rattle.ror_elements.specs.Refusals.{IsClean, IsRooted, end_tag, end_tags}
-use Rattle.ror_elements.specs.Tags.{begin_attribute, in_tag, in_start_name, add_name, after_attribute_name, in_attribute_name, quoted, before_value, in_value}
+use Rattle.ror_elements.specs.Elements.{finish}
+use Rattle.ror_elements.specs.Grammar.{IsName, IsEndTag, DeclaresUtf8, line_behind}
+use Rattle.ror_elements.specs.Marks.{is_name_byte}
+use Rattle.ror_elements.specs.Mode.{opening_text, is_byte_at, is_between}
+use Rattle.ror_elements.specs.Open.{is_none}
+use Rattle.ror_elements.specs.Reader.{bad, nothing_read, whole_text, in_content, begin_tag, in_first_markup, in_markup, in_exclamation, in_beginning, in_comment, in_section, in_first_instruction, in_instruction, in_reference}
+use Rattle.ror_elements.specs.Refusals.{IsRooted, end_tag, end_tags}
+use Rattle.ror_elements.specs.Tags.{begin_attribute, in_tag, in_start_name, add_name, after_attribute_name, in_attribute_name, before_value, in_value}
 use Rattle.ror_elements.specs.Tree.{Tree}
 use Rattle.ror_elements.proofs.ContentRuns.{element-goes}
 use Rattle.ror_elements.proofs.ElementRuns.{in_end, end_name-run, some_name, end_tag-goes}
@@ -35,7 +33,7 @@ use Rattle.ror_elements.proofs.FaultFronts.{closed_name}
 use Rattle.ror_elements.proofs.FaultWords.{open_names}
 use Rattle.ror_elements.proofs.PlainReader.{plain, plain_act_in, plain_after_end_name, plain_in_end_name, plain_in_empty_tag, run, around_closed}
 use Rattle.ror_elements.proofs.ReadsLemmas.{element_first, behind_root}
-use Rattle.ror_elements.proofs.Runs.{line_at, line_at-is, at, run_step}
+use Rattle.ror_elements.proofs.Runs.{line_at, line_at-is, at}
 use Rattle.ror_elements.proofs.StartRuns as start
 use Rattle.ror_elements.proofs.TagRuns.{not_named}
 

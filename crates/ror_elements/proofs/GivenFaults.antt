@@ -1,12 +1,11 @@
 -- Faults that a text has are given.
-use Rattle.std.proofs.Common.{◌≡◌, ℕ, ◌+◌, ◌<◌, Bool, true, false, not, List, [], ◌∷◌, ◌++◌, append_assoc, append-nil, length, Some, None, Result, Ok, Err, refl, sym, ap, subst, ◌∙◌, arith, inl, inr}
+use Rattle.std.proofs.Common.{◌≡◌, ℕ, ◌<◌, Bool, true, false, not, List, [], ◌∷◌, ◌++◌, append_assoc, append-nil, length, Ok, Err, refl, sym, ap, subst, ◌∙◌, arith, inl, inr}
 use Rattle.std.specs.Prelude.{◌⊎◌, ◌==◌, ◌&&◌, ◌||◌, nat_le, codes}
-use Rattle.std.specs.List.{AllByRecursion}
 use Rattle.std.specs.Str.{IsUtf8, bytes_eq}
 use Rattle.std.proofs.lemmas.Bool.{cases_Bool, true≢false, eqb-true, le-leb, false_from_ne_true}
 use Rattle.std.proofs.lemmas.Slice.Eq.{bytes_eq-Decides}
 use Rattle.std.proofs.lemmas.Str.{IsUtf8-append, IsUtf8-from_ascii}
-use Rattle.ror_text.specs.Reading.{◌>>=◌, refuse, read_all}
+use Rattle.ror_text.specs.Reading.{read_all}
 use Rattle.ror_text.proofs.ReadingLemmas.{bind_ok, bind_err, bind-at_ok, bind-at_err}
 use Rattle.ror_elements.specs.declared.declaration.Declaration.{Declaration}
 use Rattle.ror_elements.specs.declared.element.ElementFault.{ElementFault}
@@ -20,19 +19,18 @@ use Rattle.ror_elements.specs.Declarations.{nothing_declared, is_foreign, is_utf
 use Rattle.ror_elements.specs.Elements.{read, finish, elements_of, without_mark}
 use Rattle.ror_elements.specs.Faults.{fault}
 use Rattle.ror_elements.specs.Grammar.{IsName, BeginsTag, IsInstruction, Declares, line_behind}
-use Rattle.ror_elements.specs.Laws.{IsReached, not_utf8}
+use Rattle.ror_elements.specs.Laws.{IsReached}
 use Rattle.ror_elements.specs.Marks.{is_white, is_mark, is_name_byte}
-use Rattle.ror_elements.specs.Open.{is_none}
-use Rattle.ror_elements.specs.Reader.{nothing_read, whole_text, at_start, in_content, begin_tag, in_first_markup, in_markup, in_exclamation, begin, in_beginning}
-use Rattle.ror_elements.specs.Refusals.{IsClean, IsRooted, IsBeforeRoot, IsFromRoot, IsFront, StandsAt, end_tags, HasFault, HasDoctype, HasMismatched, HasTooDeep, HasEncoding, IsSettled, SettledFaultsAreGiven}
+use Rattle.ror_elements.specs.Reader.{nothing_read, at_start, in_content, in_first_markup, in_markup, in_exclamation, begin, in_beginning}
+use Rattle.ror_elements.specs.Refusals.{IsClean, IsBeforeRoot, IsFromRoot, IsFront, StandsAt, end_tags, HasDoctype, HasMismatched, HasEncoding}
 use Rattle.ror_elements.specs.Tags.{in_start_name}
 use Rattle.ror_elements.proofs.Declared.{known, declared_is_utf8}
 use Rattle.ror_elements.proofs.DeclaredBack.{question_says_nothing}
-use Rattle.ror_elements.proofs.ElementRuns.{in_start, in_end, start_name-run, end_name-run, some_name}
+use Rattle.ror_elements.proofs.ElementRuns.{in_start, start_name-run, end_name-run, some_name}
 use Rattle.ror_elements.proofs.FaultFronts.{reached-holds, run_on, one_ascii, count_names}
-use Rattle.ror_elements.proofs.FaultWords.{AtMode, Holds, open_names, is_closed}
+use Rattle.ror_elements.proofs.FaultWords.{AtMode, open_names, is_closed}
 use Rattle.ror_elements.proofs.FrontRuns.{run_split, rooted_reads, before_mode, open_mode, names_open}
-use Rattle.ror_elements.proofs.LawLemmas.{gives_the_first_fault, lines_are_counted, without_mark-IsUtf8, past_utf8}
+use Rattle.ror_elements.proofs.LawLemmas.{lines_are_counted, without_mark-IsUtf8, past_utf8}
 use Rattle.ror_elements.proofs.PlainReader.{plain, plain_in_end_name, run, same_run}
 use Rattle.ror_elements.proofs.Runs.{line_at, at, question_end}
 use Rattle.ror_elements.proofs.StartRuns.{behind_first, first_instruction}

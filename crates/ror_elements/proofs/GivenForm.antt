@@ -1,10 +1,9 @@
 -- A root of another name is given as such.
-use Rattle.std.proofs.Common.{◌≡◌, ℕ, ◌+◌, ◌<◌, Bool, true, false, not, List, [], ◌∷◌, ◌++◌, append_assoc, append-nil, length, Option, Some, None, Result, Ok, Err, refl, sym, ap, subst, ◌∙◌, arith, inl, inr}
-use Rattle.std.specs.Prelude.{◌⊎◌, ◌==◌, ◌&&◌, nat_le, codes}
+use Rattle.std.proofs.Common.{◌≡◌, ℕ, Bool, true, false, not, List, [], ◌∷◌, ◌++◌, append_assoc, append-nil, length, Option, None, Result, Ok, Err, refl, sym, ap, subst, ◌∙◌, arith, inl, inr}
+use Rattle.std.specs.Prelude.{◌⊎◌, nat_le, codes}
 use Rattle.std.specs.Str.{IsUtf8, bytes_eq}
-use Rattle.std.proofs.lemmas.Bool.{cases_Bool, true≢false, leb-false, false_from_ne_true}
+use Rattle.std.proofs.lemmas.Bool.{cases_Bool, leb-false, false_from_ne_true}
 use Rattle.std.proofs.lemmas.Slice.Eq.{bytes_eq-Decides}
-use Rattle.ror_text.specs.Reading.{◌>>=◌, refuse, read_all}
 use Rattle.ror_text.proofs.ReadingLemmas.{bind_ok}
 use Rattle.ror_elements.specs.declared.element.ElementFault.{ElementFault}
 use Rattle.ror_elements.specs.declared.element.ElementKind.TheVariants as kinds
@@ -16,19 +15,18 @@ use Rattle.ror_elements.specs.declared.reader.Tag.{Tag}
 use Rattle.ror_elements.specs.Elements.{finish, elements_of, without_mark}
 use Rattle.ror_elements.specs.Faults.{fault}
 use Rattle.ror_elements.specs.Grammar.{IsName, BeginsTag, IsTag, line_behind}
-use Rattle.ror_elements.specs.Laws.{IsReached}
 use Rattle.ror_elements.specs.Marks.{local_name}
 use Rattle.ror_elements.specs.Open.{is_none}
 use Rattle.ror_elements.specs.Reader.{nothing_read, whole_text, in_content, begin_tag, in_markup}
 use Rattle.ror_elements.specs.Refusals.{IsClean, IsBeforeRoot, HasForm}
 use Rattle.ror_elements.specs.Tree.{Tree}
-use Rattle.ror_elements.specs.Tags.{root_name, is_bad_root, open_element, in_tag, in_start_name}
-use Rattle.ror_elements.proofs.ElementRuns.{MayOpen, opened_as, in_start, start_name-run, tag-read, empty_tag-goes}
+use Rattle.ror_elements.specs.Tags.{root_name, is_bad_root, open_element, in_tag}
+use Rattle.ror_elements.proofs.ElementRuns.{in_start, start_name-run, tag-read, empty_tag-goes}
 use Rattle.ror_elements.proofs.FaultFronts.{run_on, is_root_tag}
 use Rattle.ror_elements.proofs.FrontRuns.{run_split, rooted_reads, before_mode, ended, unclosed}
 use Rattle.ror_elements.proofs.GivenFaults.{deep_here, clean_append, given, reached_by, start_only}
 use Rattle.ror_elements.proofs.LawLemmas.{lines_are_counted, without_mark-IsUtf8}
-use Rattle.ror_elements.proofs.PlainReader.{plain, plain_in_empty_tag, around_closed, run}
+use Rattle.ror_elements.proofs.PlainReader.{plain, plain_in_empty_tag, run}
 use Rattle.ror_elements.proofs.Runs.{line_at, at}
 use Rattle.ror_elements.proofs.StartRuns.{as_anywhere}
 use Rattle.ror_elements.proofs.TagRuns.{tagged}

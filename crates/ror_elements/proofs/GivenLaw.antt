@@ -1,5 +1,5 @@
 -- The faults that are given wherever a text has them.
-use Rattle.std.proofs.Common.{◌≡◌, ℕ, List, Result, Err, ap}
+use Rattle.std.proofs.Common.{ap}
 use Rattle.ror_elements.specs.declared.element.ElementKind.TheVariants as kinds
 use Rattle.ror_elements.specs.Faults.{fault}
 use Rattle.ror_elements.specs.Laws.{not_utf8}
