@@ -99,7 +99,7 @@ opening_in_lawful best_first m l root opening are e =
     let stated : AreSound n k b.0 = subst (λ (x : Result (List Stated) TableFault). IfOk x (AreSound n k)) b.1 (affectations_sound best_first l.alternatives l.categories a.0 root are compared) in
     subst (λ (x : Result (List Statement) TableFault). IfOk x (IsLawful n m k)) b.2 (opening_lawful n m k b.0 stated)
 
-content_lawful : (best_first : Bool) (root : Tree) (i : Input) → content best_first root ≡ Ok i → IsLawfulIn i.table i.opening
+pub content_lawful : (best_first : Bool) (root : Tree) (i : Input) → content best_first root ≡ Ok i → IsLawfulIn i.table i.opening
 unfolding content
 content_lawful best_first root i e =
     let a = bind_ok (listed_of root) _ i e in

@@ -20,3 +20,8 @@ pub mod MeaningWhole
 pub mod MeaningOnce
 pub mod FaultLemmas
 pub mod MeaningKnown
+pub mod ReadableLemmas
+pub mod ReadableListing
+pub mod ReadableTable
+pub mod ReadableOpening
+pub mod ReadableWhole

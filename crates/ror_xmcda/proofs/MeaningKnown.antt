@@ -63,7 +63,7 @@ first_is {S} {L} {V} {F} P step view p f seen each s (x ∷ xs) last none e =
 
 -- ---- pairs
 
-abbrev IsKnownText : List Tree → Tree → Type 0
+abbrev pub IsKnownText : List Tree → Tree → Type 0
 IsKnownText listed t = is_id_of listed (Some (text_of t)) ≡ true
 
 first_standing_known : (listed : List Tree) (r : Roster) (found : Option (Option ℕ)) (t : Tree) (next : Option (Option ℕ)) → IsRosterOf listed r → found ≡ None → first_standing r found t ≡ Ok next → IsKnownText listed t
@@ -129,9 +129,9 @@ unfolding class_at
 class_known best_first root c t k are e = let a = bind_ok (standing_at c.ids t) _ k e in standing_at_listed (listed_categories root) c.ids t a.0 are.ids a.1
 
 -- the categories at both ends of what is assigned
-record AreKnownEnds (root t : Tree) : Type 0 where
-  lower : is_id_of (listed_categories root) (end_text (codes "lowerBound") t) ≡ true
-  upper : is_id_of (listed_categories root) (end_text (codes "upperBound") t) ≡ true
+pub record AreKnownEnds (root t : Tree) : Type 0 where
+  pub lower : is_id_of (listed_categories root) (end_text (codes "lowerBound") t) ≡ true
+  pub upper : is_id_of (listed_categories root) (end_text (codes "upperBound") t) ≡ true
 
 single_known : (best_first : Bool) (root : Tree) (c : Categories) (t : Tree) (classes : Option Classes) → AreCategories (listed_categories root) c → single best_first c t ≡ Ok classes → is_named (codes "categoryID") t ≡ true → AreKnownEnds root t
 unfolding single
@@ -204,7 +204,7 @@ none_found : (p : Tree → Bool) (ts : List Tree) → AllByRecursion (λ t. p t 
 none_found p [] h = refl
 none_found p (t ∷ ts) h = ap (λ b. is_some (cond b (Some t) (find p ts))) h.0 ∙ none_found p ts h.1
 
-some_of_either : (p q : Tree → Bool) (ts : List Tree) → is_some (find (λ t. p t || q t) ts) ≡ (is_some (find p ts) || is_some (find q ts))
+pub some_of_either : (p q : Tree → Bool) (ts : List Tree) → is_some (find (λ t. p t || q t) ts) ≡ (is_some (find p ts) || is_some (find q ts))
 some_of_either p q [] = refl
 some_of_either p q (t ∷ ts) = by (p t) (q t) (some_of_either p q ts)
   where

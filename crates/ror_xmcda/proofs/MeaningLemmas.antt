@@ -105,13 +105,13 @@ nothing_yet = record {
   once = λ i j d less l. absurd (omega arith);
 }
 
-not_there : (ids : List (List ℕ)) (id : List ℕ) → has_id ids id ≡ false → Contains ids id → ⊥
+pub not_there : (ids : List (List ℕ)) (id : List ℕ) → has_id ids id ≡ false → Contains ids id → ⊥
 not_there ids id absent there = false≢true (sym absent ∙ list_any_at (bytes_eq id) ids there.0 id there.1 ((bytes_eq-Decides id (get_or ids there.0 id)).1 (sym there.2)))
 
 pub is_there : (ids : List (List ℕ)) (id : List ℕ) → has_id ids id ≡ true → Contains ids id
 is_there ids id e = Contains-from_any (λ x y same. (bytes_eq-Decides x y).0 same) id ids e
 
-valid_same : (o : Option (List ℕ)) (id : List ℕ) → valid o ≡ Some id → (o ≡ Some id) × HasId o
+pub valid_same : (o : Option (List ℕ)) (id : List ℕ) → valid o ≡ Some id → (o ≡ Some id) × HasId o
 valid_same None id e = absurd cc
 valid_same (Some x) id e = by (is_id x) refl e
   where
@@ -225,7 +225,7 @@ unfolding standing_at
 standing_at_place before r t s are e = standing_place before r (text_of t) s are (need_ok _ (standing r (text_of t)) s e)
 
 -- and what an id stands for is listed
-standing_listed : (before : List Tree) (r : Roster) (id : List ℕ) (s : Option ℕ) → IsRosterOf before r → standing r id ≡ Some s → is_id_of before (Some id) ≡ true
+pub standing_listed : (before : List Tree) (r : Roster) (id : List ℕ) (s : Option ℕ) → IsRosterOf before r → standing r id ≡ Some s → is_id_of before (Some id) ≡ true
 unfolding standing
 standing_listed before r id s are e = by (has_id r.left_out id) (place_of r.kept id) refl refl e
   where

@@ -31,7 +31,7 @@ use Rattle.ror_xmcda.proofs.TurnedLemmas.{AreApart}
 
 -- ---- alternatives
 
-alternative_more : (before : List Tree) (r : Roster) (t : Tree) (next : Roster) → IsRosterOf before r → alternative r t ≡ Ok next → IsRosterOf (before ++ t ∷ []) next
+pub alternative_more : (before : List Tree) (r : Roster) (t : Tree) (next : Roster) → IsRosterOf before r → alternative r t ≡ Ok next → IsRosterOf (before ++ t ∷ []) next
 unfolding alternative
 alternative_more before r t next are e =
     let a = bind_ok (new_id r t) _ next e in
@@ -64,14 +64,14 @@ alternative_entries root r e = record { each = each_is IsEntry alternative alter
 
 -- ---- criteria
 
-abbrev direction_element : Tree → Option Tree
+abbrev pub direction_element : Tree → Option Tree
 direction_element t = first_of (at_path (codes "scale" ∷ codes "quantitative" ∷ codes "preferenceDirection" ∷ []) t)
 
 -- what was read of some criteria
-record AreCriteria (before : List Tree) (c : Criteria) : Type 0 where
-  ids : IsRosterOf before c.ids
-  directions : AllZip (λ t d. IsDirection (direction_element t) d) (filter active before) c.directions
-  quantitative : AllByRecursion IsQuantitative (filter active before)
+pub record AreCriteria (before : List Tree) (c : Criteria) : Type 0 where
+  pub ids : IsRosterOf before c.ids
+  pub directions : AllZip (λ t d. IsDirection (direction_element t) d) (filter active before) c.directions
+  pub quantitative : AllByRecursion IsQuantitative (filter active before)
 
 direction_is : (t : Tree) (d : Direction) → criterion_direction t ≡ Ok d → IsDirection (direction_element t) d
 unfolding criterion_direction
@@ -89,7 +89,7 @@ quantitative_is t u e = by (at_path (codes "scale" ∷ codes "qualitative" ∷ [
     by [] e = refl
     by (x ∷ ts) e = absurd cc
 
-criterion_more : (before : List Tree) (c : Criteria) (t : Tree) (next : Criteria) → AreCriteria before c → criterion c t ≡ Ok next → AreCriteria (before ++ t ∷ []) next
+pub criterion_more : (before : List Tree) (c : Criteria) (t : Tree) (next : Criteria) → AreCriteria before c → criterion c t ≡ Ok next → AreCriteria (before ++ t ∷ []) next
 unfolding criterion
 criterion_more before c t next are e =
     let a = bind_ok (new_id c.ids t) _ next e in
@@ -198,7 +198,7 @@ rank_is : (ranks : List ℤ) (t : Tree) (rank : ℤ) → rank_of ranks t ≡ Ok 
 unfolding rank_in
 rank_is ranks t rank e = ap (λ (o : Option ℤ). unwrap_or o (pos 0)) (rank_read ranks t rank e)
 
-category_more : (before : List Tree) (c : Categories) (t : Tree) (next : Categories) → AreCategories before c → category c t ≡ Ok next → AreCategories (before ++ t ∷ []) next
+pub category_more : (before : List Tree) (c : Categories) (t : Tree) (next : Categories) → AreCategories before c → category c t ≡ Ok next → AreCategories (before ++ t ∷ []) next
 unfolding category
 category_more before c t next are e =
     let a = bind_ok (new_id c.ids t) _ next e in

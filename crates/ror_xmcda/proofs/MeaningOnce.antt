@@ -12,7 +12,7 @@ use Rattle.ror_elements.specs.Tree.{Tree}
 use Rattle.ror_xmcda.specs.Numbers.{number_of}
 use Rattle.ror_xmcda.specs.Meaning.{active, listed_criteria, listed_alternatives, IsDirection, IsCriterion, IsAlternative, HasNumber, IsPerformance, AreItsPerformances, pairs, pair_says, affectations, affectation_says, IsContent}
 
-some_same : {A : Type 0} (x y : A) (o : Option A) → o ≡ Some x → o ≡ Some y → x ≡ y
+pub some_same : {A : Type 0} (x y : A) (o : Option A) → o ≡ Some x → o ≡ Some y → x ≡ y
 some_same x y o p q = let same : Some x ≡ Some y = sym p ∙ q in cc
 
 zip_same : {A B : Type 0} (R : A → B → Type 0) → ((x : A) (y z : B) → R x y → R x z → y ≡ z) → (xs : List A) (ys zs : List B) → AllZip R xs ys → AllZip R xs zs → ys ≡ zs
@@ -63,16 +63,20 @@ alternatives_same root cs (t ∷ ts) [] vs p q h k = absurd p
 alternatives_same root cs (t ∷ ts) (a ∷ us) [] p q h k = absurd q
 alternatives_same root cs (t ∷ ts) (a ∷ us) (b ∷ vs) p q h k = rw (alternative_same root cs t a b p.0 q.0 h.0 k.0, alternatives_same root cs ts us vs p.1 q.1 h.1 k.1) refl
 
-table_same : (best_first : Bool) (root : Tree) (i j : Input) → IsContent best_first root i → IsContent best_first root j → i.table ≡ j.table
-table_same best_first root i j p q =
-    let criteria : i.table.criteria ≡ j.table.criteria = zip_same IsCriterion criterion_same (filter active (listed_criteria root)) i.table.criteria j.table.criteria p.criteria q.criteria in
-    let moved : AllByRecursion (AreItsPerformances root i.table.criteria) j.table.alternatives = subst (λ (cs : List Criterion). AllByRecursion (AreItsPerformances root cs) j.table.alternatives) (sym criteria) q.performances in
-    all i.table.criteria j.table.criteria i.table.alternatives j.table.alternatives i.table.classes j.table.classes criteria
-    (alternatives_same root i.table.criteria (filter active (listed_alternatives root)) i.table.alternatives j.table.alternatives p.alternatives q.alternatives p.performances moved)
-    (p.classes ∙ sym q.classes)
+-- two tables of the same criteria and alternatives, with the performances that the file gives them
+pub tables_same : (root : Tree) (t u : DecisionTable) → AllZip IsCriterion (filter active (listed_criteria root)) t.criteria → AllZip IsCriterion (filter active (listed_criteria root)) u.criteria → AllZip IsAlternative (filter active (listed_alternatives root)) t.alternatives → AllZip IsAlternative (filter active (listed_alternatives root)) u.alternatives
+    → AllByRecursion (AreItsPerformances root t.criteria) t.alternatives → AllByRecursion (AreItsPerformances root u.criteria) u.alternatives → t.classes ≡ u.classes → t ≡ u
+tables_same root t u c d a b p q k =
+    let criteria : t.criteria ≡ u.criteria = zip_same IsCriterion criterion_same (filter active (listed_criteria root)) t.criteria u.criteria c d in
+    let moved : AllByRecursion (AreItsPerformances root t.criteria) u.alternatives = subst (λ (cs : List Criterion). AllByRecursion (AreItsPerformances root cs) u.alternatives) (sym criteria) q in
+    all t.criteria u.criteria t.alternatives u.alternatives t.classes u.classes criteria
+    (alternatives_same root t.criteria (filter active (listed_alternatives root)) t.alternatives u.alternatives a b p moved) k
   where
     all : (cs ds : List Criterion) (us vs : List Alternative) (k n : ℕ) → cs ≡ ds → us ≡ vs → k ≡ n → ◌≡◌ {A = DecisionTable} (record { criteria = cs; alternatives = us; classes = k }) (record { criteria = ds; alternatives = vs; classes = n })
     all cs ds us vs k n one two three = rw (one, two, three) refl
+
+table_same : (best_first : Bool) (root : Tree) (i j : Input) → IsContent best_first root i → IsContent best_first root j → i.table ≡ j.table
+table_same best_first root i j p q = tables_same root i.table j.table p.criteria q.criteria p.alternatives q.alternatives p.performances q.performances (p.classes ∙ sym q.classes)
 
 pub one_content : (best_first : Bool) (root : Tree) (i j : Input) → IsContent best_first root i → IsContent best_first root j → i ≡ j
 one_content best_first root i j p q =

@@ -128,7 +128,7 @@ now_said stated more next said says same is then = ap statements (sym same) ∙ 
 both_said : (a b c d : Option ℕ) → a ≡ b → c ≡ d → preferred a c ≡ preferred b d
 both_said a b c d p q = ap (λ (x : Option ℕ). preferred x c) p ∙ ap (preferred b) q
 
-pair_is : (listed : List Tree) (r : Roster) (table : DecisionTable) (stated : List Stated) (t : Tree) (next : List Stated) → IsRosterOf listed r → alternative_ids table ≡ r.kept → pair r stated t ≡ Ok next → statements next ≡ statements stated ++ pair_says table t
+pub pair_is : (listed : List Tree) (r : Roster) (table : DecisionTable) (stated : List Stated) (t : Tree) (next : List Stated) → IsRosterOf listed r → alternative_ids table ≡ r.kept → pair r stated t ≡ Ok next → statements next ≡ statements stated ++ pair_says table t
 unfolding pair side_of
 pair_is listed r table stated t next are ids e =
     let a = bind_ok (need _ (ends_of (codes "initial") (codes "terminal") t)) _ next e in
@@ -167,7 +167,7 @@ one_later : (n : ℕ) (b : Bool) → cond b (Some (suc n)) None ≡ option_map s
 one_later n true = refl
 one_later n false = refl
 
-position-cons : {A : Type 0} (p : A → Bool) (x : A) (xs : List A) → position p (x ∷ xs) ≡ cond (p x) (Some 0) (option_map suc (position p xs))
+pub position-cons : {A : Type 0} (p : A → Bool) (x : A) (xs : List A) → position p (x ∷ xs) ≡ cond (p x) (Some 0) (option_map suc (position p xs))
 position-cons p x xs = by (p x) (position_or_len p xs) refl
   where
     by : (b : Bool) (n : ℕ) → position_or_len p xs ≡ n → cond (nat_lt (cond (not b) (1 + n) 0) (suc (length xs))) (Some (cond (not b) (1 + n) 0)) None ≡ cond b (Some 0) (option_map suc (cond (nat_lt n (length xs)) (Some n) None))
@@ -341,7 +341,7 @@ ends_joined f g (Some x) = refl
 all_three : (a b c d e f : Option ℕ) → a ≡ b → c ≡ d → e ≡ f → assigned a c e ≡ assigned b d f
 all_three a b c d e f p q r = ap (λ (x : Option ℕ). assigned x c e) p ∙ ap (λ (x : Option ℕ). assigned b x e) q ∙ ap (assigned b d) r
 
-affectation_is : (best_first : Bool) (root : Tree) (listed : List Tree) (r : Roster) (c : Categories) (table : DecisionTable) (stated : List Stated) (t : Tree) (next : List Stated) → IsRosterOf listed r → AreCategories (listed_categories root) c → alternative_ids table ≡ r.kept
+pub affectation_is : (best_first : Bool) (root : Tree) (listed : List Tree) (r : Roster) (c : Categories) (table : DecisionTable) (stated : List Stated) (t : Tree) (next : List Stated) → IsRosterOf listed r → AreCategories (listed_categories root) c → alternative_ids table ≡ r.kept
     → affectation best_first r c stated t ≡ Ok next → statements next ≡ statements stated ++ affectation_says best_first root table t
 unfolding affectation alternative_in end_class first_named
 affectation_is best_first root listed r c table stated t next are also ids e =

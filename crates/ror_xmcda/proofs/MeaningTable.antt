@@ -20,13 +20,13 @@ use Rattle.ror_table.proofs.NameLemmas.{place_of-sound, not_placed-absent}
 use Rattle.ror_elements.specs.Tree.{Tree}
 use Rattle.ror_xmcda.specs.declared.criteria.Criteria.{Criteria}
 use Rattle.ror_xmcda.specs.declared.roster.Roster.{Roster}
-use Rattle.ror_xmcda.specs.Nodes.{id_of, text_of, named, first_named, at_path}
+use Rattle.ror_xmcda.specs.Nodes.{id_of, text_of, named, first_named}
 use Rattle.ror_xmcda.specs.Listing.{standing_in}
 use Rattle.ror_xmcda.specs.Numbers.{number_of}
 use Rattle.ror_xmcda.specs.Performances.{Place, Given, is_at, given_at, first_inside, value_of, kept_performance, performance_at, performance, performances, performances_of}
 use Rattle.ror_xmcda.specs.Whole.{criteria_table, next_performance, row_of, with_alternative, table_of}
 use Rattle.ror_xmcda.specs.Meaning as meaning
-use Rattle.ror_xmcda.specs.Meaning.{active, is_text, names, HasNumber, IsPerformance, AreItsPerformances, IsAlternative}
+use Rattle.ror_xmcda.specs.Meaning.{active, is_text, names, performance_groups, performances_in, HasNumber, IsPerformance, AreItsPerformances, IsAlternative}
 use Rattle.ror_xmcda.proofs.InputLemmas.{finished_same}
 use Rattle.ror_xmcda.proofs.WholeLemmas.{alternatives-criteria_table}
 use Rattle.ror_xmcda.proofs.MeaningLemmas.{read_all_from_first, zip-append, IsRosterOf, standing_at_place}
@@ -35,14 +35,14 @@ use Rattle.std.proofs.lemmas.Grind.{flat_map-append}
 
 -- ---- the numbers that are given at a place
 
-abbrev numbers_at : Place → Given → List Amount
+abbrev pub numbers_at : Place → Given → List Amount
 numbers_at place given = map (λ g. g.1) (filter (λ g. is_at place g.0) given)
 
-abbrev first_number : List Amount → Option Amount
+abbrev pub first_number : List Amount → Option Amount
 first_number [] = None
 first_number (z ∷ zs) = Some z
 
-given-first : (place : Place) (given : Given) → given_at given place ≡ first_number (numbers_at place given)
+pub given-first : (place : Place) (given : Given) → given_at given place ≡ first_number (numbers_at place given)
 unfolding given_at
 given-first place [] = refl
 given-first place (g ∷ given) = by (is_at place g.0) (given-first place given)
@@ -123,7 +123,7 @@ still_few place at given z few free = rw (numbers-append place given ((at, z) �
 
 -- ---- performances by ids
 
-stands : (ids : List (List ℕ)) (k : ℕ) (text : List ℕ) → (k < length ids) × (text ≡ get_or ids k []) → slice_get ids k ≡ Some text
+pub stands : (ids : List (List ℕ)) (k : ℕ) (text : List ℕ) → (k < length ids) × (text ≡ get_or ids k []) → slice_get ids k ≡ Some text
 stands [] k text h = absurd (omega arith)
 stands (id ∷ ids) zero text h = ap (λ (x : List ℕ). Some x) (sym h.1)
 stands (id ∷ ids) (suc k) text h = stands ids k text (omega arith, h.1)
@@ -145,12 +145,12 @@ no_place_differs : (ids : List (List ℕ)) (i : ℕ) (id text : List ℕ) → sl
 no_place_differs ids i id text at none =
     bytes_apart text id (λ same. not_placed-absent ids text none (i, slice_get_within ids i id at, get_or_from_slice_get ids i id text at ∙ sym same))
 
-abbrev stands_at : ℕ → Option ℕ → Bool
+abbrev pub stands_at : ℕ → Option ℕ → Bool
 stands_at i None = false
 stands_at i (Some k) = i == k
 
 -- what an element's first child of a name stands for
-stands_is : (before : List Tree) (r : Roster) (owner : Tree) (o : Option Tree) (s : Option ℕ) (i : ℕ) (id : List ℕ) → IsRosterOf before r → slice_get r.kept i ≡ Some id → standing_in r owner o ≡ Ok s → is_text id (option_map text_of o) ≡ stands_at i s
+pub stands_is : (before : List Tree) (r : Roster) (owner : Tree) (o : Option Tree) (s : Option ℕ) (i : ℕ) (id : List ℕ) → IsRosterOf before r → slice_get r.kept i ≡ Some id → standing_in r owner o ≡ Ok s → is_text id (option_map text_of o) ≡ stands_at i s
 stands_is before r owner None s i id are at e = absurd cc
 stands_is before r owner (Some t) s i id are at e = by s (standing_at_place before r t s are e)
   where
@@ -161,9 +161,9 @@ stands_is before r owner (Some t) s i id are at e = by s (standing_at_place befo
 -- ---- all performances at one place
 
 -- those that are given, beside the elements that name the place's alternative and criterion
-record AreGiven (place : Place) (elements : List Tree) (given : Given) : Type 0 where
-  numbers : AllZip HasNumber elements (numbers_at place given)
-  few : AtMostOne (numbers_at place given)
+pub record AreGiven (place : Place) (elements : List Tree) (given : Given) : Type 0 where
+  pub numbers : AllZip HasNumber elements (numbers_at place given)
+  pub few : AtMostOne (numbers_at place given)
 
 given_more : (place at : Place) (elements : List Tree) (given next : Given) (t : Tree) → AreGiven place elements given → IsAdded given next at t → AreGiven place (elements ++ cond (is_at place at) (t ∷ []) []) next
 given_more place at elements given next t are more =
@@ -177,7 +177,7 @@ given_more place at elements given next t are more =
     by false e = rw (numbers_there place at more.z e) (zip-append HasNumber elements (numbers_at place given) [] [] are.numbers tt)
 
 -- the elements of a group that are on a criterion, if the group is of the alternative
-abbrev taken : Bool → List ℕ → List Tree → List Tree
+abbrev pub taken : Bool → List ℕ → List Tree → List Tree
 taken mine criterion ts = cond mine (filter (names (codes "criterionID") criterion) ts) []
 
 taken-push : (mine : Bool) (criterion : List ℕ) (ts : List Tree) (t : Tree) → taken mine criterion (ts ++ t ∷ []) ≡ taken mine criterion ts ++ cond (mine && names (codes "criterionID") criterion t) (t ∷ []) []
@@ -201,60 +201,63 @@ one_performance listed criteria a i id s elements given next t are at h e =
     by (Some b) None e = passed (stands_at a (Some b) && false) (and_right (stands_at a (Some b)) false refl) (let r : ◌≡◌ {A = Result Given TableFault} (Ok given) (Ok next) = e in cc)
     by None c e = passed (stands_at a None && stands_at i c) (and_left false (stands_at i c) refl) (let r : ◌≡◌ {A = Result Given TableFault} (Ok given) (Ok next) = e in cc)
 
+-- one performance more of a group
+pub taken_more : (listed : List Tree) (criteria : Roster) (a i : ℕ) (id : List ℕ) (s : Option ℕ) (elements before : List Tree) (now : Given) (t : Tree) (more : Given) → IsRosterOf listed criteria → slice_get criteria.kept i ≡ Some id
+    → AreGiven (a, i) (elements ++ taken (stands_at a s) id before) now → performance criteria s now t ≡ Ok more → AreGiven (a, i) (elements ++ taken (stands_at a s) id (before ++ t ∷ [])) more
+taken_more listed criteria a i id s elements before now t more are at h e =
+    let mine : Bool = stands_at a s in
+    let lists : (elements ++ taken mine id before) ++ cond (mine && names (codes "criterionID") id t) (t ∷ []) [] ≡ elements ++ taken mine id (before ++ t ∷ []) =
+    append_assoc elements (taken mine id before) (cond (mine && names (codes "criterionID") id t) (t ∷ []) []) ∙ ap (λ (ts : List Tree). elements ++ ts) (sym (taken-push mine id before t)) in
+    subst (λ (ts : List Tree). AreGiven (a, i) ts more) lists (one_performance listed criteria a i id s (elements ++ taken mine id before) now more t are at h e)
+
+-- and none yet
+pub taken_first : (place : Place) (mine : Bool) (id : List ℕ) (elements : List Tree) (given : Given) → AreGiven place elements given → AreGiven place (elements ++ taken mine id []) given
+taken_first place true id elements given h = rw (append-nil elements) h
+taken_first place false id elements given h = rw (append-nil elements) h
+
 one_group : (listed : List Tree) (criteria : Roster) (a i : ℕ) (id : List ℕ) (s : Option ℕ) (elements ts : List Tree) (given next : Given) → IsRosterOf listed criteria → slice_get criteria.kept i ≡ Some id
     → AreGiven (a, i) elements given → read_all (performance criteria s) given ts ≡ Ok next → AreGiven (a, i) (elements ++ taken (stands_at a s) id ts) next
 one_group listed criteria a i id s elements ts given next are at h e =
     read_all_from_first (λ before now. AreGiven (a, i) (elements ++ taken (stands_at a s) id before) now) (performance criteria s)
-    (λ before now t more h e. more_of before now t more h e) given ts next (start (stands_at a s)) e
-  where
-    start : (b : Bool) → AreGiven (a, i) (elements ++ taken b id []) given
-    start true = rw (append-nil elements) h
-    start false = rw (append-nil elements) h
+    (λ before now t more h e. taken_more listed criteria a i id s elements before now t more are at h e) given ts next (taken_first (a, i) (stands_at a s) id elements given h) e
 
-    more_of : (before : List Tree) (now : Given) (t : Tree) (more : Given) → AreGiven (a, i) (elements ++ taken (stands_at a s) id before) now → performance criteria s now t ≡ Ok more → AreGiven (a, i) (elements ++ taken (stands_at a s) id (before ++ t ∷ [])) more
-    more_of before now t more h e =
-        let mine : Bool = stands_at a s in
-        let lists : (elements ++ taken mine id before) ++ cond (mine && names (codes "criterionID") id t) (t ∷ []) [] ≡ elements ++ taken mine id (before ++ t ∷ []) =
-        append_assoc elements (taken mine id before) (cond (mine && names (codes "criterionID") id t) (t ∷ []) []) ∙ ap (λ (ts : List Tree). elements ++ ts) (sym (taken-push mine id before t)) in
-        subst (λ (ts : List Tree). AreGiven (a, i) ts more) lists (one_performance listed criteria a i id s (elements ++ taken mine id before) now more t are at h e)
-
--- the elements of some groups
-abbrev in_groups : List ℕ → List ℕ → List Tree → List Tree
-in_groups alternative criterion groups =
-    flat_map (λ group. filter (names (codes "criterionID") criterion) (named (codes "performance") group)) (filter (names (codes "alternativeID") alternative) groups)
-
-in_groups-push : (alternative criterion : List ℕ) (groups : List Tree) (group : Tree) → in_groups alternative criterion (groups ++ group ∷ []) ≡ in_groups alternative criterion groups ++ taken (names (codes "alternativeID") alternative group) criterion (named (codes "performance") group)
-in_groups-push alternative criterion groups group =
+-- those of one group more
+performances_in-push : (alternative criterion : List ℕ) (groups : List Tree) (group : Tree) → performances_in alternative criterion (groups ++ group ∷ []) ≡ performances_in alternative criterion groups ++ taken (names (codes "alternativeID") alternative group) criterion (named (codes "performance") group)
+performances_in-push alternative criterion groups group =
     let f : Tree → List Tree = λ group. filter (names (codes "criterionID") criterion) (named (codes "performance") group) in
     ap (flat_map f) (filter-append (names (codes "alternativeID") alternative) groups (group ∷ []))
     ∙ flat_map-append f (filter (names (codes "alternativeID") alternative) groups) (filter (names (codes "alternativeID") alternative) (group ∷ []))
-    ∙ ap (λ (ts : List Tree). in_groups alternative criterion groups ++ ts) (by (names (codes "alternativeID") alternative group))
+    ∙ ap (λ (ts : List Tree). performances_in alternative criterion groups ++ ts) (by (names (codes "alternativeID") alternative group))
   where
     by : (b : Bool) → flat_map (λ group. filter (names (codes "criterionID") criterion) (named (codes "performance") group)) (cond b (group ∷ []) []) ≡ taken b criterion (named (codes "performance") group)
     by true = append-nil _
     by false = refl
 
-group_more : (some other : List Tree) (alternatives criteria : Roster) (a i : ℕ) (alternative criterion : List ℕ) → IsRosterOf some alternatives → IsRosterOf other criteria → slice_get alternatives.kept a ≡ Some alternative → slice_get criteria.kept i ≡ Some criterion
-    → (groups : List Tree) (given : Given) (group : Tree) (next : Given) → AreGiven (a, i) (in_groups alternative criterion groups) given → performances alternatives criteria given group ≡ Ok next → AreGiven (a, i) (in_groups alternative criterion (groups ++ group ∷ [])) next
+pub group_more : (some other : List Tree) (alternatives criteria : Roster) (a i : ℕ) (alternative criterion : List ℕ) → IsRosterOf some alternatives → IsRosterOf other criteria → slice_get alternatives.kept a ≡ Some alternative → slice_get criteria.kept i ≡ Some criterion
+    → (groups : List Tree) (given : Given) (group : Tree) (next : Given) → AreGiven (a, i) (performances_in alternative criterion groups) given → performances alternatives criteria given group ≡ Ok next → AreGiven (a, i) (performances_in alternative criterion (groups ++ group ∷ [])) next
 unfolding performances
 group_more some other alternatives criteria a i alternative criterion listed also at there groups given group next h e =
     let s = bind_ok (standing_in alternatives group (first_named (codes "alternativeID") group)) _ next e in
     let is : names (codes "alternativeID") alternative group ≡ stands_at a s.0 = stands_is some alternatives group (first_named (codes "alternativeID") group) s.0 a alternative listed at s.1 in
-    let read = one_group other criteria a i criterion s.0 (in_groups alternative criterion groups) (named (codes "performance") group) given next also there h s.2 in
-    rw (in_groups-push alternative criterion groups group, is) read
+    let read = one_group other criteria a i criterion s.0 (performances_in alternative criterion groups) (named (codes "performance") group) given next also there h s.2 in
+    rw (performances_in-push alternative criterion groups group, is) read
+
+-- what is given at a place, of all that is read
+pub all_given : (some other : List Tree) (alternatives criteria : Roster) (root : Tree) (given : Given) (a i : ℕ) (alternative criterion : List ℕ) → IsRosterOf some alternatives → IsRosterOf other criteria → performances_of alternatives criteria root ≡ Ok given
+    → slice_get alternatives.kept a ≡ Some alternative → slice_get criteria.kept i ≡ Some criterion → AreGiven (a, i) (meaning.performances_of root alternative criterion) given
+unfolding performances_of meaning.performances_of
+all_given some other alternatives criteria root given a i alternative criterion listed also e at there =
+    read_all_from_first (λ before now. AreGiven (a, i) (performances_in alternative criterion before) now) (performances alternatives criteria)
+    (group_more some other alternatives criteria a i alternative criterion listed also at there) [] (performance_groups root) given (record { numbers = tt; few = tt }) e
 
 pub performances_given : (some other : List Tree) (alternatives criteria : Roster) (root : Tree) (given : Given) (a i : ℕ) (alternative criterion : List ℕ) (z : Amount) → IsRosterOf some alternatives → IsRosterOf other criteria → performances_of alternatives criteria root ≡ Ok given
     → slice_get alternatives.kept a ≡ Some alternative → slice_get criteria.kept i ≡ Some criterion → given_at given (a, i) ≡ Some z → IsPerformance root alternative criterion z
-unfolding performances_of meaning.performances_of
 performances_given some other alternatives criteria root given a i alternative criterion z listed also e at there found =
-    let groups : List Tree = at_path (codes "performanceTable" ∷ codes "alternativePerformances" ∷ []) root in
-    let are : AreGiven (a, i) (in_groups alternative criterion groups) given =
-    read_all_from_first (λ before now. AreGiven (a, i) (in_groups alternative criterion before) now) (performances alternatives criteria)
-    (group_more some other alternatives criteria a i alternative criterion listed also at there) [] groups given (record { numbers = tt; few = tt }) e in
+    let are = all_given some other alternatives criteria root given a i alternative criterion listed also e at there in
     let one : numbers_at (a, i) given ≡ z ∷ [] = only_one (numbers_at (a, i) given) z are.few (sym (given-first (a, i) given) ∙ found) in
-    by (in_groups alternative criterion groups) refl (subst (AllZip HasNumber (in_groups alternative criterion groups)) one are.numbers)
+    by (meaning.performances_of root alternative criterion) refl (subst (AllZip HasNumber (meaning.performances_of root alternative criterion)) one are.numbers)
   where
-    by : (ts : List Tree) → in_groups alternative criterion (at_path (codes "performanceTable" ∷ codes "alternativePerformances" ∷ []) root) ≡ ts → AllZip HasNumber ts (z ∷ []) → IsPerformance root alternative criterion z
+    by : (ts : List Tree) → meaning.performances_of root alternative criterion ≡ ts → AllZip HasNumber ts (z ∷ []) → IsPerformance root alternative criterion z
     by [] is h = absurd h
     by (t ∷ []) is h = record { element = t; only = is; number = h.0 }
     by (t ∷ u ∷ ts) is h = absurd h.1
@@ -284,17 +287,17 @@ by_places R S (x ∷ xs) k (z ∷ zs) each h =
     (each 0 x z refl (subst (λ (n : ℕ). R n z) first h.0), by_places R S xs (k + 1) zs (λ j y w there r. each (suc j) y w there (let next : (k + 1) + j ≡ k + suc j = omega arith in subst (λ (n : ℕ). R n w) next r)) h.1)
 
 -- an alternative of this id, with the row of this place
-record IsRead (given : Given) (n : ℕ) (x : ℕ × List ℕ) (a : Alternative) : Type 0 where
-  id : a.id ≡ x.1
-  row : row_of given n x.0 ≡ Ok a.performances
+pub record IsRead (given : Given) (n : ℕ) (x : ℕ × List ℕ) (a : Alternative) : Type 0 where
+  pub id : a.id ≡ x.1
+  pub row : row_of given n x.0 ≡ Ok a.performances
 
 -- a table, and the alternatives that were added to it
-record IsFilled (given : Given) (began : DecisionTable) (before : List (ℕ × List ℕ)) (t : DecisionTable) : Type 0 where
-  criteria : t.criteria ≡ began.criteria
-  classes : t.classes ≡ began.classes
-  alternatives : AllZip (IsRead given (length began.criteria)) before t.alternatives
+pub record IsFilled (given : Given) (began : DecisionTable) (before : List (ℕ × List ℕ)) (t : DecisionTable) : Type 0 where
+  pub criteria : t.criteria ≡ began.criteria
+  pub classes : t.classes ≡ began.classes
+  pub alternatives : AllZip (IsRead given (length began.criteria)) before t.alternatives
 
-filled_more : (given : Given) (began : DecisionTable) (before : List (ℕ × List ℕ)) (t : DecisionTable) (x : ℕ × List ℕ) (next : DecisionTable) → IsFilled given began before t → with_alternative given t x ≡ Ok next → IsFilled given began (before ++ x ∷ []) next
+pub filled_more : (given : Given) (began : DecisionTable) (before : List (ℕ × List ℕ)) (t : DecisionTable) (x : ℕ × List ℕ) (next : DecisionTable) → IsFilled given began before t → with_alternative given t x ≡ Ok next → IsFilled given began (before ++ x ∷ []) next
 unfolding with_alternative
 filled_more given began before t x next h e =
     let b = bind_ok (row_of given (length t.criteria) x.0) _ next e in
@@ -306,15 +309,19 @@ filled_more given began before t x next h e =
           (record { id = refl; row = ap (λ (cs : List Criterion). row_of given (length cs) x.0) (sym h.criteria) ∙ b.1 }, tt);
     })
 
+-- the alternatives that are read, added to the criteria
+pub all_filled : (given : Given) (c : Criteria) (ids : List (List ℕ)) (k : ℕ) (t : DecisionTable) → read_all (with_alternative given) (record (criteria_table c) { classes = k }) (enumerate_from 0 ids) ≡ Ok t → IsFilled given (record (criteria_table c) { classes = k }) (enumerate_from 0 ids) t
+all_filled given c ids k t e =
+    let began : DecisionTable = record (criteria_table c) { classes = k } in
+    read_all_from_first (IsFilled given began) (with_alternative given) (filled_more given began) began (enumerate_from 0 ids) t (record { criteria = refl; classes = refl; alternatives = rw (alternatives-criteria_table c) tt }) e
+
 table_filled : (given : Given) (c : Criteria) (ids : List (List ℕ)) (k : ℕ) (t : DecisionTable) → table_of given c ids k ≡ Ok t → IsFilled given (record (criteria_table c) { classes = k }) (enumerate_from 0 ids) t
 unfolding table_of
 table_filled given c ids k t e =
     let began : DecisionTable = record (criteria_table c) { classes = k } in
     let a = bind_ok (refuse _ (length c.ids.kept == 0 || length ids == 0)) _ t e in
     let b = bind_ok (read_all (with_alternative given) began (enumerate_from 0 ids)) _ t a.2 in
-    let filled : IsFilled given began (enumerate_from 0 ids) b.0 =
-    read_all_from_first (IsFilled given began) (with_alternative given) (filled_more given began) began (enumerate_from 0 ids) b.0 (record { criteria = refl; classes = refl; alternatives = rw (alternatives-criteria_table c) tt }) b.1 in
-    subst (IsFilled given began (enumerate_from 0 ids)) (finished_same _ _ _ b.0 t b.2) filled
+    subst (IsFilled given began (enumerate_from 0 ids)) (finished_same _ _ _ b.0 t b.2) (all_filled given c ids k b.0 b.1)
 
 -- ---- of the ids' elements
 
@@ -354,10 +361,9 @@ get-map f [] i x e = absurd cc
 get-map f (y ∷ ys) zero x e = let same : y ≡ x = cc in ap (λ z. Some (f z)) same
 get-map f (y ∷ ys) (suc i) x e = get-map f ys i x e
 
-pub table_meant : (root : Tree) (some other : List Tree) (alternatives : Roster) (c : Criteria) (given : Given) (k : ℕ) (t : DecisionTable) → IsRosterOf some alternatives → IsRosterOf other c.ids → performances_of alternatives c.ids root ≡ Ok given
-    → table_of given c alternatives.kept k ≡ Ok t → IsTableOf root (filter active some) c alternatives.kept k t
-table_meant root some other alternatives c given k t listed also e f =
-    let filled = table_filled given c alternatives.kept k t f in
+pub filled_meant : (root : Tree) (some other : List Tree) (alternatives : Roster) (c : Criteria) (given : Given) (k : ℕ) (t : DecisionTable) → IsRosterOf some alternatives → IsRosterOf other c.ids → performances_of alternatives c.ids root ≡ Ok given
+    → IsFilled given (record (criteria_table c) { classes = k }) (enumerate_from 0 alternatives.kept) t → IsTableOf root (filter active some) c alternatives.kept k t
+filled_meant root some other alternatives c given k t listed also e filled =
     let n : ℕ = length (criteria_table c).criteria in
     let names : map (λ c. c.id) t.criteria ≡ c.ids.kept = ap (map (λ c. c.id)) filled.criteria ∙ criteria_table-ids c in
     let size : n ≡ length t.criteria = ap length (sym filled.criteria) in
@@ -378,3 +384,7 @@ table_meant root some other alternatives c given k t listed also e f =
 
     place_found : (given : Given) (a i : ℕ) (z : Amount) → given_at given (a, 0 + i) ≡ Some z → given_at given (a, i) ≡ Some z
     place_found given a i z e = ap (λ (m : ℕ). given_at given (a, m)) (sym (zero-add i)) ∙ e
+
+pub table_meant : (root : Tree) (some other : List Tree) (alternatives : Roster) (c : Criteria) (given : Given) (k : ℕ) (t : DecisionTable) → IsRosterOf some alternatives → IsRosterOf other c.ids → performances_of alternatives c.ids root ≡ Ok given
+    → table_of given c alternatives.kept k ≡ Ok t → IsTableOf root (filter active some) c alternatives.kept k t
+table_meant root some other alternatives c given k t listed also e f = filled_meant root some other alternatives c given k t listed also e (table_filled given c alternatives.kept k t f)

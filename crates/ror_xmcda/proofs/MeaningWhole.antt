@@ -33,17 +33,17 @@ use Rattle.ror_xmcda.proofs.MeaningKnown.{performances_known, pairs_known, affec
 use Rattle.ror_xmcda.proofs.MeaningOpening.{comparisons_say, affectations_say}
 
 -- what a file lists
-record IsListed (root : Tree) (l : Listed) : Type 0 where
-  categories : AreCategories (listed_categories root) l.categories
-  alternatives : IsRosterOf (listed_alternatives root) l.alternatives
-  criteria : IsRosterOf (listed_criteria root) l.criteria.ids
-  made : AllZip IsCriterion (filter active (listed_criteria root)) (criteria_table l.criteria).criteria
-  quantitative : AllByRecursion IsQuantitative (filter active (listed_criteria root))
-  category_entries : AreEntries (listed_categories root)
-  alternative_entries : AreEntries (listed_alternatives root)
-  criterion_entries : AreEntries (listed_criteria root)
+pub record IsListed (root : Tree) (l : Listed) : Type 0 where
+  pub categories : AreCategories (listed_categories root) l.categories
+  pub alternatives : IsRosterOf (listed_alternatives root) l.alternatives
+  pub criteria : IsRosterOf (listed_criteria root) l.criteria.ids
+  pub made : AllZip IsCriterion (filter active (listed_criteria root)) (criteria_table l.criteria).criteria
+  pub quantitative : AllByRecursion IsQuantitative (filter active (listed_criteria root))
+  pub category_entries : AreEntries (listed_categories root)
+  pub alternative_entries : AreEntries (listed_alternatives root)
+  pub criterion_entries : AreEntries (listed_criteria root)
 
-listed_is : (root : Tree) (l : Listed) → listed_of root ≡ Ok l → IsListed root l
+pub listed_is : (root : Tree) (l : Listed) → listed_of root ≡ Ok l → IsListed root l
 unfolding listed_of
 listed_is root l e =
     let a = bind_ok (categories_of root) _ l e in
@@ -120,7 +120,7 @@ content_meant best_first root i e =
     })
 
 -- of elements that are read, the tree
-elements_read : (r : Result Tree ElementFault) (t : Tree) → of_elements r ≡ Ok t → r ≡ Ok t
+pub elements_read : (r : Result Tree ElementFault) (t : Tree) → of_elements r ≡ Ok t → r ≡ Ok t
 elements_read (Ok x) t e = (let q : ◌≡◌ {A = Result Tree TableFault} (Ok x) (Ok t) = e in let same : x ≡ t = cc in ap (λ (y : Tree). Ok y) same)
 elements_read (Err f) t e = absurd cc
 

@@ -204,7 +204,7 @@ listed_table l root t listed e =
     let g = bind_ok (performances_of l.alternatives l.criteria.ids root) _ t e in
     table_of_is g.0 l.criteria l.alternatives.kept (length l.categories.ranks) t (given_amounts l.alternatives l.criteria.ids root g.0 g.1) are.criteria.ids are.alternatives are.ranked.few g.2
 
-content_table : (best_first : Bool) (root : Tree) (i : Input) → content best_first root ≡ Ok i → IsTable i.table
+pub content_table : (best_first : Bool) (root : Tree) (i : Input) → content best_first root ≡ Ok i → IsTable i.table
 unfolding content
 content_table best_first root i e =
     let a = bind_ok (listed_of root) _ i e in

@@ -15,3 +15,4 @@ pub mod Content
 pub mod Input
 pub mod Laws
 pub mod Meaning
+pub mod Readable

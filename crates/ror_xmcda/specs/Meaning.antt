@@ -113,11 +113,15 @@ pub record IsKnownGroup (root group : Tree) : Type 0 where
       (λ t. is_id_of (listed_criteria root) (child_text (codes "criterionID") t) ≡ true)
       (named (codes "performance") group)
 
--- the elements that are performances of an alternative on a criterion, by their ids
-unfoldable pub performances_of : Tree → List ℕ → List ℕ → List Tree
-performances_of root alternative criterion =
+-- the elements of some groups that are performances of an alternative on a criterion, by their ids
+abbrev pub performances_in : List ℕ → List ℕ → List Tree → List Tree
+performances_in alternative criterion groups =
     flat_map (λ group. filter (names (codes "criterionID") criterion) (named (codes "performance") group))
-    (filter (names (codes "alternativeID") alternative) (performance_groups root))
+    (filter (names (codes "alternativeID") alternative) groups)
+
+-- the same of all groups
+unfoldable pub performances_of : Tree → List ℕ → List ℕ → List Tree
+performances_of root alternative criterion = performances_in alternative criterion (performance_groups root)
 
 -- what stands first in an element's first `value` is this number
 pub record HasNumber (t : Tree) (p : Amount) : Type 0 where

@@ -2,6 +2,7 @@
 
 ghost use Rattle.ror_xmcda.specs.Laws.{InputsAreLawful, PlainTablesAreRead, OpeningsAreOrdered, ClassesGoByRank, ClassesAreTurned, TablesAreTheSame, OpeningsAreTurned, FaultsAreTheSame, InputsHaveTables};
 ghost use Rattle.ror_xmcda.specs.Meaning.{ContentsAreMeant, InputsMeanTheirFiles, TreesSayOneInput};
+ghost use Rattle.ror_xmcda.specs.Readable.{ContentsAreRead, FilesAreRead};
 
 /// The statements of an input name what its table has, and are at most 200, of at most 2,000 rows.
 pub fn inputs_are_lawful()
@@ -43,4 +44,11 @@ pub fn inputs_mean_their_files()
     ensures content { ContentsAreMeant }
     ensures file { InputsMeanTheirFiles }
     ensures one { TreesSayOneInput }
+{}
+
+/// An XMCDA file is read exactly where it is no longer than may be and its elements say an input within the limits: then
+/// that input is read of it, and any other such file is refused.
+pub fn files_are_read_where_they_say_an_input()
+    ensures content { ContentsAreRead }
+    ensures file { FilesAreRead }
 {}
