@@ -25,3 +25,9 @@ pub mod ReadableListing
 pub mod ReadableTable
 pub mod ReadableOpening
 pub mod ReadableWhole
+pub mod AgreeLemmas
+pub mod AgreeListing
+pub mod AgreeTable
+pub mod AgreeMade
+pub mod AgreeOpening
+pub mod AgreeWhole

@@ -16,3 +16,4 @@ pub mod Input
 pub mod Laws
 pub mod Meaning
 pub mod Readable
+pub mod Faults

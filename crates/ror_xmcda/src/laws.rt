@@ -2,6 +2,7 @@
 
 ghost use Rattle.ror_xmcda.specs.Laws.{InputsAreLawful, PlainTablesAreRead, OpeningsAreOrdered, ClassesGoByRank, ClassesAreTurned, TablesAreTheSame, OpeningsAreTurned, FaultsAreTheSame, InputsHaveTables};
 ghost use Rattle.ror_xmcda.specs.Meaning.{ContentsAreMeant, InputsMeanTheirFiles, TreesSayOneInput};
+ghost use Rattle.ror_xmcda.specs.Faults.{FirstFaultsAreGiven, WhatHasNoFaultIsRead, FirstFaultsOfFilesAreGiven};
 ghost use Rattle.ror_xmcda.specs.Readable.{ContentsAreRead, FilesAreRead};
 
 /// The statements of an input name what its table has, and are at most 200, of at most 2,000 rows.
@@ -51,4 +52,12 @@ pub fn inputs_mean_their_files()
 pub fn files_are_read_where_they_say_an_input()
     ensures content { ContentsAreRead }
     ensures file { FilesAreRead }
+{}
+
+/// Of a document that is not read the first fault is given: section by section, in each by the order of its elements, and
+/// of an element by the order of its tests. A document that has none is read.
+pub fn first_faults_are_given()
+    ensures content { FirstFaultsAreGiven }
+    ensures none { WhatHasNoFaultIsRead }
+    ensures file { FirstFaultsOfFilesAreGiven }
 {}

@@ -10,7 +10,8 @@
 //! decimal, `rational` a whole number over another, which may be negative. No criterion of an XMCDA file is linear.
 //!
 //! The definitions stand in `specs/`, a file for each pass; `Content` puts the passes together, and `Input` says which
-//! form a file has. Beside the passes, `Meaning` tells of a whole file what it says, and `Readable` which files are read.
+//! form a file has. Beside the passes, `Meaning` tells of a whole file what it says, `Readable` which files are read, and
+//! `Faults` which fault is the first.
 //!
 //! ```
 //! let input = read_input(alloc, bytes, false)?;
