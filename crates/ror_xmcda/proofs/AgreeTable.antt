@@ -19,7 +19,7 @@ use Rattle.ror_xmcda.specs.Listing.{standing_at, standing_in}
 use Rattle.ror_xmcda.specs.Numbers.{number_of}
 use Rattle.ror_xmcda.specs.Performances.{Place, Given, given_at, first_inside, value_of, kept_performance, performance_at, performance, performances, performances_of}
 use Rattle.ror_xmcda.specs.Meaning.{active, is_text, listed_alternatives, listed_criteria, child_text, is_id_of, performance_groups, performances_in, HasNumber}
-use Rattle.ror_xmcda.specs.Faults.{fault_if, in_order, unknown_faults, number_faults, value_faults, is_active_in, is_repeated, performance_faults, group_faults, all_performance_faults}
+use Rattle.ror_xmcda.specs.Faults.{fault_if, in_order, unknown_faults, number_faults, value_faults, is_active_in, is_given, performance_faults, group_faults, all_performance_faults}
 use Rattle.ror_xmcda.proofs.MeaningLemmas.{IsRosterOf, standing_at_place, standing_listed}
 use Rattle.ror_xmcda.proofs.MeaningOpening.{position-cons}
 use Rattle.ror_xmcda.proofs.MeaningTable.{numbers_at, first_number, given-first, stands, stands_at, AreGiven, taken, taken_more, taken_first, group_more}
@@ -107,25 +107,25 @@ text_there listed r owner None k are e = absurd cc
 text_there listed r owner (Some t) k are e = (text_of t, stands r.kept k (text_of t) (place_of-sound r.kept (text_of t) k (sym (standing_at_place listed r t (Some k) are e))), refl)
 
 active_agrees : (root : Tree) (alternatives criteria : Roster) (groups : List Tree) (group : Tree) (before : List Tree) (t : Tree) (a i : ℕ) (given : Given) → IsIn root alternatives criteria group (Some a) → AreGivenOf alternatives criteria (elements_in groups before (Some a)) given → standing_in criteria t (first_named (codes "criterionID") t) ≡ Ok (Some i)
-    → Agrees (kept_performance given (a, i) t) (value_faults t (first_inside (first_named (codes "value") t)) ++ fault_if (at_line (line_of t) RepeatedPerformance) (is_repeated groups before (child_text (codes "alternativeID") group) (child_text (codes "criterionID") t)))
+    → Agrees (kept_performance given (a, i) t) (value_faults t (first_inside (first_named (codes "value") t)) ++ fault_if (at_line (line_of t) RepeatedPerformance) (is_given groups before (child_text (codes "alternativeID") group) (child_text (codes "criterionID") t)))
 active_agrees root alternatives criteria groups group before t a i given are h on =
     let x = text_there (listed_alternatives root) alternatives group (first_named (codes "alternativeID") group) a are.alternatives_are are.read in
     let y = text_there (listed_criteria root) criteria t (first_named (codes "criterionID") t) i are.criteria_are on in
-    let named_so : is_repeated groups before (child_text (codes "alternativeID") group) (child_text (codes "criterionID") t) ≡ is_repeated groups before (Some x.0) (Some y.0) = ap (λ (o : Option (List ℕ)). is_repeated groups before o (child_text (codes "criterionID") t)) x.2 ∙ ap (is_repeated groups before (Some x.0)) y.2 in
-    let mine : list_any (λ t. true) (elements_in groups before (Some a) a x.0 y.0) ≡ is_repeated groups before (Some x.0) (Some y.0) = ap (λ b. list_any (λ t. true) (performances_in x.0 y.0 groups ++ taken b y.0 before)) (eq-eqb a a refl) in
-    kept_agrees given (a, i) t (is_repeated groups before (child_text (codes "alternativeID") group) (child_text (codes "criterionID") t)) (any_given (a, i) (elements_in groups before (Some a) a x.0 y.0) given (h a i x.0 y.0 x.1 y.1) ∙ mine ∙ sym named_so)
+    let named_so : is_given groups before (child_text (codes "alternativeID") group) (child_text (codes "criterionID") t) ≡ is_given groups before (Some x.0) (Some y.0) = ap (λ (o : Option (List ℕ)). is_given groups before o (child_text (codes "criterionID") t)) x.2 ∙ ap (is_given groups before (Some x.0)) y.2 in
+    let mine : list_any (λ t. true) (elements_in groups before (Some a) a x.0 y.0) ≡ is_given groups before (Some x.0) (Some y.0) = ap (λ b. list_any (λ t. true) (performances_in x.0 y.0 groups ++ taken b y.0 before)) (eq-eqb a a refl) in
+    kept_agrees given (a, i) t (is_given groups before (child_text (codes "alternativeID") group) (child_text (codes "criterionID") t)) (any_given (a, i) (elements_in groups before (Some a) a x.0 y.0) given (h a i x.0 y.0 x.1 y.1) ∙ mine ∙ sym named_so)
 
 performance_agrees : (root : Tree) (alternatives criteria : Roster) (groups : List Tree) (group : Tree) (before : List Tree) (t : Tree) (s : Option ℕ) (given : Given) → IsIn root alternatives criteria group s → AreGivenOf alternatives criteria (elements_in groups before s) given → Agrees (performance criteria s given t) (performance_faults root groups group before t)
 unfolding performance
 performance_agrees root alternatives criteria groups group before t s given are h =
-    let more : List TableFault = value_faults t (first_inside (first_named (codes "value") t)) ++ fault_if (at_line (line_of t) RepeatedPerformance) (is_repeated groups before (child_text (codes "alternativeID") group) (child_text (codes "criterionID") t)) in
+    let more : List TableFault = value_faults t (first_inside (first_named (codes "value") t)) ++ fault_if (at_line (line_of t) RepeatedPerformance) (is_given groups before (child_text (codes "alternativeID") group) (child_text (codes "criterionID") t)) in
     let one : is_active_in (listed_alternatives root) (child_text (codes "alternativeID") group) ≡ is_some s = active_stands (listed_alternatives root) alternatives group (first_named (codes "alternativeID") group) s are.alternatives_are are.read in
     agrees_bind (standing_in criteria t (first_named (codes "criterionID") t)) _ (unknown_faults (listed_criteria root) t (first_named (codes "criterionID") t)) _ (standing_in_agrees (listed_criteria root) criteria t (first_named (codes "criterionID") t) are.criteria_are) (λ c e.
     let other : is_active_in (listed_criteria root) (child_text (codes "criterionID") t) ≡ is_some c = active_stands (listed_criteria root) criteria t (first_named (codes "criterionID") t) c are.criteria_are e in
     subst (λ b. Agrees (performance_at given s c t) (cond b more [])) (sym (ap (λ b. b && is_active_in (listed_criteria root) (child_text (codes "criterionID") t)) one ∙ ap (λ b. is_some s && b) other)) (by s c are h e))
   where
     by : (s c : Option ℕ) → IsIn root alternatives criteria group s → AreGivenOf alternatives criteria (elements_in groups before s) given → standing_in criteria t (first_named (codes "criterionID") t) ≡ Ok c
-        → Agrees (performance_at given s c t) (cond (is_some s && is_some c) (value_faults t (first_inside (first_named (codes "value") t)) ++ fault_if (at_line (line_of t) RepeatedPerformance) (is_repeated groups before (child_text (codes "alternativeID") group) (child_text (codes "criterionID") t))) [])
+        → Agrees (performance_at given s c t) (cond (is_some s && is_some c) (value_faults t (first_inside (first_named (codes "value") t)) ++ fault_if (at_line (line_of t) RepeatedPerformance) (is_given groups before (child_text (codes "alternativeID") group) (child_text (codes "criterionID") t))) [])
     by (Some a) (Some i) are h e = active_agrees root alternatives criteria groups group before t a i given are h e
     by (Some a) None are h e = refl
     by None c are h e = refl

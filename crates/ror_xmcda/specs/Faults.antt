@@ -141,21 +141,30 @@ value_faults t (Some value) = number_faults (number_of value)
 abbrev pub is_active_in : List Tree → Option (List ℕ) → Bool
 is_active_in listed text = is_id_of (filter active listed) text
 
--- an element before it, in the groups before its own or in its own, is a performance of the same alternative on the same criterion
-abbrev pub is_repeated : List Tree → List Tree → Option (List ℕ) → Option (List ℕ) → Bool
-is_repeated groups before (Some alternative) (Some criterion) =
+-- an element before it, in the groups before its own or in its own, is a performance of these two
+abbrev pub is_given : List Tree → List Tree → Option (List ℕ) → Option (List ℕ) → Bool
+is_given groups before (Some alternative) (Some criterion) =
     list_any (λ t. true) (performances_in alternative criterion groups ++ filter (names (codes "criterionID") criterion) before)
-is_repeated groups before (Some alternative) None = false
-is_repeated groups before None criterion = false
+is_given groups before (Some alternative) None = false
+is_given groups before None criterion = false
+
+-- of the alternative that its group names, on the criterion that it names
+abbrev pub is_repeated : List Tree → Tree → List Tree → Tree → Bool
+is_repeated groups group before t =
+    is_given groups before (child_text (codes "alternativeID") group) (child_text (codes "criterionID") t)
+
+-- both of these are active
+abbrev pub counts : Tree → Tree → Tree → Bool
+counts root group t =
+    is_active_in (listed_alternatives root) (child_text (codes "alternativeID") group)
+    && is_active_in (listed_criteria root) (child_text (codes "criterionID") t)
 
 -- of a performance of what is left out nothing more is tested than what it names
 abbrev pub performance_faults : Tree → List Tree → Tree → List Tree → Tree → List TableFault
 performance_faults root groups group before t =
     unknown_faults (listed_criteria root) t (first_named (codes "criterionID") t)
-    ++ (if is_active_in (listed_alternatives root) (child_text (codes "alternativeID") group) && is_active_in (listed_criteria root) (child_text (codes "criterionID") t)
-    then value_faults t (first_inside (first_named (codes "value") t))
-    ++ fault_if (at_line (line_of t) RepeatedPerformance) (is_repeated groups before (child_text (codes "alternativeID") group) (child_text (codes "criterionID") t))
-    else [])
+    ++ (if counts root group t then value_faults t (first_inside (first_named (codes "value") t))
+    ++ fault_if (at_line (line_of t) RepeatedPerformance) (is_repeated groups group before t) else [])
 
 abbrev pub group_faults : Tree → List Tree → Tree → List TableFault
 group_faults root groups group =
