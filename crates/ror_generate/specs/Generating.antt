@@ -1,11 +1,10 @@
 -- What the command that generates an input writes: how many answers of a report of its session have which verdict.
-use Rattle.std.specs.Prelude.{◌≡◌, ◌≢◌, ℕ, ◌+◌, Bool, true, false, List, [], ◌++◌, None, codes, decimal, count_by, nat_lt}
-use Rattle.std.specs.List.{flat_map}
+use Rattle.std.specs.Prelude.{◌≡◌, ℕ, ◌+◌, Bool, true, false, List, [], ◌∷◌, ◌++◌, None, codes, decimal, count_by, nat_lt}
+use Rattle.std.specs.List.{concat, flat_map}
 use Rattle.ror_proof.specs.declared.answer.Verdict.{Verdict}
-use Rattle.ror_proof.specs.declared.answer.Verdict.TheVariants.{Yes, No, Contradiction, Wide}
+use Rattle.ror_proof.specs.declared.answer.Verdict.TheVariants as verdicts
 use Rattle.ror_proof.specs.declared.answer.Answer.{Answer}
 use Rattle.ror_session.specs.declared.session.Line.{Line}
-use Rattle.ror_session.specs.declared.session.Command.TheVariants.{Repair}
 use Rattle.ror_report.specs.declared.block.Block.{Block}
 use Rattle.ror_report.specs.Text.{answers_of}
 use Rattle.ror_bench.specs.declared.report.Accepted.{Accepted}
@@ -15,6 +14,8 @@ use Rattle.ror_bench.specs.Replays.{AreBlocksAt}
 use Rattle.ror_bench.specs.Reports.{accepted_of}
 use Rattle.ror_generate.specs.declared.summary.Verdicts.{Verdicts}
 use Rattle.ror_generate.specs.declared.summary.Summary.{Summary}
+use Rattle.ror_generate.specs.declared.summary.VerdictKind.{VerdictKind}
+use Rattle.ror_generate.specs.declared.summary.VerdictKind.TheVariants as kinds
 use Rattle.ror_frame.specs.Courses.{Output, finish, Chore}
 use Rattle.ror_frame.specs.Statuses.{accepted_text}
 use Rattle.ror_pivot.specs.Answers.{most_of}
@@ -27,37 +28,21 @@ most = most_of B127
 
 -- ---- how many answers have which verdict
 
-abbrev pub is_yes : Verdict → Bool
-is_yes (Yes proof) = true
-is_yes _ = false
-
-abbrev pub is_no : Verdict → Bool
-is_no (No proof) = true
-is_no _ = false
-
-abbrev pub is_contradiction : Verdict → Bool
-is_contradiction (Contradiction proof) = true
-is_contradiction _ = false
-
-abbrev pub is_too_wide : Verdict → Bool
-is_too_wide (Wide system note) = true
-is_too_wide _ = false
+-- the verdict is of this kind
+abbrev pub is_kind : VerdictKind → Verdict → Bool
+is_kind kinds.Yes (verdicts.Yes proof) = true
+is_kind kinds.No (verdicts.No proof) = true
+is_kind kinds.Contradiction (verdicts.Contradiction proof) = true
+is_kind kinds.Wide (verdicts.Wide system note) = true
+is_kind _ _ = false
 
 -- so many of answers
 abbrev pub verdicts_of : List Answer → Verdicts
 verdicts_of xs = record {
-  yes = count_by (λ x. is_yes x.verdict) xs;
-  no = count_by (λ x. is_no x.verdict) xs;
-  contradiction = count_by (λ x. is_contradiction x.verdict) xs;
-  wide = count_by (λ x. is_too_wide x.verdict) xs;
-}
-
-abbrev pub both_verdicts : Verdicts → Verdicts → Verdicts
-both_verdicts v w = record {
-  yes = v.yes + w.yes;
-  no = v.no + w.no;
-  contradiction = v.contradiction + w.contradiction;
-  wide = v.wide + w.wide;
+  yes = count_by (λ x. is_kind kinds.Yes x.verdict) xs;
+  no = count_by (λ x. is_kind kinds.No x.verdict) xs;
+  contradiction = count_by (λ x. is_kind kinds.Contradiction x.verdict) xs;
+  wide = count_by (λ x. is_kind kinds.Wide x.verdict) xs;
 }
 
 -- the answers of all blocks, in order
@@ -66,24 +51,12 @@ answers_in blocks = flat_map (λ block. answers_of block.body) blocks
 
 -- ---- the summary
 
--- of which number it is
-abbrev pub generated_line : ℕ → List ℕ
-generated_line number = codes "generated " ++ decimal number ++ codes " lines 18\n"
-
--- how many answers have which verdict
-unfoldable pub decided_text : ℕ → ℕ → List ℕ
-decided_text positive negative =
-    codes "yes " ++ decimal positive ++ codes " no " ++ decimal negative
-
-abbrev pub wide_text : ℕ → List ℕ
-wide_text wide = codes " wide " ++ decimal wide ++ codes "\n"
-
-abbrev pub undecided_text : ℕ → ℕ → List ℕ
-undecided_text contradiction wide =
-    (codes " contradiction " ++ decimal contradiction) ++ wide_text wide
-
-abbrev pub verdict_line : Verdicts → List ℕ
-verdict_line v = decided_text v.yes v.no ++ undecided_text v.contradiction v.wide
+-- of which number it is, and how many answers have which verdict
+unfoldable pub verdict_lines : ℕ → Verdicts → List ℕ
+verdict_lines number v =
+    concat (codes "generated " ∷ decimal number ∷ codes " lines 18\n"
+    ∷ codes "yes " ∷ decimal v.yes ∷ codes " no " ∷ decimal v.no
+    ∷ codes " contradiction " ∷ decimal v.contradiction ∷ codes " wide " ∷ decimal v.wide ∷ codes "\n" ∷ [])
 
 -- how many are accepted: those that have a verdict
 abbrev pub accepted_by : Verdicts → Accepted
@@ -91,29 +64,29 @@ accepted_by v = record { answers = v.yes + v.no + v.contradiction; wide = v.wide
 
 -- its three lines
 abbrev pub summary_text : ℕ → Verdicts → List ℕ
-summary_text number v =
-    (generated_line number ++ verdict_line v) ++ accepted_text (accepted_by v)
+summary_text number v = verdict_lines number v ++ accepted_text (accepted_by v)
 
--- The text is the summary of a report of the session that the number generates, at 127 bits. As many answers of it have a
--- proof, and are true of all compatible value functions, as have a verdict; as many are too wide as have none; and this is
--- whether any is.
-pub record IsSummaryOf (number : ℕ) (text : List ℕ) (wide : Bool) : Type 0 where
+-- the bench of the session that the number generates
+abbrev pub bench_from : ℕ → Workbench
+bench_from number = bench_for (generated number).input (generated number).session
+
+-- These are the verdicts of a report of the session that the number generates, at 127 bits. As many answers of it have a
+-- proof, and are true of all compatible value functions, as have a verdict; as many are too wide as have none.
+pub record AreVerdictsFrom (number : ℕ) (verdicts : Verdicts) : Type 0 where
   pub report : List ℕ
   pub accepted : Accepted
-  pub is : IsReportOf most (bench_for (generated number).input (generated number).session)
-      (generated number).session.lines report accepted
-  pub verdicts : Verdicts
+  pub is : IsReportOf most (bench_from number) (generated number).session.lines report accepted
   pub counted : verdicts ≡ verdicts_of (answers_in is.given.blocks)
-  pub text_is : text ≡ summary_text number verdicts
   pub agrees : accepted ≡ accepted_by verdicts
-  pub wide_is : wide ≡ nat_lt 0 verdicts.wide
 
--- The summary of a number. Where a write fails a front of it stands there, and where memory runs out nothing.
+-- The summary of a number, and whether any answer is too wide. Where a write fails a front of it stands there, and where memory
+-- runs out nothing.
 abbrev pub summary_output : ℕ → Output
 summary_output number = record {
   tells = None;
-  Whole = λ wide text. IsSummaryOf number text wide;
-  Begun = λ text. (wide : Bool) × IsSummaryOf number text wide;
+  Whole = λ wide text. (v : Verdicts) × AreVerdictsFrom number v × (text ≡ summary_text number v)
+      × (wide ≡ nat_lt 0 v.wide);
+  Begun = λ text. (v : Verdicts) × AreVerdictsFrom number v × (text ≡ summary_text number v);
   keeps_front = false;
 }
 
@@ -123,14 +96,14 @@ generate_chore number = record { files = []; course = finish (summary_output num
 
 -- ---- its steps
 
--- the line asks for no repair
-abbrev pub IsNoRepair : Line → Type 0
-IsNoRepair line = line.command ≢ Repair
+-- so many verdicts, and as many answers accepted
+abbrev pub IsSummaryFrom : ℕ → Summary → Type 0
+IsSummaryFrom number summary =
+    AreVerdictsFrom number summary.verdicts × (summary.accepted ≡ accepted_by summary.verdicts)
 
--- the verdicts of the blocks of these lines, and what the check of the blocks has counted
-pub record IsSummed (bench : Workbench) (lines : List Line) (summary : Summary) : Type 0 where
+-- the answers of the blocks of these lines, in order, and what the check of the blocks has counted
+pub record AreAnswersTo (bench : Workbench) (lines : List Line) (answers : List Answer) (accepted : Accepted) : Type 0 where
   pub blocks : List Block
   pub made : AreBlocksAt most bench lines blocks
-  pub verdicts : summary.verdicts ≡ verdicts_of (answers_in blocks)
-  pub accepted : summary.accepted ≡ accepted_of blocks
-  pub agrees : summary.accepted ≡ accepted_by summary.verdicts
+  pub answers_are : answers ≡ answers_in blocks
+  pub accepted_are : accepted ≡ accepted_of blocks

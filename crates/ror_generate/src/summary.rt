@@ -1,24 +1,23 @@
 //! A try of the whole on a generated input: its session is replayed, each block is checked by a second bench, and the
 //! verdicts are counted.
 
-ghost use Rattle.std.specs.Prelude.{◌≡◌, ◌+◌, ◌-◌, ◌<◌, ◌≤◌, ◌^◌, ◌++◌, length, decimal, OnOk, IfOk};
+ghost use Rattle.std.specs.Prelude.{◌≡◌, ◌+◌, ◌-◌, ◌<◌, ◌≤◌, ◌^◌, [], ◌++◌, length, count_by, OnOk, IfOk};
 ghost use Rattle.std.specs.List.{AllByRecursion};
-ghost use Rattle.ror_session.specs.declared.limits.TheConstants.{MOST_LINES};
 ghost use Rattle.ror_report.specs.Text.{answers_of, IsPrintableBlock};
 ghost use Rattle.ror_bench.specs.Allowed.{given_at};
 ghost use Rattle.ror_bench.specs.Bench.{revisions_at, HoldTheSame, LeavesNumbers};
 ghost use Rattle.ror_bench.specs.Blocks.{IsBlockOf, passed_of, with_block};
+ghost use Rattle.ror_bench.specs.Steps.{with_passed};
+ghost use Rattle.ror_session.specs.declared.limits.TheConstants.{MOST_LINES};
 ghost use Rattle.ror_bench.specs.Reports.{NamesADesk};
 ghost use Rattle.ror_history.specs.History.{next_number};
-ghost use Rattle.ror_bench.specs.Generated.{generated};
 ghost use Rattle.ror_bench.specs.declared.bench.BlockFault.TheVariants.{Memory};
 ghost use Rattle.ror_bench.specs.declared.generated.TheConstants.{MOST_GENERATED};
-ghost use Rattle.ror_frame.specs.Inputs.{bench_for};
 ghost use Rattle.ror_frame.specs.Courses.{WritesDue};
-ghost use Rattle.ror_generate.specs.Generating.{verdicts_of, both_verdicts, accepted_by, generated_line, decided_text, undecided_text, wide_text, verdict_line, summary_text, summary_output, IsNoRepair, IsSummed};
 ghost use Rattle.ror_frame.specs.Printing.{Prints};
-ghost use Rattle.ror_generate.specs.Generating.{most};
 ghost use Rattle.ror_frame.specs.States.{sink_state};
+ghost use Rattle.ror_io.specs.Writing.{joined};
+ghost use Rattle.ror_generate.specs.Generating.{most, is_kind, verdicts_of, verdict_lines, summary_text, summary_output, accepted_by, bench_from, IsSummaryFrom, AreAnswersTo};
 
 use itoa::Buffer;
 use ror_bench::{Accepted, Bench, BlockFault, Generated, Passed, generate_input};
@@ -46,12 +45,14 @@ pub struct Summary {
     pub accepted: Accepted,
 }
 
-const NO_VERDICTS: Verdicts = Verdicts {
-    yes: 0,
-    no: 0,
-    contradiction: 0,
-    wide: 0,
-};
+/// The kinds of verdicts.
+#[derive(Clone, Copy)]
+enum VerdictKind {
+    Yes,
+    No,
+    Contradiction,
+    Wide,
+}
 
 const NONE_ACCEPTED: Accepted = Accepted {
     answers: 0,
@@ -70,45 +71,92 @@ pub fn generate<O: Sink>(alloc: Global, number: u32, out: &mut O) -> Result<bool
     Ok(summary.verdicts.wide > 0)
 }
 
-/// The verdicts of a report of the session that a number generates, and what the check of its blocks has counted.
+/// The verdicts of a report of the session that a number generates, and what a second bench has counted in it.
 fn summed(alloc: Global, number: u32) -> Result<Summary, AllocError>
     requires { number ≤ MOST_GENERATED }
-    ensures { IfOk result (IsSummed (bench_for (generated number).input (generated number).session)
-        (generated number).session.lines) }
+    ensures { IfOk result (IsSummaryFrom number) }
 {
-    let Generated { input, session } = generate_input(alloc, number)?;
-    let again = generate_input(alloc, number)?;
-    let desks = session.desks.len() as u32;
-    let mut bench = Bench::new(alloc, input, desks)?;
-    let mut checks = Bench::new(alloc, again.input, desks)?;
-    summed_lines(&mut bench, &mut checks, session.lines.as_slice())
+    let mut bench = generated_bench(alloc, number)?;
+    summed_at(alloc, number, &mut bench)
 }
 
-/// Does the lines at one bench and checks their blocks at another, which holds the same.
-fn summed_lines(
+/// The same, at this bench.
+fn summed_at(alloc: Global, number: u32, bench: &mut Bench) -> Result<Summary, AllocError>
+    requires number { number ≤ MOST_GENERATED }
+    requires bench { bench.old ≡ bench_from number }
+    ensures { IfOk result (IsSummaryFrom number) }
+{
+    let mut checks = generated_bench(alloc, number)?;
+    summed_by(alloc, number, bench, &mut checks)
+}
+
+/// The bench of the input that a number generates.
+#[tactic(auto, using(crate::proofs::Summaries::one_desk))]
+fn generated_bench(alloc: Global, number: u32) -> Result<Bench, AllocError>
+    requires { number ≤ MOST_GENERATED }
+    ensures { IfOk result (λ bench. bench ≡ bench_from number) }
+{
+    let Generated { input, session } = generate_input(alloc, number)?;
+    Bench::new(alloc, input, session.desks.len() as u32)
+}
+
+/// The same, where another bench checks the blocks.
+fn summed_by(
+    alloc: Global,
+    number: u32,
+    bench: &mut Bench,
+    checks: &mut Bench,
+) -> Result<Summary, AllocError>
+    requires number { number ≤ MOST_GENERATED }
+    requires bench { bench.old ≡ bench_from number }
+    requires checks { checks.old ≡ bench_from number }
+    ensures { IfOk result (IsSummaryFrom number) }
+{
+    let generated = generate_input(alloc, number)?;
+    let mut answers = Vec::new(alloc);
+    let lines = generated.session.lines.as_slice();
+    let accepted = put_answers(bench, checks, lines, &mut answers)?;
+    let verdicts = verdicts_of(answers.as_slice());
+    Ok(Summary { verdicts, accepted })
+}
+
+/// Does the lines at one bench, and puts all answers into the list. It gives what another bench, which holds the same, counts in
+/// the blocks.
+fn put_answers(
     bench: &mut Bench,
     checks: &mut Bench,
     lines: &[Line],
-) -> Result<Summary, AllocError>
+    answers: &mut Vec<Answer>,
+) -> Result<Accepted, AllocError>
     requires same { HoldTheSame checks.old bench.old }
     requires desks { AllByRecursion (NamesADesk (length bench.old.state)) lines.now }
     requires numbers { AllByRecursion (LeavesNumbers (length lines.now)) bench.old.state }
     requires few { length lines.now ≤ MOST_LINES }
-    requires no_repair { AllByRecursion IsNoRepair lines.now }
-    ensures { IfOk result (IsSummed bench.old lines.now) }
+    requires none { answers.old.items ≡ [] }
+    ensures { IfOk result (AreAnswersTo bench.old lines.now answers.new.items) }
 {
-    let mut verdicts = NO_VERDICTS;
     let mut accepted = NONE_ACCEPTED;
     for line in lines {
         let (block, passed) = checked_block(bench, checks, line)?;
-        verdicts = verdicts.with(block_verdicts(&block));
-        accepted.answers += u64::from(passed.answers);
-        accepted.wide += u64::from(passed.wide);
+        put_all(answers, block)?;
+        accepted = with_passed(accepted, passed);
     }
-    Ok(Summary { verdicts, accepted })
+    Ok(accepted)
 }
 
-/// The block of a line at one bench, and what is counted where another, which holds the same, checks it.
+/// What is counted with one block more.
+fn with_passed(accepted: Accepted, passed: Passed) -> Accepted
+    requires answers { accepted.answers + passed.answers < 2 ^ 64 }
+    requires wide { accepted.wide + passed.wide < 2 ^ 64 }
+    ensures { result ≡ with_passed accepted passed }
+{
+    Accepted {
+        answers: accepted.answers + u64::from(passed.answers),
+        wide: accepted.wide + u64::from(passed.wide),
+    }
+}
+
+/// The block of a line at one bench, and what another, which holds the same, counts where it accepts it.
 fn checked_block(
     bench: &mut Bench,
     checks: &mut Bench,
@@ -140,127 +188,88 @@ fn out_of_memory(fault: &BlockFault) -> AllocError
     AllocError
 }
 
-impl Verdicts {
-    /// Those of both.
-    fn with(self, other: Verdicts) -> Verdicts
-        requires yes { self.yes + other.yes < 2 ^ 64 }
-        requires no { self.no + other.no < 2 ^ 64 }
-        requires contradiction { self.contradiction + other.contradiction < 2 ^ 64 }
-        requires wide { self.wide + other.wide < 2 ^ 64 }
-        ensures { result ≡ both_verdicts self other }
-    {
-        Verdicts {
-            yes: self.yes + other.yes,
-            no: self.no + other.no,
-            contradiction: self.contradiction + other.contradiction,
-            wide: self.wide + other.wide,
-        }
-    }
-}
-
-/// The verdicts of a block's answers.
-fn block_verdicts(block: &Block) -> Verdicts
-    ensures { result ≡ verdicts_of (answers_of block.now.body) }
+/// Puts the answers of a block behind these.
+fn put_all(answers: &mut Vec<Answer>, block: Block) -> Result<(), AllocError>
+    ensures { OnOk result (answers.new.items ≡ answers.old.items ++ answers_of block.body) }
 {
-    match &block.body {
-        Body::Answers(answers) => answer_verdicts(answers.as_slice()),
-        _ => NO_VERDICTS,
+    match block.body {
+        Body::Answers(more) => answers.append(&mut more.into_vec()),
+        _ => Ok(()),
     }
 }
 
-/// The verdicts of answers.
-fn answer_verdicts(answers: &[Answer]) -> Verdicts
+/// How many of the answers have which verdict.
+fn verdicts_of(answers: &[Answer]) -> Verdicts
     ensures { result ≡ verdicts_of answers.now }
 {
-    let mut verdicts = NO_VERDICTS;
-    for answer in answers {
-        match &answer.verdict {
-            Verdict::Yes(_) => verdicts.yes += 1,
-            Verdict::No(_) => verdicts.no += 1,
-            Verdict::Contradiction(_) => verdicts.contradiction += 1,
-            Verdict::Wide { .. } => verdicts.wide += 1,
-        }
+    Verdicts {
+        yes: count(answers, VerdictKind::Yes),
+        no: count(answers, VerdictKind::No),
+        contradiction: count(answers, VerdictKind::Contradiction),
+        wide: count(answers, VerdictKind::Wide),
     }
-    verdicts
+}
+
+/// How many of the answers have a verdict of this kind.
+fn count(answers: &[Answer], kind: VerdictKind) -> u64
+    ensures { result ≡ count_by (λ x. is_kind kind x.verdict) answers.now }
+{
+    answers.iter().filter(|x| is_kind(kind, &x.verdict)).count() as u64
+}
+
+fn is_kind(kind: VerdictKind, verdict: &Verdict) -> bool
+    ensures { result ≡ is_kind kind verdict.now }
+{
+    match (kind, verdict) {
+        (VerdictKind::Yes, Verdict::Yes(_)) => true,
+        (VerdictKind::No, Verdict::No(_)) => true,
+        (VerdictKind::Contradiction, Verdict::Contradiction(_)) => true,
+        (VerdictKind::Wide, Verdict::Wide { .. }) => true,
+        _ => false,
+    }
 }
 
 /// Writes the three lines of the summary. To write them takes no memory.
 fn write_summary<S: Sink>(sink: &mut S, number: u32, summary: &Summary) -> Result<(), SinkFault>
     requires { summary.now.accepted ≡ accepted_by summary.now.verdicts }
-    ensures { Prints (S.faults sink.old) (S.faults sink.new)
-        (S.written sink.old) (S.written sink.new)
+    ensures { Prints (S.faults sink.old) (S.faults sink.new) (S.written sink.old) (S.written sink.new)
         (summary_text number summary.now.verdicts) result }
 {
-    write_generated(sink, number)?;
-    write_verdicts(sink, summary.verdicts)?;
+    write_verdicts(sink, number, summary.verdicts)?;
     write_accepted(sink, summary.accepted)
 }
 
-/// Writes the line that says of which number the summary is.
-fn write_generated<S: Sink>(sink: &mut S, number: u32) -> Result<(), SinkFault>
+/// Writes of which number the summary is, and the line of the verdicts.
+fn write_verdicts<S: Sink>(sink: &mut S, number: u32, verdicts: Verdicts) -> Result<(), SinkFault>
     ensures { Prints (S.faults sink.old) (S.faults sink.new)
-        (S.written sink.old) (S.written sink.new) (generated_line number) result }
+        (S.written sink.old) (S.written sink.new) (verdict_lines number verdicts) result }
 {
-    let mut digits = Buffer::new();
-    write_pieces(
+    let mut generated = Buffer::new();
+    let mut yes = Buffer::new();
+    let mut no = Buffer::new();
+    let mut contradiction = Buffer::new();
+    let mut wide = Buffer::new();
+    write_joined(
         sink,
         &[
             b"generated ",
-            digits.format(number).as_bytes(),
-            b" lines 18\n",
-        ],
-    )
-}
-
-/// Writes the line of the verdicts.
-fn write_verdicts<S: Sink>(sink: &mut S, verdicts: Verdicts) -> Result<(), SinkFault>
-    ensures { Prints (S.faults sink.old) (S.faults sink.new)
-        (S.written sink.old) (S.written sink.new) (verdict_line verdicts) result }
-{
-    write_decided(sink, verdicts.yes, verdicts.no)?;
-    write_undecided(sink, verdicts.contradiction, verdicts.wide)
-}
-
-/// Writes how many answers are yes and how many no.
-#[tactic(auto, unfolding(crate::specs::Generating::decided_text))]
-fn write_decided<S: Sink>(sink: &mut S, yes: u64, no: u64) -> Result<(), SinkFault>
-    ensures { Prints (S.faults sink.old) (S.faults sink.new)
-        (S.written sink.old) (S.written sink.new) (decided_text yes no) result }
-{
-    let mut first = Buffer::new();
-    let mut second = Buffer::new();
-    write_pieces(
-        sink,
-        &[
-            b"yes ",
-            first.format(yes).as_bytes(),
+            generated.format(number).as_bytes(),
+            b" lines 18\nyes ",
+            yes.format(verdicts.yes).as_bytes(),
             b" no ",
-            second.format(no).as_bytes(),
+            no.format(verdicts.no).as_bytes(),
+            b" contradiction ",
+            contradiction.format(verdicts.contradiction).as_bytes(),
+            b" wide ",
+            wide.format(verdicts.wide).as_bytes(),
+            b"\n",
         ],
     )
 }
 
-/// Writes how many answers are contradictions and how many too wide, and the end of the line.
-fn write_undecided<S: Sink>(sink: &mut S, contradiction: u64, wide: u64) -> Result<(), SinkFault>
+fn write_joined<S: Sink>(sink: &mut S, pieces: &[&[u8]]) -> Result<(), SinkFault>
     ensures { Prints (S.faults sink.old) (S.faults sink.new)
-        (S.written sink.old) (S.written sink.new) (undecided_text contradiction wide) result }
+        (S.written sink.old) (S.written sink.new) (joined pieces.now) result }
 {
-    write_count(sink, b" contradiction ", contradiction)?;
-    write_wide(sink, wide)
-}
-
-/// Writes a count after a text.
-fn write_count<S: Sink>(sink: &mut S, before: &[u8], count: u64) -> Result<(), SinkFault>
-    ensures { Prints (S.faults sink.old) (S.faults sink.new)
-        (S.written sink.old) (S.written sink.new) (before.now ++ decimal count) result }
-{
-    write_pieces(sink, &[before, Buffer::new().format(count).as_bytes()])
-}
-
-fn write_wide<S: Sink>(sink: &mut S, wide: u64) -> Result<(), SinkFault>
-    ensures { Prints (S.faults sink.old) (S.faults sink.new)
-        (S.written sink.old) (S.written sink.new) (wide_text wide) result }
-{
-    let mut digits = Buffer::new();
-    write_pieces(sink, &[b" wide ", digits.format(wide).as_bytes(), b"\n"])
+    write_pieces(sink, pieces)
 }
