@@ -14,13 +14,14 @@ use Rattle.ror_words.specs.Commands.{Row, table}
 use Rattle.ror_words.specs.Words.{Given, width_text, normal_form, is_number, suits}
 use Rattle.ror_words.specs.Named.{row_with}
 use Rattle.ror_words.specs.Matches.{app_by, app_for, Tells, IsFound, AreForm}
-use Rattle.ror_words.proofs.WordLemmas.{both, has_few, found_keeps, few_taken}
+use Rattle.ror_words.proofs.WordLemmas.{both, has_few, found_keeps}
 
 -- ---- what stands in the matches
 
 pub record IsRead (app : App) (words : List Text) (given : Given) : Type 0 where
   pub taken : takes app words ≡ true
   pub names : all_of (codes "names") (matches_of app words) ≡ Some given.names
+  pub few : length given.names ≤ 3
   pub bits : first_of (codes "bits") (matches_of app words) ≡ option_map width_text given.bits
   pub best_first : Tells (one_of (codes "best-first") (matches_of app words)) given.best_first
 
@@ -34,33 +35,15 @@ shape word tb tf [] b f bits best some few = absurd (omega (arith, some))
 shape word tb tf (x ∷ y ∷ z ∷ w ∷ names) b f bits best some few = absurd (omega (arith, few))
 shape word false tf names (Some b) f bits best some few = absurd cc
 shape word tb false names b true bits best some few = absurd cc
-shape word false false (x ∷ []) None false bits best some few = record { taken = refl; names = refl; bits = refl; best_first = inr (refl, refl) }
-shape word false true (x ∷ []) None false bits best some few = record { taken = refl; names = refl; bits = refl; best_first = inl refl }
-shape word false true (x ∷ []) None true bits best some few = record { taken = refl; names = refl; bits = refl; best_first = inl refl }
-shape word true false (x ∷ []) None false bits best some few = record { taken = refl; names = refl; bits = refl; best_first = inr (refl, refl) }
-shape word true true (x ∷ []) None false bits best some few = record { taken = refl; names = refl; bits = refl; best_first = inl refl }
-shape word true true (x ∷ []) None true bits best some few = record { taken = refl; names = refl; bits = refl; best_first = inl refl }
-shape word true false (x ∷ []) (Some b) false bits best some few = record { taken = refl; names = refl; bits = refl; best_first = inr (refl, refl) }
-shape word true true (x ∷ []) (Some b) false bits best some few = record { taken = refl; names = refl; bits = refl; best_first = inl refl }
-shape word true true (x ∷ []) (Some b) true bits best some few = record { taken = refl; names = refl; bits = refl; best_first = inl refl }
-shape word false false (x ∷ y ∷ []) None false bits best some few = record { taken = refl; names = refl; bits = refl; best_first = inr (refl, refl) }
-shape word false true (x ∷ y ∷ []) None false bits best some few = record { taken = refl; names = refl; bits = refl; best_first = inl refl }
-shape word false true (x ∷ y ∷ []) None true bits best some few = record { taken = refl; names = refl; bits = refl; best_first = inl refl }
-shape word true false (x ∷ y ∷ []) None false bits best some few = record { taken = refl; names = refl; bits = refl; best_first = inr (refl, refl) }
-shape word true true (x ∷ y ∷ []) None false bits best some few = record { taken = refl; names = refl; bits = refl; best_first = inl refl }
-shape word true true (x ∷ y ∷ []) None true bits best some few = record { taken = refl; names = refl; bits = refl; best_first = inl refl }
-shape word true false (x ∷ y ∷ []) (Some b) false bits best some few = record { taken = refl; names = refl; bits = refl; best_first = inr (refl, refl) }
-shape word true true (x ∷ y ∷ []) (Some b) false bits best some few = record { taken = refl; names = refl; bits = refl; best_first = inl refl }
-shape word true true (x ∷ y ∷ []) (Some b) true bits best some few = record { taken = refl; names = refl; bits = refl; best_first = inl refl }
-shape word false false (x ∷ y ∷ z ∷ []) None false bits best some few = record { taken = refl; names = refl; bits = refl; best_first = inr (refl, refl) }
-shape word false true (x ∷ y ∷ z ∷ []) None false bits best some few = record { taken = refl; names = refl; bits = refl; best_first = inl refl }
-shape word false true (x ∷ y ∷ z ∷ []) None true bits best some few = record { taken = refl; names = refl; bits = refl; best_first = inl refl }
-shape word true false (x ∷ y ∷ z ∷ []) None false bits best some few = record { taken = refl; names = refl; bits = refl; best_first = inr (refl, refl) }
-shape word true true (x ∷ y ∷ z ∷ []) None false bits best some few = record { taken = refl; names = refl; bits = refl; best_first = inl refl }
-shape word true true (x ∷ y ∷ z ∷ []) None true bits best some few = record { taken = refl; names = refl; bits = refl; best_first = inl refl }
-shape word true false (x ∷ y ∷ z ∷ []) (Some b) false bits best some few = record { taken = refl; names = refl; bits = refl; best_first = inr (refl, refl) }
-shape word true true (x ∷ y ∷ z ∷ []) (Some b) false bits best some few = record { taken = refl; names = refl; bits = refl; best_first = inl refl }
-shape word true true (x ∷ y ∷ z ∷ []) (Some b) true bits best some few = record { taken = refl; names = refl; bits = refl; best_first = inl refl }
+shape word false false names None false bits best some few = record { taken = refl; names = refl; few = few; bits = refl; best_first = inr (refl, refl) }
+shape word true false names None false bits best some few = record { taken = refl; names = refl; few = few; bits = refl; best_first = inr (refl, refl) }
+shape word true false names (Some b) false bits best some few = record { taken = refl; names = refl; few = few; bits = refl; best_first = inr (refl, refl) }
+shape word false true names None false bits best some few = record { taken = refl; names = refl; few = few; bits = refl; best_first = inl refl }
+shape word false true names None true bits best some few = record { taken = refl; names = refl; few = few; bits = refl; best_first = inl refl }
+shape word true true names None false bits best some few = record { taken = refl; names = refl; few = few; bits = refl; best_first = inl refl }
+shape word true true names None true bits best some few = record { taken = refl; names = refl; few = few; bits = refl; best_first = inl refl }
+shape word true true names (Some b) false bits best some few = record { taken = refl; names = refl; few = few; bits = refl; best_first = inl refl }
+shape word true true names (Some b) true bits best some few = record { taken = refl; names = refl; few = few; bits = refl; best_first = inl refl }
 
 form_read : (row : Row) (given : Given) → has_few row ≡ true → suits row given ≡ true → IsRead (app_for row) (normal_form given) given
 form_read row given few taken =
@@ -87,16 +70,12 @@ simple_form row given words form =
 pub form_taken : (row : rows.Row) (given : Given) (words : List Text) → AreForm row given words → takes (app_for (row_with row)) words ≡ true
 form_taken row given words form = (read_of row given words form).taken
 
-told : (o p : Option Text) (f : Bool) → o ≡ p → Tells p f → Tells o f
-told o p f same tells = subst (λ (q : Option Text). Tells q f) (sym same) tells
-
 pub form_found : (row : rows.Row) (given : Given) (words : List Text) (found : Found) → AreForm row given words → rows_of found ≡ matches_of (app_for (row_with row)) words → IsFound given found
 form_found row given words found form same =
     let read = read_of row given words form in
-    let few = (both (bytes_eq row.word.now form.1.0) (has_few (row_with row)) (found_keeps (λ r. bytes_eq r.word form.1.0) has_few table (row_with row) refl form.1.1)).1 in
     record {
       names = raw_values-rows found (codes "names") ∙ ap (all_of (codes "names")) same ∙ read.names;
-      few = few_taken (row_with row) given few form.1.2;
+      few = read.few;
       bits = first_value-rows found (codes "bits") ∙ ap (first_of (codes "bits")) same ∙ read.bits;
-      best_first = told _ _ given.best_first (one_text-rows found (codes "best-first") ∙ ap (one_of (codes "best-first")) same) read.best_first;
+      best_first = subst (λ (q : Option Text). Tells q given.best_first) (sym (one_text-rows found (codes "best-first") ∙ ap (one_of (codes "best-first")) same)) read.best_first;
     }

@@ -45,14 +45,14 @@ abbrev pub names_after : Option (List (List ℕ)) → List (List ℕ)
 names_after None = []
 names_after (Some names) = names
 
--- the words after a command give these names, in order, and these options, each at most once
-pub record AreGiven (words : List (List ℕ)) (given : Given) : Type 0 where
+-- what was given before and the words give these names, in order, and these options, each at most once
+pub record AreGiven (before : Given) (words : List (List ℕ)) (given : Given) : Type 0 where
   pub parts : List Part
   pub last : Option (List (List ℕ))
   pub words_are : words ≡ flat_map written parts ++ ended_by last
   pub plain : list_all is_part parts ≡ true
   pub named : list_all is_named (names_after last) ≡ true
-  pub given_is : with_parts (parts ++ map Name (names_after last)) none_given ≡ Some given
+  pub given_is : with_parts (parts ++ map Name (names_after last)) before ≡ Some given
 
 -- the words ask for the task: the word of a command, and what it takes
 pub record IsInTable (words : List (List ℕ)) (task : Task) : Type 0 where
@@ -62,7 +62,7 @@ pub record IsInTable (words : List (List ℕ)) (task : Task) : Type 0 where
   pub given : Given
   pub words_are : words ≡ word ∷ rest
   pub row_is : row_for word ≡ Some row
-  pub given_is : AreGiven rest given
+  pub given_is : AreGiven none_given rest given
   pub taken : suits row given ≡ true
   pub task_is : task ≡ task_with row given
 
