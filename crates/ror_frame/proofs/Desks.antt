@@ -51,12 +51,12 @@ numbers_left i (suc n) lines lawful few =
 abbrev pub text_of : Workbench → List Line → List Block → List ℕ
 text_of bench lines blocks = header_text ++ (flat_map (block_text bench.table) blocks ++ end_text (length lines))
 
-pub replayed : (most : ℕ) (bench : Workbench) (lines : List Line) (blocks : List Block) → AreBlocksAt most bench lines blocks → IsReplayedReport most bench lines (text_of bench lines blocks) (accepted_of blocks)
+unfoldable pub replayed : (most : ℕ) (bench : Workbench) (lines : List Line) (blocks : List Block) → AreBlocksAt most bench lines blocks → IsReplayedReport most bench lines (text_of bench lines blocks) (accepted_of blocks)
 replayed most bench lines blocks made =
     let count = as_many (IsBlockOf (given_at most) bench.table) bench [] lines blocks made.given in
     record { blocks = blocks; made = made; text = ap (λ n. header_text ++ (flat_map (block_text bench.table) blocks ++ end_text n)) count; counted = refl }
 
-pub reported : (most : ℕ) (bench : Workbench) (lines : List Line) (blocks : List Block) → IsLawfulBench bench → AreBlocksAt most bench lines blocks → IsReportOf most bench lines (text_of bench lines blocks) (accepted_of blocks)
+unfoldable pub reported : (most : ℕ) (bench : Workbench) (lines : List Line) (blocks : List Block) → IsLawfulBench bench → AreBlocksAt most bench lines blocks → IsReportOf most bench lines (text_of bench lines blocks) (accepted_of blocks)
 reported most bench lines blocks lawful made =
     let given = replayed most bench lines blocks made in
     let proved = replayed_proved most bench lines (text_of bench lines blocks) (accepted_of blocks) given in

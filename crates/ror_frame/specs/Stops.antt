@@ -26,12 +26,8 @@ stop_at_table (table_errors.Bad fault) = stops.At (refusals.BadTable fault)
 stop_at_table table_errors.Memory = stops.Memory
 
 abbrev pub stop_at_session : SessionFault → Stop
-stop_at_session session_faults.NotUtf8 = stops.At (refusals.BadSession session_faults.NotUtf8)
-stop_at_session (session_faults.BadLine n) = stops.At (refusals.BadSession (session_faults.BadLine n))
-stop_at_session session_faults.TooManyLines = stops.At (refusals.BadSession session_faults.TooManyLines)
-stop_at_session session_faults.TooLong = stops.At (refusals.BadSession session_faults.TooLong)
-stop_at_session (session_faults.TooManyDesks n) = stops.At (refusals.BadSession (session_faults.TooManyDesks n))
 stop_at_session session_faults.Memory = stops.Memory
+stop_at_session fault = stops.At (refusals.BadSession fault)
 
 abbrev pub stop_at_report : ReportError → Stop
 stop_at_report (report_errors.Rejected rejection) = stops.At (refusals.Rejected rejection)
