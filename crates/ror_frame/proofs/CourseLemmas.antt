@@ -1,14 +1,14 @@
-use Rattle.std.proofs.Common.{◌≡◌, ◌≢◌, ℕ, ◌+◌, ◌<◌, ◌≤◌, ◌⊎◌, Bool, true, false, List, [], ◌∷◌, length, Option, Some, None, Result, Ok, Err, IsErr, refl, sym, ◌∙◌, ap, subst, inl, inr, arith}
+use Rattle.std.proofs.Common.{◌≡◌, ◌≢◌, ℕ, ◌+◌, ◌<◌, ◌⊎◌, List, [], ◌∷◌, length, Option, Some, Ok, Err, refl, sym, ◌∙◌, ap, subst, inl, inr, arith}
 use Rattle.std.specs.Prelude.{zero, suc}
 use Rattle.ror_io.specs.Files.{Files, file, Lacks}
 use Rattle.ror_io.specs.Counts.{Rose, DidNotRise, next_count, count_after}
-use Rattle.ror_io.proofs.CountLemmas.{never_both, then-Rose}
+use Rattle.ror_io.proofs.CountLemmas.{never_both}
 use Rattle.ror_frame.specs.declared.stop.Stop.{Stop}
 use Rattle.ror_frame.specs.declared.stop.Stop.TheVariants as stops
 use Rattle.ror_frame.specs.States.{ShelfState, SinkState, shelf_state}
-use Rattle.ror_frame.specs.Stops.{Outcome, place_of}
+use Rattle.ror_frame.specs.Stops.{Outcome}
 use Rattle.ror_frame.specs.declared.stop.Refusal.{Refusal}
-use Rattle.ror_frame.specs.Courses.{Output, Course, finish, fetch, Ending, missing, refused, done, Leads, Agrees, Ends, OfToldFiles, Reaches, Writes, EndsAfter, LacksOne, CountsWrites, IsPure, Fetched, IsFetch, WritesDue, IsWork}
+use Rattle.ror_frame.specs.Courses.{Output, Course, finish, fetch, Ending, missing, refused, done, Leads, Ends, Reaches, Writes, EndsAfter, LacksOne, CountsWrites, IsPure, Fetched, IsFetch, WritesDue, IsWork}
 
 -- bytes are read or refused in one way
 abbrev pub IsDecided : Course → Type 0

@@ -1,9 +1,9 @@
 -- Fetching a file and reading its bytes.
-use Rattle.std.proofs.Common.{◌≡◌, ℕ, ◌<◌, ◌≤◌, ◌⊎◌, List, length, Option, Some, None, Result, Ok, Err, IfOk, IsErrOf, refl, sym, ◌∙◌, subst, inl, inr}
+use Rattle.std.proofs.Common.{◌≡◌, ℕ, ◌<◌, ◌≤◌, ◌⊎◌, List, length, Option, Some, None, Result, Ok, Err, refl, sym, ◌∙◌, subst}
 use Rattle.std.specs.declared.vec.Vec.{Vec}
 use Rattle.ror_io.specs.Files.{Files, file, HasFile, Lacks}
 use Rattle.ror_io.specs.Counts.{Rose, DidNotRise, next_count}
-use Rattle.ror_io.specs.Fetching.{OnFailed, UnlessFailed, Fetches}
+use Rattle.ror_io.specs.Fetching.{OnFailed, UnlessFailed}
 use Rattle.ror_io.specs.declared.shelf.ShelfFault.{ShelfFault}
 use Rattle.ror_io.specs.declared.shelf.ShelfFault.TheVariants as shelf_faults
 use Rattle.ror_frame.specs.declared.stop.Refusal.{Refusal}
@@ -11,7 +11,7 @@ use Rattle.ror_frame.specs.declared.stop.Stop.{Stop}
 use Rattle.ror_frame.specs.declared.stop.Stop.TheVariants as stops
 use Rattle.ror_frame.specs.States.{ShelfState}
 use Rattle.ror_frame.specs.Stops.{stop_at_shelf, place_of, HidesNone}
-use Rattle.ror_frame.specs.Courses.{OfToldFiles, Fetched, IsFetch, IsWhole, IsTooLong, ReadAs}
+use Rattle.ror_frame.specs.Courses.{Fetched, IsFetch, IsWhole, IsTooLong, ReadAs}
 
 -- what the shelf says of each fetch
 pub record IsCalled (name : List ℕ) (before now : ShelfState) : Type 0 where

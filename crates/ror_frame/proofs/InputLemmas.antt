@@ -1,23 +1,18 @@
 -- Reading the bytes of a table and of a session.
-use Rattle.std.proofs.Common.{◌≡◌, ℕ, ◌<◌, Bool, List, length, Ok, Err, Result, Option, IfSome, refl}
+use Rattle.std.proofs.Common.{◌≡◌, ℕ, ◌<◌, Bool, List, length, Err, refl}
 use Rattle.std.proofs.lemmas.Bool.{lt-ltb}
 use Rattle.ror_text.specs.declared.lines.TheConstants.{MOST_TEXT_BYTES}
-use Rattle.ror_text.specs.Reading.{Gives}
-use Rattle.ror_table.specs.declared.fault.TableError.{TableError}
-use Rattle.ror_table.specs.declared.fault.TableError.TheVariants as table_errors
-use Rattle.ror_table.specs.declared.fault.TableFault.{TableFault}
 use Rattle.ror_table.specs.declared.fault.TableKind.TheVariants as kinds
 use Rattle.ror_value.specs.declared.input.Input.{Input}
 use Rattle.ror_xmcda.specs.Input.{input_of}
 use Rattle.ror_session.specs.Session.{session_of}
 use Rattle.ror_session.specs.declared.session.Session.{Session}
-use Rattle.ror_session.specs.declared.session.SessionFault.{SessionFault}
 use Rattle.ror_session.specs.declared.session.SessionFault.TheVariants as session_faults
 use Rattle.ror_words.specs.Words.{InputNames}
 use Rattle.ror_frame.specs.declared.stop.Refusal.{Refusal}
 use Rattle.ror_frame.specs.declared.stop.Refusal.TheVariants as refusals
 use Rattle.ror_frame.specs.Courses.{Course, IsTooLong}
-use Rattle.ror_frame.specs.Inputs.{ReadsTable, RefusesTable, ReadsSession, RefusesSession, over_inputs}
+use Rattle.ror_frame.specs.Inputs.{ReadsTable, RefusesTable, RefusesSession, over_inputs}
 use Rattle.ror_frame.proofs.CourseLemmas.{IsDecided}
 
 input_of-long : (bytes : List ℕ) (best_first : Bool) → MOST_TEXT_BYTES < length bytes → input_of bytes best_first ≡ Err (record { kind = kinds.TooLong; line = 0 })

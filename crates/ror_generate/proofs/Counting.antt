@@ -49,6 +49,7 @@ checked_alike bench checks moved checked line block same is moves = (cc, cc)
 
 -- ---- all blocks
 
+-- the line asks for no repair
 abbrev pub IsNoRepair : Line → Type 0
 IsNoRepair line = line.command ≢ commands.Repair
 

@@ -1,6 +1,6 @@
 -- The generated session: what its lines are like, and what is summed up of the answers to them.
 use Rattle.std.proofs.Common.{◌≡◌, ℕ, ◌+◌, ◌*◌, List, [], ◌∷◌, ◌++◌, length, map, refl, sym, ap, ◌∙◌, subst}
-use Rattle.std.specs.List.{AllByRecursion, flat_map, range_with_len}
+use Rattle.std.specs.List.{AllByRecursion, range_with_len}
 use Rattle.std.proofs.lemmas.List.{length-replicate}
 use Rattle.ror_proof.specs.declared.answer.Answer.{Answer}
 use Rattle.ror_session.specs.declared.session.Asked.TheVariants.{Consistent, Relation}
@@ -9,16 +9,13 @@ use Rattle.ror_session.specs.declared.session.Command.TheVariants.{Undo, Ask}
 use Rattle.ror_table.specs.Table.{DecisionTable}
 use Rattle.ror_bench.specs.declared.report.Accepted.{Accepted}
 use Rattle.ror_bench.specs.Allowed.{given_at}
-use Rattle.ror_report.specs.Text.{block_text, header_text, end_text}
-use Rattle.ror_bench.specs.Blocks.{IsBlockOf}
 use Rattle.ror_bench.specs.Bench.{LeavesNumbers}
 use Rattle.ror_bench.specs.Generated.{seed_after, stated_from, generated_statements, lines_from, generated_table, generated_session, generated}
 use Rattle.ror_bench.specs.Reports.{NamesADesk, accepted_of}
-use Rattle.ror_bench.proofs.ReportProofs.{as_many}
 use Rattle.ror_bench.proofs.GeneratedSession.{generated_lawful}
 use Rattle.ror_generate.specs.Generating.{most, verdicts_of, accepted_by, bench_from, IsSummaryFrom, AreAnswersTo}
 use Rattle.ror_generate.proofs.Counting.{IsNoRepair, accepted_are}
-use Rattle.ror_frame.proofs.Desks.{lawful_desks, numbers_left, text_of, reported}
+use Rattle.ror_frame.proofs.Desks.{lawful_desks, numbers_left, text_of, replayed, reported}
 
 -- ---- the lines
 
@@ -49,19 +46,16 @@ one_desk number = refl
 -- ---- the answers to them
 
 pub summary_from : (number : ℕ) (answers : List Answer) (accepted : Accepted) → AreAnswersTo (bench_from number) (generated number).session.lines answers accepted → IsSummaryFrom number (record { verdicts = verdicts_of answers; accepted = accepted })
+unfolding replayed reported
 summary_from number answers accepted of =
     let bench = bench_from number in
     let lines = (generated number).session.lines in
-    let count = as_many (IsBlockOf (given_at most) bench.table) bench [] lines of.blocks of.made.given in
     let lawful = lawful_desks (generated number).input (length (generated number).session.desks) (generated_lawful number).opening in
     let agrees : accepted_of of.blocks ≡ accepted_by (verdicts_of answers) = accepted_are (given_at most) bench.table bench lines of.blocks (no_repairs number) of.made.given ∙ ap (λ xs. accepted_by (verdicts_of xs)) (sym of.answers_are) in (
       record {
         report = text_of bench lines of.blocks;
         accepted = accepted_of of.blocks;
-        is = record {
-          given = record { blocks = of.blocks; made = of.made; text = ap (λ n. header_text ++ (flat_map (block_text bench.table) of.blocks ++ end_text n)) count; counted = refl };
-          checked = (reported most bench lines of.blocks lawful of.made).checked;
-        };
+        is = reported most bench lines of.blocks lawful of.made;
         counted = ap verdicts_of of.answers_are;
         agrees = agrees;
       },

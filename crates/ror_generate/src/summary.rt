@@ -54,11 +54,6 @@ enum VerdictKind {
     Wide,
 }
 
-const NONE_ACCEPTED: Accepted = Accepted {
-    answers: 0,
-    wide: 0,
-};
-
 /// Replays the session that a number generates and checks each block, and then writes how many answers have which verdict
 /// and how many were accepted. It says whether an answer is too wide.
 pub fn generate<O: Sink>(alloc: Global, number: u32, out: &mut O) -> Result<bool, Stop>
@@ -76,6 +71,7 @@ fn summed(alloc: Global, number: u32) -> Result<Summary, AllocError>
     requires { number ≤ MOST_GENERATED }
     ensures { IfOk result (IsSummaryFrom number) }
 {
+    // Each of these functions owns one value: what is dropped on some paths alone takes long to prove.
     let mut bench = generated_bench(alloc, number)?;
     summed_at(alloc, number, &mut bench)
 }
@@ -88,16 +84,6 @@ fn summed_at(alloc: Global, number: u32, bench: &mut Bench) -> Result<Summary, A
 {
     let mut checks = generated_bench(alloc, number)?;
     summed_by(alloc, number, bench, &mut checks)
-}
-
-/// The bench of the input that a number generates.
-#[tactic(auto, using(crate::proofs::Summaries::one_desk))]
-fn generated_bench(alloc: Global, number: u32) -> Result<Bench, AllocError>
-    requires { number ≤ MOST_GENERATED }
-    ensures { IfOk result (λ bench. bench ≡ bench_from number) }
-{
-    let Generated { input, session } = generate_input(alloc, number)?;
-    Bench::new(alloc, input, session.desks.len() as u32)
 }
 
 /// The same, where another bench checks the blocks.
@@ -120,6 +106,16 @@ fn summed_by(
     Ok(Summary { verdicts, accepted })
 }
 
+/// The bench of the input that a number generates.
+#[tactic(auto, using(crate::proofs::Summaries::one_desk))]
+fn generated_bench(alloc: Global, number: u32) -> Result<Bench, AllocError>
+    requires { number ≤ MOST_GENERATED }
+    ensures { IfOk result (λ bench. bench ≡ bench_from number) }
+{
+    let Generated { input, session } = generate_input(alloc, number)?;
+    Bench::new(alloc, input, session.desks.len() as u32)
+}
+
 /// Does the lines at one bench, and puts all answers into the list. It gives what another bench, which holds the same, counts in
 /// the blocks.
 fn put_answers(
@@ -135,7 +131,10 @@ fn put_answers(
     requires none { answers.old.items ≡ [] }
     ensures { IfOk result (AreAnswersTo bench.old lines.now answers.new.items) }
 {
-    let mut accepted = NONE_ACCEPTED;
+    let mut accepted = Accepted {
+        answers: 0,
+        wide: 0,
+    };
     for line in lines {
         let (block, passed) = checked_block(bench, checks, line)?;
         put_all(answers, block)?;
