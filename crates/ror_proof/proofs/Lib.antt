@@ -6,6 +6,7 @@ pub mod PivotLemmas
 pub mod QuestionLemmas
 pub mod LineWords
 pub mod AnswerLemmas
+pub mod BaseLemmas
 pub mod WordFaults
 pub mod QuestionFaults
 pub mod LineFaults

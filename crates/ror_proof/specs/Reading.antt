@@ -1,8 +1,8 @@
 -- Reading an answer, or a repair: what it is and where it ends, or the first fault.
-use Rattle.std.specs.Prelude.{ℕ, ◌≤◌, Bool, zero, suc, List, [], ◌∷◌, length, Option, Some, None, Result, Ok, Err, codes, nat_eq, if◌then◌else◌}
+use Rattle.std.specs.Prelude.{◌≡◌, ℕ, ◌≤◌, Bool, zero, suc, List, [], ◌∷◌, length, Option, Some, None, Result, Ok, Err, codes, nat_eq, if◌then◌else◌}
 use Rattle.std.specs.List.{starts_with}
 use Rattle.std.specs.Str.{bytes_eq}
-use Rattle.ror_text.specs.Cursor.{Cursor, line_words, line_after}
+use Rattle.ror_text.specs.Cursor.{Cursor, cursor_at, line_words, line_after}
 use Rattle.ror_text.specs.Reading.{◌>>=◌, refuse, need}
 use Rattle.ror_statement.specs.declared.question.Question.{Question}
 use Rattle.ror_system.specs.declared.accept.Multipliers.{Multipliers}
@@ -17,6 +17,7 @@ use Rattle.ror_proof.specs.declared.answer.Proof.{Proof}
 use Rattle.ror_proof.specs.declared.answer.Verdict.{Verdict}
 use Rattle.ror_proof.specs.declared.answer.Verdict.TheVariants as verdicts
 use Rattle.ror_proof.specs.declared.answer.WideText.{WideText}
+use Rattle.ror_proof.specs.declared.base.BaseLine.{BaseLine}
 use Rattle.ror_proof.specs.declared.kept.Dropped.{Dropped}
 use Rattle.ror_proof.specs.declared.kept.Kept.{Kept}
 use Rattle.ror_proof.specs.declared.names.PlaceName.{PlaceName}
@@ -238,6 +239,19 @@ answer_at t c = do
   head ← answer_line t c
   verdict ← verdict_at head.0.1 head.1
   Ok (record { question = head.0.0; verdict = verdict.0 }, verdict.1)
+
+-- the certificate of the base system, where the verdict has a proof
+abbrev pub base_of : Verdict → Option Certificate
+base_of (verdicts.Yes proof) = Some proof.base
+base_of (verdicts.No proof) = Some proof.base
+base_of (verdicts.Contradiction proof) = Some proof.base
+base_of (verdicts.Wide system note) = None
+
+-- this line of the bytes is read as this base
+pub record IsBaseLine (bytes : List ℕ) (line : BaseLine) (base : Certificate) : Type 0 where
+  pub onward : line.from ≤ line.next
+  pub within : line.next ≤ length bytes
+  pub reads : base_line (cursor_at bytes line.from) ≡ Ok (base, cursor_at bytes line.next)
 
 -- ---- repairs
 

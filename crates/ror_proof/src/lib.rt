@@ -16,6 +16,7 @@
 #![tactic(auto)]
 
 mod answer;
+mod base;
 mod kept;
 pub mod laws;
 pub mod names;
@@ -25,6 +26,7 @@ mod read;
 pub mod words;
 
 pub use answer::{Answer, Certificate, Part, Pivot, PlaceText, Proof, Verdict, WideText};
+pub use base::BaseLine;
 pub use kept::{Dropped, Kept};
 pub use print::{print_answer, print_kept, write_answer, write_kept, write_wide};
-pub use read::{ProofFault, read_answer, read_kept, read_wide};
+pub use read::{ProofFault, read_answer, read_answer_after, read_kept, read_wide};

@@ -1,13 +1,14 @@
 //! The readers of an answer's text and of a repair's.
 
-ghost use Rattle.std.specs.Prelude.{◌≤◌, ◌<◌, ◌≡◌, ◌-◌, ◌^◌, length, IfErr, IfOk};
+ghost use Rattle.std.specs.Prelude.{◌≤◌, ◌<◌, ◌≡◌, ◌-◌, ◌^◌, length, IfErr, IfOk, IfSome};
 ghost use Rattle.ror_text.specs.Reading.{Gives};
 ghost use Rattle.ror_text.specs.Cursor.{cursor_at};
 ghost use Rattle.ror_proof.specs.Text.{IsNarrowKept, IsNarrowVerdict};
 ghost use Rattle.ror_proof.specs.Reading as reading;
-ghost use Rattle.ror_proof.specs.Reading.{answer_at, kept_at, wide_line_of, proof_fault, IsProofFaultWithin};
+ghost use Rattle.ror_proof.specs.Reading.{answer_at, base_of, kept_at, wide_line_of, proof_fault, IsBaseLine, IsProofFaultWithin};
 
 use crate::answer::{Answer, Certificate, Part, PlaceText, Proof, Verdict, WideText};
+use crate::base::{BaseLine, base_at, base_line};
 use crate::kept::{Dropped, Kept};
 use crate::names::{PLACE_NAMES, PlaceName, VERDICT_NAMES, VerdictName};
 use crate::questions::question_at;
@@ -61,7 +62,6 @@ impl<T: Drop> From<AllocFailed<T>> for ProofFault {
 }
 
 /// Reads the answer whose text begins at a place, and says where it ends.
-#[tactic(auto, unfolding(crate::specs::Reading::answer_at))]
 pub fn read_answer(
     alloc: Global,
     table: &Table,
@@ -76,51 +76,96 @@ pub fn read_answer(
     ensures placed { IfErr result (IsProofFaultWithin (length bytes.now)) }
     ensures narrow { IfOk result (λ x. IsNarrowVerdict x.0.verdict) }
 {
+    let line = BaseLine { from, next: from };
+    let (answer, _, next) = read_answer_after(alloc, table, None, line, bytes, from)?;
+    Ok((answer, next))
+}
+
+/// Reads the answer whose text begins at a place, and says where the line of its base stands, and
+/// where the answer ends. Where its base has the same line as that of the last answer, that base is
+/// copied, and its numbers are not read again.
+#[tactic(auto, unfolding(crate::specs::Reading::answer_at))]
+pub fn read_answer_after(
+    alloc: Global,
+    table: &Table,
+    last: Option<&Answer>,
+    line: BaseLine,
+    bytes: &[u8],
+    from: usize,
+) -> Result<(Answer, BaseLine, usize), ProofFault>
+    requires place { from ≤ length bytes.now }
+    requires last { IfSome last (λ answer.
+        IfSome (base_of answer.now.verdict) (IsBaseLine bytes.now line)) }
+    ensures exact { Gives (λ x. (x.0, cursor_at bytes.now x.2)) proof_fault result
+        (answer_at table.now (cursor_at bytes.now from)) }
+    ensures based { IfOk result (λ x.
+        IfSome (base_of x.0.verdict) (IsBaseLine bytes.now x.1)) }
+    ensures onward { IfOk result (λ x. from < x.2) }
+    ensures within { IfOk result (λ x. x.2 ≤ length bytes.now) }
+    ensures placed { IfErr result (IsProofFaultWithin (length bytes.now)) }
+    ensures narrow { IfOk result (λ x. IsNarrowVerdict x.0.verdict) }
+{
     let (question, name, next) = answer_line(table, bytes, from)?;
-    let (verdict, next) = verdict_at(alloc, name, bytes, next)?;
-    Ok((Answer { question, verdict }, next))
+    let (verdict, line, next) = verdict_at(alloc, name, last, line, bytes, next)?;
+    Ok((Answer { question, verdict }, line, next))
 }
 
 /// What follows the line of the question, where its last word is this verdict's.
 fn verdict_at(
     alloc: Global,
     name: VerdictName,
+    last: Option<&Answer>,
+    line: BaseLine,
     bytes: &[u8],
     from: usize,
-) -> Result<(Verdict, usize), ProofFault>
-    requires { from ≤ length bytes.now }
-    ensures exact { Gives (λ x. (x.0, cursor_at bytes.now x.1)) proof_fault result
+) -> Result<(Verdict, BaseLine, usize), ProofFault>
+    requires place { from ≤ length bytes.now }
+    requires last { IfSome last (λ answer.
+        IfSome (base_of answer.now.verdict) (IsBaseLine bytes.now line)) }
+    ensures exact { Gives (λ x. (x.0, cursor_at bytes.now x.2)) proof_fault result
         (reading.verdict_at name (cursor_at bytes.now from)) }
-    ensures onward { IfOk result (λ x. from < x.1) }
-    ensures within { IfOk result (λ x. x.1 ≤ length bytes.now) }
+    ensures based { IfOk result (λ x. IfSome (base_of x.0) (IsBaseLine bytes.now x.1)) }
+    ensures onward { IfOk result (λ x. from < x.2) }
+    ensures within { IfOk result (λ x. x.2 ≤ length bytes.now) }
     ensures placed { IfErr result (IsProofFaultWithin (length bytes.now)) }
 {
     if let VerdictName::Wide = name {
-        return wide_at(alloc, bytes, from);
+        let (verdict, next) = wide_at(alloc, bytes, from)?;
+        return Ok((verdict, line, next));
     }
-    let (proof, next) = proof_at(alloc, bytes, from)?;
+    let (proof, line, next) = proof_at(alloc, last, line, bytes, from)?;
     let verdict = match name {
         VerdictName::Yes => Verdict::Yes(proof),
         VerdictName::No => Verdict::No(proof),
         _ => Verdict::Contradiction(proof),
     };
-    Ok((verdict, next))
+    Ok((verdict, line, next))
 }
 
-/// The base and all parts, and where the next line begins.
+/// The base and all parts, where the line of the base stands, and where the next line begins.
 #[tactic(auto, unfolding(crate::specs::Reading::proof_at))]
-fn proof_at(alloc: Global, bytes: &[u8], from: usize) -> Result<(Proof, usize), ProofFault>
-    requires { from ≤ length bytes.now }
-    ensures exact { Gives (λ x. (x.0, cursor_at bytes.now x.1)) proof_fault result
+fn proof_at(
+    alloc: Global,
+    last: Option<&Answer>,
+    line: BaseLine,
+    bytes: &[u8],
+    from: usize,
+) -> Result<(Proof, BaseLine, usize), ProofFault>
+    requires place { from ≤ length bytes.now }
+    requires last { IfSome last (λ answer.
+        IfSome (base_of answer.now.verdict) (IsBaseLine bytes.now line)) }
+    ensures exact { Gives (λ x. (x.0, cursor_at bytes.now x.2)) proof_fault result
         (reading.proof_at (cursor_at bytes.now from)) }
-    ensures onward { IfOk result (λ x. from < x.1) }
-    ensures within { IfOk result (λ x. x.1 ≤ length bytes.now) }
+    ensures based { IfOk result (λ x. IsBaseLine bytes.now x.1 x.0.base) }
+    ensures onward { IfOk result (λ x. from < x.2) }
+    ensures within { IfOk result (λ x. x.2 ≤ length bytes.now) }
     ensures placed { IfErr result (IsProofFaultWithin (length bytes.now)) }
 {
-    let (base, next) = base_line(alloc, bytes, from)?;
+    let (base, next) = base_at(alloc, last, line, bytes, from)?;
+    let line = BaseLine { from, next };
     let (parts, next) = part_lines(alloc, bytes, next)?;
     let parts = Items::from(parts);
-    Ok((Proof { base, parts }, next))
+    Ok((Proof { base, parts }, line, next))
 }
 
 /// A number too wide, and where the next line begins; no part may follow.
@@ -129,6 +174,7 @@ fn wide_at(alloc: Global, bytes: &[u8], from: usize) -> Result<(Verdict, usize),
     requires { from ≤ length bytes.now }
     ensures exact { Gives (λ x. (x.0, cursor_at bytes.now x.1)) proof_fault result
         (reading.wide_at (cursor_at bytes.now from)) }
+    ensures baseless { IfOk result (λ x. base_of x.0 ≡ None) }
     ensures onward { IfOk result (λ x. from < x.1) }
     ensures within { IfOk result (λ x. x.1 ≤ length bytes.now) }
     ensures placed { IfErr result (IsProofFaultWithin (length bytes.now)) }
@@ -167,23 +213,6 @@ fn answer_line(
     no_more(from, words)?;
     let next = need(next, ProofFault::BadLine(from))?;
     Ok((question, verdict, next))
-}
-
-/// The line of the base's certificate, and where the next line begins.
-#[tactic(auto, using(crate::proofs::Places::placed_on), unfolding(crate::specs::Reading::base_words, crate::specs::Reading::ended))]
-fn base_line(alloc: Global, bytes: &[u8], from: usize) -> Result<(Certificate, usize), ProofFault>
-    requires { from ≤ length bytes.now }
-    ensures exact { Gives (λ x. (x.0, cursor_at bytes.now x.1)) proof_fault result
-        (reading.base_line (cursor_at bytes.now from)) }
-    ensures onward { IfOk result (λ x. from < x.1) }
-    ensures within { IfOk result (λ x. x.1 ≤ length bytes.now) }
-    ensures placed { IfErr result (IsProofFaultWithin (length bytes.now)) }
-{
-    let (line, next) = line_at(bytes, from);
-    let words = after_word(from, b"base", Words::of(line))?;
-    let certificate = certificate_at(alloc, from, words)?;
-    let next = need(next, ProofFault::BadLine(from))?;
-    Ok((certificate, next))
 }
 
 /// A line for each part, as long as one begins.
@@ -346,7 +375,11 @@ fn dropped_line(alloc: Global, bytes: &[u8], from: usize) -> Result<(Dropped, us
 
 /// A certificate, up to the end of its line.
 #[tactic(auto, unfolding(crate::specs::Reading::certificate_at))]
-fn certificate_at(alloc: Global, place: usize, words: Words<'_>) -> Result<Certificate, ProofFault>
+pub(crate) fn certificate_at(
+    alloc: Global,
+    place: usize,
+    words: Words<'_>,
+) -> Result<Certificate, ProofFault>
     ensures exact { Gives (λ x. x) proof_fault result (reading.certificate_at place words.entry) }
     ensures placed { IfErr result (IsProofFaultWithin place) }
 {
