@@ -1,7 +1,7 @@
 -- Reading one answer after the other, as the loop over a body does.
-use Rattle.std.proofs.Common.{◌≡◌, ℕ, zero, suc, ◌<◌, true, false, List, [], ◌∷◌, ◌++◌, length, Result, Ok, Err, refl, sym, ap, subst, ◌∙◌, arith}
-use Rattle.std.specs.Prelude.{IfSome}
-use Rattle.std.proofs.lemmas.List.{append-nil}
+use Rattle.std.proofs.Common.{◌≡◌, ℕ, zero, suc, ◌<◌, true, false, List, [], ◌∷◌, ◌++◌, ◌-◌, length, Some, Result, Ok, Err, refl, sym, ap, subst, ◌∙◌, arith}
+use Rattle.std.specs.Prelude.{IfSome, slice_get}
+use Rattle.std.proofs.lemmas.List.{append-nil, length_push}
 use Rattle.ror_text.specs.Reading.{◌>>=◌}
 use Rattle.ror_text.proofs.ReadingLemmas.{gives_exit}
 use Rattle.ror_table.specs.Table.{DecisionTable}
@@ -44,3 +44,15 @@ answers_end t most front c whole ends so_far =
 pub goes_on_some : (bytes : List ℕ) → ends_body bytes ≡ false → 0 < length bytes
 goes_on_some [] more = absurd cc
 goes_on_some (b ∷ bs) more = omega arith
+
+-- ---- the last answer
+
+-- it is the one that was pushed
+pub last_pushed : {A : Type 0} (xs : List A) (x : A) → slice_get (xs ++ x ∷ []) (length (xs ++ x ∷ []) - 1) ≡ Some x
+last_pushed xs x =
+    let before : length (xs ++ x ∷ []) - 1 ≡ length xs = omega (arith, length_push xs x) in
+    ap (slice_get (xs ++ x ∷ [])) before ∙ at_end xs x
+  where
+    at_end : {A : Type 0} (xs : List A) (x : A) → slice_get (xs ++ x ∷ []) (length xs) ≡ Some x
+    at_end [] x = refl
+    at_end (y ∷ xs) x = at_end xs x

@@ -12,7 +12,7 @@ use crate::names::{BODY_FORMS, BodyForm, LINE_FAULTS, LineForm};
 use crate::print::header;
 use ror_proof::names::{Name, named};
 use ror_proof::words::{after_word, name_at, no_more, small_number_at};
-use ror_proof::{Answer, ProofFault, read_answer, read_kept, read_wide};
+use ror_proof::{Answer, BaseLine, ProofFault, read_answer_after, read_kept, read_wide};
 use ror_table::Table;
 use ror_text::Items;
 use ror_text::reading::{need, refuse_if};
@@ -218,10 +218,13 @@ fn body_answers(
     ensures placed { IfErr result (IsProofFaultWithin (length bytes.now)) }
 {
     let mut answers = Vec::new(alloc);
+    let mut line = BaseLine { from, next: from };
     let mut next = from;
     'answers: while !ends_body(bytes, next) {
-        let (answer, after) = read_answer(alloc, table, bytes, next)?;
+        let last = answers.as_slice().last();
+        let (answer, base, after) = read_answer_after(alloc, table, last, line, bytes, next)?;
         answers.push(answer)?;
+        line = base;
         next = after;
     }
     Ok((answers, next))

@@ -91,6 +91,36 @@ fn answers_are_printed(rt: HostRuntime) -> Result<(), Fail> {
     Ok(())
 }
 
+const BASES: &[u8] =
+    b"line 1\nanswer consistent yes\nbase solution 1 20 3\nanswer consistent yes\nbase solution 1 20 3\nanswer consistent yes\nbase solution 1 20 30\n";
+
+/// The last number of the base of the answer at a place, where that is a solution.
+fn last_step(body: &Body, place: usize) -> Option<i128> {
+    let Body::Answers(answers) = body else {
+        return None;
+    };
+    let Verdict::Yes(proof) = &answers.get(place)?.verdict else {
+        return None;
+    };
+    let Certificate::Solution(solution) = &proof.base else {
+        return None;
+    };
+    solution.steps.as_slice().last().copied()
+}
+
+#[test]
+fn each_answer_has_its_own_base(rt: HostRuntime) -> Result<(), Fail> {
+    let table = three_alternatives(rt.alloc())?;
+    let (block, next) = read_block(rt.alloc(), &table, BASES, 0)
+        .ok()
+        .ok_or("this is a block")?;
+    assert_eq!(rt; next, BASES.len());
+    assert_eq!(rt; last_step(&block.body, 0), Some(3));
+    assert_eq!(rt; last_step(&block.body, 1), Some(3));
+    assert_eq!(rt; last_step(&block.body, 2), Some(30));
+    Ok(())
+}
+
 #[test]
 fn the_first_fault_of_a_body_is_named(rt: HostRuntime) -> Result<(), Fail> {
     let table = three_alternatives(rt.alloc())?;

@@ -1,10 +1,12 @@
-use Rattle.std.proofs.Common.{◌≡◌, ◌-◌, ◌+◌, ◌<◌, suc, false, length, drop, length-drop, arith, sym, ap, ◌∙◌}
+use Rattle.std.proofs.Common.{◌≡◌, ◌-◌, ◌+◌, ◌<◌, suc, false, List, Some, length, drop, length-drop, arith, sym, ap, ◌∙◌}
 use Rattle.std.proofs.lemmas.Result.{err_from_is_err_and}
 use Rattle.std.proofs.lemmas.List.{length_push}
+use Rattle.std.specs.Prelude.{slice_get}
 use Rattle.ror_text.specs.Cursor.{cursor_at}
+use Rattle.ror_proof.specs.declared.answer.Answer.{Answer}
 use Rattle.ror_proof.proofs.Loops.{with_front}
 use Rattle.ror_report.specs.Reading.{ends_body, body_answers}
-use Rattle.ror_report.proofs.Bodies.{answers_go_on, answers_exit, answers_end, goes_on_some}
+use Rattle.ror_report.proofs.Bodies.{answers_go_on, answers_exit, answers_end, goes_on_some, last_pushed}
 use Rattle.ror_report.proofs.read.body_answers.Goals as goal
 
 pub returns-in_err-answer-clause-exact : goal.returns-in_err-answer-clause-exact
@@ -28,7 +30,9 @@ answers-preserved c =
     let most = length bytes - c.args.from - length c.answers.answers.items in
     let left = length bytes - c.args.from - length c.push.new.self.items in
     let is : most ≡ suc left = omega (arith, length-drop next bytes, c.answers.invariant.room, one_more) in
+    let pushed : slice_get c.push.new.self.items (length c.push.new.self.items - 1) ≡ Some c.in_ok-answer.answer = ap (λ (xs : List Answer). slice_get xs (length xs - 1)) c.in_ok-push.ensures.items ∙ last_pushed c.answers.answers.items c.in_ok-answer.answer in
     record {
+      based = rw pushed c.in_ok-answer.ensures.based;
       onward = omega (arith, c.in_ok-answer.ensures.onward);
       within = c.in_ok-answer.ensures.within;
       room = omega (arith, one_more, c.in_ok-answer.ensures.onward, c.in_ok-answer.ensures.within, c.answers.invariant.room);
