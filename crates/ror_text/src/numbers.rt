@@ -7,8 +7,39 @@ ghost use Rattle.ror_text.specs.Numbers as spec;
 /// Numbers of a report are of absolute value below this one: at most `i128::MAX`.
 pub const NUMBER_LIMIT: u128 = 1 << 127;
 
+/// The most digits whose number is sure to fit 64 bits.
+const FEW_DIGITS: usize = 19;
+
 /// The number of one or more digits, if it fits.
 fn digits(word: &[u8]) -> Option<u128>
+    ensures { MatchOption result (spec.is_digits word.now ≡ true → 2 ^ 128 ≤ spec.digits_number word.now)
+        (λ n. (spec.is_digits word.now ≡ true) × (n ≡ spec.digits_number word.now)) }
+{
+    match few_digits(word) {
+        Some(number) => Some(u128::from(number)),
+        None => many_digits(word),
+    }
+}
+
+/// The number of one or more digits that are few. Nearly all numbers that are read are such.
+fn few_digits(word: &[u8]) -> Option<u64>
+    ensures { IfSome result (λ n. (spec.is_digits word.now ≡ true) × (n ≡ spec.digits_number word.now)) }
+{
+    if word.is_empty() || word.len() > FEW_DIGITS {
+        return None;
+    }
+    let mut number: u64 = 0;
+    for byte in word {
+        if !byte.is_ascii_digit() {
+            return None;
+        }
+        number = number * 10 + u64::from(*byte - b'0');
+    }
+    Some(number)
+}
+
+/// The number of one or more digits, however many, if it fits.
+fn many_digits(word: &[u8]) -> Option<u128>
     ensures { MatchOption result (spec.is_digits word.now ≡ true → 2 ^ 128 ≤ spec.digits_number word.now)
         (λ n. (spec.is_digits word.now ≡ true) × (n ≡ spec.digits_number word.now)) }
 {
