@@ -142,7 +142,18 @@ fn ends_where_a_stream_cannot_be_written(rt: HostRuntime) -> Result<(), Fail> {
     let mut shelf = shelf_of(rt.alloc(), &case)?;
     let mut out = MemorySink::new(rt.alloc(), 64)?;
     let mut err = MemorySink::new(rt.alloc(), 8)?;
-    expect(&rt, "check t s r", &case, &mut shelf, &mut out, &mut err)
+    expect(&rt, "check t s r", &case, &mut shelf, &mut out, &mut err)?;
+    let unsaid = Case { err: b"", ..case };
+    let mut silent = MemorySink::new(rt.alloc(), 99)?;
+    silent.fail_at(1)?;
+    expect(
+        &rt,
+        "check t s r",
+        &unsaid,
+        &mut shelf,
+        &mut out,
+        &mut silent,
+    )
 }
 
 #[test]
@@ -152,6 +163,47 @@ fn replays_a_session(rt: HostRuntime) -> Result<(), Fail> {
     let mut out = MemorySink::new(rt.alloc(), 200)?;
     let mut err = MemorySink::new(rt.alloc(), 0)?;
     expect(&rt, "replay t s", &case, &mut shelf, &mut out, &mut err)
+}
+
+#[test]
+fn replays_nothing_where_a_file_cannot_be_read(rt: HostRuntime) -> Result<(), Fail> {
+    let case = refused(taken_back(), 6, b"read fault\n");
+    for fetch in 1..=2u64 {
+        let mut shelf = shelf_of(rt.alloc(), &case)?;
+        shelf.fail_at(fetch)?;
+        let mut out = MemorySink::new(rt.alloc(), 64)?;
+        let mut err = MemorySink::new(rt.alloc(), 99)?;
+        expect(&rt, "replay t s", &case, &mut shelf, &mut out, &mut err)?;
+    }
+    Ok(())
+}
+
+/// The status of a summary of the number 1, of whose writes one fails, if there are so many, and what was written.
+fn generated<R: Abort + AllocGlobal>(rt: &R, failing: u64) -> Result<(u8, MemorySink), Fail> {
+    let mut words = Vec::new(rt.alloc());
+    for word in ["generate", "1"] {
+        words.push(String::from_str(rt.alloc(), word)?)?;
+    }
+    let mut shelf = MemoryShelf::new(rt.alloc());
+    let mut out = MemorySink::new(rt.alloc(), 200)?;
+    out.fail_at(failing)?;
+    let mut err = MemorySink::new(rt.alloc(), 99)?;
+    let status = run(rt.alloc(), words.as_slice(), &mut shelf, &mut out, &mut err);
+    Ok((status.code(), out))
+}
+
+// The second line has a write at least for each of its four counts, and so has the third for its two.
+#[test]
+fn ends_where_a_summary_cannot_be_written(rt: HostRuntime) -> Result<(), Fail> {
+    let (code, whole) = generated(&rt, 0)?;
+    assert_eq!(rt; code, 0);
+    for failing in 1..=7u64 {
+        let (code, front) = generated(&rt, failing)?;
+        assert_eq!(rt; code, 7);
+        assert!(rt; front.written().len() < whole.written().len());
+        assert!(rt; whole.written().starts_with(front.written()));
+    }
+    Ok(())
 }
 
 #[test]
