@@ -77,11 +77,11 @@ behind_name written list space byte rest (AreAttributes.more (white ∷ gap) fir
 
 -- ---- a tag up to its end
 
-abbrev is_some_space : List ℕ → Bool
+abbrev pub is_some_space : List ℕ → Bool
 is_some_space [] = false
 is_some_space (byte ∷ space) = true
 
-space-run : (space : List ℕ) → IsSpace space → (line start : ℕ) (top : Open) (below : List Open) (tag : Tag) (j : Reader) (rest : List ℕ)
+pub space-run : (space : List ℕ) → IsSpace space → (line start : ℕ) (top : Open) (below : List Open) (tag : Tag) (j : Reader) (rest : List ℕ)
     → run (tagged (modes.Tag false) line start top below tag j) (space ++ rest) ≡ run (tagged (modes.Tag (is_some_space space)) (line_at line space) start top below tag j) rest
 unfolding plain in_tag
 space-run [] s line start top below tag j rest = refl

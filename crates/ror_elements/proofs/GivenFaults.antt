@@ -38,7 +38,7 @@ use Rattle.ror_elements.proofs.TextLemmas.{cut_front, nothing-kept, white_low}
 
 -- ---- from a part to the text
 
-read_err : (xs ys : List ℕ) (r : Reader) (f : ElementFault) → read_all read r xs ≡ Err f → read_all read r (xs ++ ys) ≡ Err f
+pub read_err : (xs ys : List ℕ) (r : Reader) (f : ElementFault) → read_all read r xs ≡ Err f → read_all read r (xs ++ ys) ≡ Err f
 read_err [] ys r f e = absurd cc
 read_err (x ∷ xs) ys r f e = elim (bind_err (read r x) (λ next. read_all read next xs) f e) [
   | inl now ↦ bind-at_err (read r x) (λ next. read_all read next (xs ++ ys)) f now
@@ -64,26 +64,26 @@ given bytes before after byte f u low split clean e =
 
 -- ---- what was read of a front
 
-record Known (front : List ℕ) : Type 0 where
-  reader : Reader
-  runs : run nothing_read front ≡ Ok reader
-  mode : (reader.mode ≡ modes.Start) ⊎ (reader.mode ≡ modes.Content)
+pub record Known (front : List ℕ) : Type 0 where
+  pub reader : Reader
+  pub runs : run nothing_read front ≡ Ok reader
+  pub mode : (reader.mode ≡ modes.Start) ⊎ (reader.mode ≡ modes.Content)
 
-record KnownOpen (front : List ℕ) (names : List (List ℕ)) : Type 0 where
-  reader : Reader
-  last : Reader
-  runs : run nothing_read front ≡ Ok reader
-  closes : run reader (end_tags names) ≡ Ok last
-  mode : (reader.mode ≡ modes.Start) ⊎ (reader.mode ≡ modes.Content)
-  opened : reader.mode ≡ modes.Content → open_names reader.top reader.below ≡ names
+pub record KnownOpen (front : List ℕ) (names : List (List ℕ)) : Type 0 where
+  pub reader : Reader
+  pub last : Reader
+  pub runs : run nothing_read front ≡ Ok reader
+  pub closes : run reader (end_tags names) ≡ Ok last
+  pub mode : (reader.mode ≡ modes.Start) ⊎ (reader.mode ≡ modes.Content)
+  pub opened : reader.mode ≡ modes.Content → open_names reader.top reader.below ≡ names
 
-known_before : (front : List ℕ) → IsBeforeRoot front → Known front
+pub known_before : (front : List ℕ) → IsBeforeRoot front → Known front
 known_before front h =
     let all = bind_ok (run nothing_read (front ++ codes "<XMCDA/>")) finish h.1.root (rooted_reads (front ++ codes "<XMCDA/>") h.1) in
     let parts = run_split front (codes "<XMCDA/>") nothing_read all.0 all.1 in
     record { reader = parts.0; runs = parts.1; mode = before_mode parts.0 all.0 h.1.root parts.2 all.2 }
 
-known_open : (front : List ℕ) (names : List (List ℕ)) → IsFromRoot front names → KnownOpen front names
+pub known_open : (front : List ℕ) (names : List (List ℕ)) → IsFromRoot front names → KnownOpen front names
 known_open front names h =
     let d = h.is_rooted in
     let all = bind_ok (run nothing_read (front ++ end_tags names)) finish d.root (rooted_reads (front ++ end_tags names) d) in
@@ -98,15 +98,15 @@ known_open front names h =
       opened = λ is. names_open names h.named m.top m.below m.line m all.0 d.root (subst (λ (mode : Mode). run (record m { mode = mode }) (end_tags names) ≡ Ok all.0) is parts.2) all.2;
     }
 
-front_clean : (front : List ℕ) (names : List (List ℕ)) → IsFront front names → IsClean front
+pub front_clean : (front : List ℕ) (names : List (List ℕ)) → IsFront front names → IsClean front
 front_clean front names (IsFront.before_root h) = h.0
 front_clean front names (IsFront.from_root some h) = h.clean
 
-front_known : (front : List ℕ) (names : List (List ℕ)) → IsFront front names → Known front
+pub front_known : (front : List ℕ) (names : List (List ℕ)) → IsFront front names → Known front
 front_known front names (IsFront.before_root h) = known_before front h
 front_known front names (IsFront.from_root some h) = let k = known_open front some h in record { reader = k.reader; runs = k.runs; mode = k.mode }
 
-from_known : (front : List ℕ) (name : List ℕ) (names all : List (List ℕ)) → all ≡ name ∷ names → IsFront front all → KnownOpen front all
+pub from_known : (front : List ℕ) (name : List ℕ) (names all : List (List ℕ)) → all ≡ name ∷ names → IsFront front all → KnownOpen front all
 from_known front name names all e (IsFront.before_root h) = absurd cc
 from_known front name names all e (IsFront.from_root some h) = known_open front some h
 
@@ -193,7 +193,7 @@ no_end_first : (m last : Reader) (bytes : List ℕ) → run (record m { mode = m
 unfolding run plain at_start in_first_markup in_markup
 no_end_first m last bytes e = absurd cc
 
-open_is_content : (front name : List ℕ) (names : List (List ℕ)) → (k : KnownOpen front (name ∷ names)) → IsReached front k.reader → k.reader.mode ≡ modes.Content
+pub open_is_content : (front name : List ℕ) (names : List (List ℕ)) → (k : KnownOpen front (name ∷ names)) → IsReached front k.reader → k.reader.mode ≡ modes.Content
 open_is_content front name names k reached = by k.mode
   where
     m : Reader
@@ -221,7 +221,7 @@ front_utf8 : (bytes : List ℕ) (line : ℕ) (names : List (List ℕ)) (more : L
 front_utf8 bytes line names more u s = cut_front s.front (more ++ s.after) 60 (omega arith) (subst IsUtf8 s.whole (without_mark-IsUtf8 bytes u))
 
 -- from a front between constructs
-on_from : (front bytes : List ℕ) (r : Reader) (kind : ElementKind) → run nothing_read front ≡ Ok r → IsReached front r → r.mode ≡ modes.Content → run (at modes.Content r.line r.top r.below r) bytes ≡ Err (fault kind r.line) → run nothing_read (front ++ bytes) ≡ Err (fault kind (line_behind 1 front))
+pub on_from : (front bytes : List ℕ) (r : Reader) (kind : ElementKind) → run nothing_read front ≡ Ok r → IsReached front r → r.mode ≡ modes.Content → run (at modes.Content r.line r.top r.below r) bytes ≡ Err (fault kind r.line) → run nothing_read (front ++ bytes) ≡ Err (fault kind (line_behind 1 front))
 on_from front bytes r kind e reached is h =
     run_on front bytes r e
     ∙ subst (λ (m : Mode). run (record r { mode = m }) bytes ≡ Err (fault kind r.line)) (sym is) h

@@ -63,11 +63,11 @@ second_fails line top j last some e = let f = rw some at e in absurd cc
 
 -- ---- a front before the root
 
-record Led (front : List ℕ) : Type 0 where
-  top : Open
-  like : Reader
-  none : is_none top.children ≡ true
-  runs : (byte : ℕ) (more : List ℕ) → ¬ (byte ≡ 63) → run nothing_read (front ++ 60 ∷ byte ∷ more) ≡ run (at modes.Content (line_behind 1 front) top [] like) (60 ∷ byte ∷ more)
+pub record Led (front : List ℕ) : Type 0 where
+  pub top : Open
+  pub like : Reader
+  pub none : is_none top.children ≡ true
+  pub runs : (byte : ℕ) (more : List ℕ) → ¬ (byte ≡ 63) → run nothing_read (front ++ 60 ∷ byte ∷ more) ≡ run (at modes.Content (line_behind 1 front) top [] like) (60 ∷ byte ∷ more)
 
 led_by : (front : List ℕ) (below : List Open) (r last : Reader) (root : Tree) → run nothing_read front ≡ Ok (at modes.Content r.line r.top below r) → run (at modes.Content r.line r.top below r) (codes "<XMCDA/>") ≡ Ok last → finish last ≡ Ok root → r.line ≡ line_behind 1 front → Led front
 led_by front (around ∷ outer) r last root e f g lines = absurd (inside_fails r.line r.top around outer r last root f g)
@@ -81,7 +81,7 @@ led_by front [] r last root e f g lines = elim (cases_Bool (is_none r.top.childr
   | inr some ↦ absurd (second_fails r.line r.top r last some f)
 ]
 
-led : (front : List ℕ) → IsUtf8 front → IsBeforeRoot front → Led front
+pub led : (front : List ℕ) → IsUtf8 front → IsBeforeRoot front → Led front
 led front u h =
     let all = bind_ok (run nothing_read (front ++ codes "<XMCDA/>")) finish h.1.root (rooted_reads (front ++ codes "<XMCDA/>") h.1) in
     let parts = run_split front (codes "<XMCDA/>") nothing_read all.0 all.1 in

@@ -6,6 +6,7 @@ use Rattle.ror_elements.specs.Laws.{not_utf8}
 use Rattle.ror_elements.specs.Refusals.{SettledFaultsAreGiven}
 use Rattle.ror_elements.proofs.GivenFaults.{doctype_given, mismatched_given, deep_given, encoding_given}
 use Rattle.ror_elements.proofs.GivenForm.{form_given}
+use Rattle.ror_elements.proofs.GivenTags.{entity_given}
 use Rattle.ror_elements.proofs.LawLemmas.{gives_the_first_fault}
 
 pub settled_faults_are_given : SettledFaultsAreGiven
@@ -17,4 +18,4 @@ settled_faults_are_given bytes kinds.Encoding line is h = encoding_given bytes l
 settled_faults_are_given bytes kinds.Form line is h = form_given bytes line h.0 h.1
 settled_faults_are_given bytes kinds.BadMarkup line is h = absurd is
 settled_faults_are_given bytes kinds.Unclosed line is h = absurd is
-settled_faults_are_given bytes kinds.Entity line is h = absurd is
+settled_faults_are_given bytes kinds.Entity line is h = entity_given bytes line h.0 h.1

@@ -32,4 +32,6 @@ pub mod FaultLemmas
 pub mod FrontRuns
 pub mod GivenFaults
 pub mod GivenForm
+pub mod GivenReferences
+pub mod GivenTags
 pub mod GivenLaw

@@ -113,7 +113,7 @@ are_digits-all base (digit ∷ digits) e =
     let parts = and_parts (nat_lt (digit_value digit) base) (are_digits base digits) e in
     (ltb-true (digit_value digit) base parts.0, are_digits-all base digits parts.1)
 
-some_digits : (base : ℕ) (digits : List ℕ) (code : ℕ) → number_in base digits ≡ Some code → AreDigits base digits × (digits_number base digits ≡ code)
+pub some_digits : (base : ℕ) (digits : List ℕ) (code : ℕ) → number_in base digits ≡ Some code → AreDigits base digits × (digits_number base digits ≡ code)
 some_digits base [] code e = absurd cc
 some_digits base (digit ∷ digits) code e = tested (are_digits base (digit ∷ digits)) (are_digits-all base (digit ∷ digits)) e
   where
@@ -138,7 +138,7 @@ renamed : (name other : List ℕ) (code there : ℕ) → other ≡ name → ther
 renamed name other code there e f h = subst (λ c. Names name c) f (subst (λ (n : List ℕ). Names n there) e h)
 
 -- a name with this number behind its `#`
-number_named : (name : List ℕ) (number code : ℕ) → number_of name ≡ Some number → character_at number ≡ Some code → Names name code
+pub number_named : (name : List ℕ) (number code : ℕ) → number_of name ≡ Some number → character_at number ≡ Some code → Names name code
 unfolding number_of
 number_named [] number code e c = absurd cc
 number_named (first ∷ []) number code e c = elim (which (first == 35) _ _ (Some number) e) [ inl h ↦ absurd cc | inr h ↦ absurd cc ]
@@ -164,7 +164,7 @@ some_same x y e = cc
 same_name : (name other : List ℕ) → bytes_eq name other ≡ true → other ≡ name
 same_name name other e = sym ((bytes_eq-Decides name other).0 e)
 
-entity_named : (name : List ℕ) (code : ℕ) → entity name ≡ Some code → Names name code
+pub entity_named : (name : List ℕ) (code : ℕ) → entity name ≡ Some code → Names name code
 unfolding entity
 entity_named name code e = elim (which (bytes_eq name (108 ∷ 116 ∷ [])) _ _ (Some code) e) [
   | inl h ↦ renamed name _ code 60 (same_name name _ h.0) (some_same _ code h.1) Names.less

@@ -1,5 +1,5 @@
 -- The reader without its test for control bytes, and with names, ids and texts as they were gathered.
-use Rattle.std.proofs.Common.{◌≡◌, ℕ, Bool, true, false, not, List, [], ◌∷◌, ◌++◌, append_assoc, Result, Ok, Err, refl, sym, ap, subst, ◌∙◌, inl, inr}
+use Rattle.std.proofs.Common.{◌≡◌, ℕ, Bool, true, false, not, List, [], ◌∷◌, ◌++◌, append_assoc, append-nil, Result, Ok, Err, refl, sym, ap, subst, ◌∙◌, inl, inr}
 use Rattle.std.specs.Prelude.{IfOk, ◌==◌, if◌then◌else◌}
 use Rattle.std.specs.List.{AllByRecursion}
 use Rattle.std.specs.Str.{IsUtf8, is_utf8, bytes_eq}
@@ -128,13 +128,17 @@ same_read p r byte s clean = rw clean (ap (λ (acted : Result Reader ElementFaul
 abbrev pub IsClean : List ℕ → Type 0
 IsClean bytes = AllByRecursion (λ byte. is_control byte ≡ false) bytes
 
-pub same_run : (p bytes : List ℕ) (r : Reader) → IsUtf8 (p ++ bytes) → IsGathered p r → IsClean bytes → read_all read r bytes ≡ read_all plain r bytes
-same_run p [] r u s clean = refl
-same_run p (byte ∷ bytes) r u s clean =
+-- bytes of which the first are read
+pub same_part : (p bytes rest : List ℕ) (r : Reader) → IsUtf8 (p ++ (bytes ++ rest)) → IsGathered p r → IsClean bytes → read_all read r bytes ≡ read_all plain r bytes
+same_part p [] rest r u s clean = refl
+same_part p (byte ∷ bytes) rest r u s clean =
     bind_same (read r byte) (λ next. read_all read next bytes) (λ next. read_all plain next bytes) (λ next e.
-    let gathered : IsGathered (p ++ byte ∷ []) next = subst (λ result. IfOk result (IsGathered (p ++ byte ∷ []))) e (read-kept p bytes r byte u s) in
-    same_run (p ++ byte ∷ []) bytes next (subst (λ (xs : List ℕ). IsUtf8 xs) (sym (append_assoc p (byte ∷ []) bytes)) u) gathered clean.1)
+    let gathered : IsGathered (p ++ byte ∷ []) next = subst (λ result. IfOk result (IsGathered (p ++ byte ∷ []))) e (read-kept p (bytes ++ rest) r byte u s) in
+    same_part (p ++ byte ∷ []) bytes rest next (subst (λ (xs : List ℕ). IsUtf8 xs) (sym (append_assoc p (byte ∷ []) (bytes ++ rest))) u) gathered clean.1)
     ∙ ap (λ acted. acted >>= λ next. read_all plain next bytes) (same_read p r byte s clean.0)
+
+pub same_run : (p bytes : List ℕ) (r : Reader) → IsUtf8 (p ++ bytes) → IsGathered p r → IsClean bytes → read_all read r bytes ≡ read_all plain r bytes
+same_run p bytes r u s clean = same_part p bytes [] r (subst (λ (xs : List ℕ). IsUtf8 (p ++ xs)) (sym (append-nil bytes)) u) s clean
 
 control_free : (r next : Reader) (byte : ℕ) → read r byte ≡ Ok next → is_control byte ≡ false
 unfolding read

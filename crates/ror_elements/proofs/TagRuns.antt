@@ -48,10 +48,10 @@ unfolding add_text
 text_added r bytes = push_if r.top.kept (λ (top : Open). record r { top = top }) (record r.top { text = r.top.text ++ bytes }) r.top
 
 -- a reference in progress
-abbrev referring : Home → List ℕ → ℕ → Open → List Open → Reader → Reader
+abbrev pub referring : Home → List ℕ → ℕ → Open → List Open → Reader → Reader
 referring home piece line top below j = record j { mode = modes.Reference home; line = line; top = top; below = below; piece = piece }
 
-name-run : (home : Home) (name : List ℕ) → AllByRecursion (λ byte. is_reference_byte byte ≡ true) name → (line : ℕ) (top : Open) (below : List Open) (j : Reader) (rest : List ℕ)
+pub name-run : (home : Home) (name : List ℕ) → AllByRecursion (λ byte. is_reference_byte byte ≡ true) name → (line : ℕ) (top : Open) (below : List Open) (j : Reader) (rest : List ℕ)
     → run (referring home [] line top below j) (name ++ rest) ≡ run (referring home name (line_at line name) top below j) rest
 unfolding plain in_reference
 name-run home name all line top below j rest = gather is_reference_byte (λ l piece. referring home piece l top below j)
@@ -183,7 +183,7 @@ attribute_begins : (byte line start : ℕ) (top : Open) (below : List Open) (tag
 unfolding plain in_tag begin_attribute
 attribute_begins byte line start top below tag j is = rw (is, name_dark byte is, not_named byte 62 is refl, not_named byte 47 is refl) refl
 
-attribute_name-run : (name : List ℕ) → IsName name → (line start : ℕ) (top : Open) (below : List Open) (tag : Tag) (j : Reader) (rest : List ℕ)
+pub attribute_name-run : (name : List ℕ) → IsName name → (line start : ℕ) (top : Open) (below : List Open) (tag : Tag) (j : Reader) (rest : List ℕ)
     → run (tagged (modes.Tag true) line start top below tag j) (name ++ rest) ≡ run (in_name name (line_at line name) start top below tag j) rest
 unfolding plain in_attribute_name
 attribute_name-run [] h line start top below tag j rest = absurd (h.1 refl)
@@ -191,21 +191,21 @@ attribute_name-run (byte ∷ name) h line start top below tag j rest =
     run_step (tagged (modes.Tag true) line start top below tag j) (in_name (byte ∷ []) (line_after line byte) start top below tag j) byte (name ++ rest) (attribute_begins byte line start top below tag j h.0.0)
     ∙ gather is_name_byte (λ l piece. in_name piece l start top below tag j) (λ l piece b is. rw is refl) name h.0.1 (line_after line byte) (byte ∷ []) rest
 
-equals_now : (name : List ℕ) (line start : ℕ) (top : Open) (below : List Open) (tag : Tag) (j : Reader) → list_any (bytes_eq name) tag.names ≡ false
+pub equals_now : (name : List ℕ) (line start : ℕ) (top : Open) (below : List Open) (tag : Tag) (j : Reader) → list_any (bytes_eq name) tag.names ≡ false
     → plain (in_name name line start top below tag j) 61 ≡ Ok (tagged modes.BeforeValue line start top below (naming tag name) (record j { piece = [] }))
 unfolding plain in_attribute_name add_name after_attribute_name
 equals_now name line start top below tag j new = rw new refl
 
-white_now : (name : List ℕ) (byte line start : ℕ) (top : Open) (below : List Open) (tag : Tag) (j : Reader) → list_any (bytes_eq name) tag.names ≡ false → is_white byte ≡ true
+pub white_now : (name : List ℕ) (byte line start : ℕ) (top : Open) (below : List Open) (tag : Tag) (j : Reader) → list_any (bytes_eq name) tag.names ≡ false → is_white byte ≡ true
     → plain (in_name name line start top below tag j) byte ≡ Ok (tagged modes.AfterAttributeName (line_after line byte) start top below (naming tag name) (record j { piece = [] }))
 unfolding plain in_attribute_name add_name after_attribute_name
 white_now name byte line start top below tag j new white = rw (white_unnamed byte white, new, white) refl
 
-equals_later : (line start : ℕ) (top : Open) (below : List Open) (tag : Tag) (j : Reader) → plain (tagged modes.AfterAttributeName line start top below tag j) 61 ≡ Ok (tagged modes.BeforeValue line start top below tag j)
+pub equals_later : (line start : ℕ) (top : Open) (below : List Open) (tag : Tag) (j : Reader) → plain (tagged modes.AfterAttributeName line start top below tag j) 61 ≡ Ok (tagged modes.BeforeValue line start top below tag j)
 unfolding plain after_attribute_name
 equals_later line start top below tag j = refl
 
-equals-run : (before : List ℕ) → IsSpace before → (name : List ℕ) (line start : ℕ) (top : Open) (below : List Open) (tag : Tag) (j : Reader) (rest : List ℕ) → list_any (bytes_eq name) tag.names ≡ false
+pub equals-run : (before : List ℕ) → IsSpace before → (name : List ℕ) (line start : ℕ) (top : Open) (below : List Open) (tag : Tag) (j : Reader) (rest : List ℕ) → list_any (bytes_eq name) tag.names ≡ false
     → run (in_name name line start top below tag j) (before ++ 61 ∷ rest) ≡ run (tagged modes.BeforeValue (line_at line before) start top below (naming tag name) (record j { piece = [] })) rest
 unfolding plain after_attribute_name
 equals-run [] space name line start top below tag j rest new = run_step (in_name name line start top below tag j) _ 61 rest (equals_now name line start top below tag j new)
@@ -216,7 +216,7 @@ equals-run (byte ∷ before) space name line start top below tag j rest new =
     ∙ pass is_white (λ n. tagged modes.AfterAttributeName n start top below (naming tag name) k) (λ n b white. rw white refl) before space.1 (line_after line byte) (61 ∷ rest)
     ∙ run_step (tagged modes.AfterAttributeName l start top below (naming tag name) k) _ 61 rest (equals_later l start top below (naming tag name) k)
 
-quote_opens : (quote : Quote) (line start : ℕ) (top : Open) (below : List Open) (tag : Tag) (j : Reader) → plain (tagged modes.BeforeValue line start top below tag j) (quote_byte quote) ≡ Ok (tagged (modes.Value quote) line start top below tag j)
+pub quote_opens : (quote : Quote) (line start : ℕ) (top : Open) (below : List Open) (tag : Tag) (j : Reader) → plain (tagged modes.BeforeValue line start top below tag j) (quote_byte quote) ≡ Ok (tagged (modes.Value quote) line start top below tag j)
 unfolding plain before_value
 quote_opens quotes.Single line start top below tag j = refl
 quote_opens quotes.Double line start top below tag j = refl
@@ -298,7 +298,7 @@ white_begins : (byte line start : ℕ) (spaced : Bool) (top : Open) (below : Lis
 unfolding plain in_tag
 white_begins byte line start spaced top below tag j white = rw white refl
 
-gap-run : (gap : List ℕ) → IsGap gap → (line start : ℕ) (spaced : Bool) (top : Open) (below : List Open) (tag : Tag) (j : Reader) (rest : List ℕ)
+pub gap-run : (gap : List ℕ) → IsGap gap → (line start : ℕ) (spaced : Bool) (top : Open) (below : List Open) (tag : Tag) (j : Reader) (rest : List ℕ)
     → run (tagged (modes.Tag spaced) line start top below tag j) (gap ++ rest) ≡ run (tagged (modes.Tag true) (line_at line gap) start top below tag j) rest
 gap-run [] h line start spaced top below tag j rest = absurd (h.1 refl)
 gap-run (byte ∷ gap) h line start spaced top below tag j rest =

@@ -332,6 +332,7 @@ IsSettled kinds.TooDeep = Unit {0}
 IsSettled kinds.Mismatched = Unit {0}
 IsSettled kinds.Doctype = Unit {0}
 IsSettled kinds.Encoding = Unit {0}
+IsSettled kinds.Entity = Unit {0}
 IsSettled _ = ⊥
 
 abbrev pub SettledFaultsAreGiven : Type 0

@@ -24,7 +24,7 @@ pub fn faults_are_what_they_say()
 
 /// Where a text has a fault of one of these kinds by the rule, that fault is given, so that it has no other of
 /// them: that it is no UTF-8, a root of another name, an element that is too deep, an end tag of another
-/// name, a document type, another encoding.
+/// name, a document type, another encoding, a reference for no character.
 pub fn settled_faults_are_given()
     ensures { SettledFaultsAreGiven }
 {}
