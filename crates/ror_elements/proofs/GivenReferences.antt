@@ -1,17 +1,15 @@
 -- References for no character are given wherever a text has them.
-use Rattle.std.proofs.Common.{◌≡◌, ℕ, ◌+◌, ◌<◌, Bool, true, false, not, List, [], ◌∷◌, ◌++◌, append_assoc, append-nil, length, map, Option, Some, None, Result, Ok, Err, refl, sym, ap, subst, ◌∙◌, arith, inl, inr}
-use Rattle.std.specs.Prelude.{◌⊎◌, ◌==◌, ◌&&◌, nat_le}
-use Rattle.std.specs.List.{AllByRecursion, list_any}
-use Rattle.std.specs.Str.{IsUtf8, bytes_eq}
-use Rattle.std.proofs.lemmas.Bool.{cases_Bool, eqb-true, false_from_ne_true, lt-leb}
-use Rattle.std.proofs.lemmas.List.{append_cancel_right}
-use Rattle.ror_text.specs.Reading.{◌>>=◌, refuse, read_all}
+use Rattle.std.proofs.Common.{◌≡◌, ℕ, true, List, [], ◌∷◌, ◌++◌, Option, Some, None, Err, refl, ap, subst, ◌∙◌, inl, inr}
+use Rattle.std.specs.Prelude.{◌⊎◌, ◌==◌}
+use Rattle.std.specs.List.{AllByRecursion}
+use Rattle.std.specs.Str.{IsUtf8}
+use Rattle.std.proofs.lemmas.Bool.{eqb-true, false_from_ne_true}
+use Rattle.ror_text.specs.Reading.{read_all}
 use Rattle.ror_text.proofs.ReadingLemmas.{bind-at_err}
 use Rattle.ror_elements.specs.declared.element.ElementFault.{ElementFault}
 use Rattle.ror_elements.specs.declared.element.ElementKind.TheVariants as kinds
 use Rattle.ror_elements.specs.declared.mode.Home.{Home}
 use Rattle.ror_elements.specs.declared.mode.Home.TheVariants as homes
-use Rattle.ror_elements.specs.declared.mode.Mode.{Mode}
 use Rattle.ror_elements.specs.declared.mode.Mode.TheVariants as modes
 use Rattle.ror_elements.specs.declared.mode.Quote.{Quote}
 use Rattle.ror_elements.specs.declared.mode.Quote.TheVariants as quotes
@@ -20,17 +18,13 @@ use Rattle.ror_elements.specs.declared.reader.Reader.{Reader}
 use Rattle.ror_elements.specs.declared.reader.Tag.{Tag}
 use Rattle.ror_elements.specs.Elements.{read, finish, elements_of, without_mark}
 use Rattle.ror_elements.specs.Faults.{fault}
-use Rattle.ror_elements.specs.Grammar.{IsName, AreDigits, Names, line_behind}
-use Rattle.ror_elements.specs.Marks.{is_name_byte}
-use Rattle.ror_elements.specs.Mode.{quote_byte}
-use Rattle.ror_elements.specs.Open.{is_none}
+use Rattle.ror_elements.specs.Grammar.{AreDigits}
 use Rattle.ror_elements.specs.Reader.{nothing_read, in_content, end_reference, in_reference}
-use Rattle.ror_elements.specs.Refusals.{IsClean, StandsAt, AreReferenceBytes, IsNoName, RefersAt, HasEntity}
-use Rattle.ror_elements.specs.References.{entity, number_of, chosen, character_of}
+use Rattle.ror_elements.specs.Refusals.{IsClean, AreReferenceBytes, IsNoName}
+use Rattle.ror_elements.specs.References.{entity, number_of, character_of}
 use Rattle.ror_elements.specs.Tags.{add_byte, in_value}
 use Rattle.ror_elements.proofs.ElementRuns.{some_name}
-use Rattle.ror_elements.proofs.FaultWords.{open_names}
-use Rattle.ror_elements.proofs.GivenFaults.{clean_append, front_clean, read_err}
+use Rattle.ror_elements.proofs.GivenFaults.{read_err}
 use Rattle.ror_elements.proofs.LawLemmas.{without_mark-IsUtf8, past_utf8}
 use Rattle.ror_elements.proofs.NameLemmas.{which, is_reference_byte, entity_named, some_digits}
 use Rattle.ror_elements.proofs.PlainReader.{plain, run, same_part}

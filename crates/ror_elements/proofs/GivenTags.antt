@@ -1,41 +1,37 @@
 -- References in values that are for no character are given wherever a text has them.
-use Rattle.std.proofs.Common.{◌≡◌, ℕ, ◌+◌, ◌<◌, Bool, true, false, not, List, [], ◌∷◌, ◌++◌, append_assoc, append-nil, length, map, Option, Some, None, Result, Ok, Err, refl, sym, ap, subst, ◌∙◌, arith, inl, inr}
-use Rattle.std.specs.Prelude.{◌⊎◌, ◌==◌, ◌&&◌, nat_le}
-use Rattle.std.specs.List.{AllByRecursion, list_any}
+use Rattle.std.proofs.Common.{◌≡◌, ℕ, ◌<◌, false, not, List, [], ◌∷◌, ◌++◌, append_assoc, append-nil, length, Err, refl, sym, ap, subst, ◌∙◌, arith, inl, inr}
+use Rattle.std.specs.List.{list_any}
 use Rattle.std.specs.Str.{IsUtf8, bytes_eq}
-use Rattle.std.proofs.lemmas.Bool.{cases_Bool, eqb-true, ne_eqb, lt-leb}
+use Rattle.std.proofs.lemmas.Bool.{cases_Bool, lt-leb}
 use Rattle.std.proofs.lemmas.List.{append_cancel_right}
-use Rattle.ror_text.specs.Reading.{◌>>=◌, refuse, read_all}
-use Rattle.ror_elements.specs.declared.element.ElementFault.{ElementFault}
+use Rattle.ror_text.specs.Reading.{◌>>=◌, read_all}
 use Rattle.ror_elements.specs.declared.element.ElementKind.TheVariants as kinds
 use Rattle.ror_elements.specs.declared.mode.Mode.{Mode}
 use Rattle.ror_elements.specs.declared.mode.Mode.TheVariants as modes
 use Rattle.ror_elements.specs.declared.mode.Quote.{Quote}
-use Rattle.ror_elements.specs.declared.mode.Quote.TheVariants as quotes
 use Rattle.ror_elements.specs.declared.open.Open.{Open}
 use Rattle.ror_elements.specs.declared.reader.Reader.{Reader}
 use Rattle.ror_elements.specs.declared.reader.Tag.{Tag}
-use Rattle.ror_elements.specs.Elements.{line_after, elements_of, without_mark}
+use Rattle.ror_elements.specs.Elements.{elements_of, without_mark}
 use Rattle.ror_elements.specs.Faults.{fault}
-use Rattle.ror_elements.specs.Grammar.{IsName, IsSpace, IsGap, BeginsTag, Attribute, AreAttributes, AreDistinct, IsValue, line_behind}
+use Rattle.ror_elements.specs.Grammar.{IsName, IsGap, BeginsTag, Attribute, AreAttributes, AreDistinct, line_behind}
 use Rattle.ror_elements.specs.Marks.{is_white, is_name_byte}
-use Rattle.ror_elements.specs.Mode.{quote_byte, quote_of}
-use Rattle.ror_elements.specs.Open.{is_none}
-use Rattle.ror_elements.specs.Reader.{nothing_read, whole_text}
-use Rattle.ror_elements.specs.Refusals.{IsClean, IsBeforeRoot, IsFront, StandsAt, TagStandsAt, IsInValue, IsNoName, RefersAt, HasEntity}
-use Rattle.ror_elements.specs.Tags.{opened, is_bad_root, open_element, begin_attribute, in_tag, in_start_name, add_name, after_attribute_name, in_attribute_name, quoted, before_value, in_value}
-use Rattle.ror_elements.proofs.ElementRuns.{named_tag, in_start, start_name-run, space-run, is_some_space}
+use Rattle.ror_elements.specs.Mode.{quote_byte}
+use Rattle.ror_elements.specs.Reader.{nothing_read}
+use Rattle.ror_elements.specs.Refusals.{IsBeforeRoot, IsFront, StandsAt, TagStandsAt, IsInValue, IsNoName, RefersAt, HasEntity}
+use Rattle.ror_elements.specs.Tags.{opened, is_bad_root, open_element, begin_attribute, in_tag, in_start_name, before_value}
+use Rattle.ror_elements.proofs.ElementRuns.{named_tag, in_start, start_name-run}
 use Rattle.ror_elements.proofs.FaultFronts.{run_on, count_names}
 use Rattle.ror_elements.proofs.FaultValues.{twice_last}
 use Rattle.ror_elements.proofs.FaultWords.{open_names, is_closed}
-use Rattle.ror_elements.proofs.GivenFaults.{clean_append, on_from, front_clean, reached_by, from_known, KnownOpen, open_is_content}
-use Rattle.ror_elements.proofs.GivenForm.{Led, led}
+use Rattle.ror_elements.proofs.GivenFaults.{clean_append, on_from, front_clean, reached_by, from_known, open_is_content}
+use Rattle.ror_elements.proofs.GivenForm.{led}
 use Rattle.ror_elements.proofs.GivenReferences.{Referring, given_by, no_character_of, ended_reference, in_text-refers, in_value-refers}
 use Rattle.ror_elements.proofs.LawLemmas.{lines_are_counted, without_mark-IsUtf8}
 use Rattle.ror_elements.proofs.TextLemmas.{cut_front}
-use Rattle.ror_elements.proofs.PlainReader.{plain, plain_in_empty_tag, run}
+use Rattle.ror_elements.proofs.PlainReader.{plain, run}
 use Rattle.ror_elements.proofs.Runs.{line_at, line_at-is, line_at-append, at, run_step, pass}
-use Rattle.ror_elements.proofs.TagRuns.{tagged, naming, in_name, with_attribute, with_attributes, with_value, names_of, fresh, attributes-goes, attribute_name-run, equals-run, quote_opens, gap-run, white_now, value-goes, quote_line, white_unnamed}
+use Rattle.ror_elements.proofs.TagRuns.{tagged, naming, with_attribute, with_attributes, with_value, names_of, fresh, attributes-goes, attribute_name-run, equals-run, quote_opens, gap-run, value-goes, quote_line, white_unnamed}
 
 -- ---- a front behind which a tag may begin
 
