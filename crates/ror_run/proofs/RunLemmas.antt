@@ -1,19 +1,19 @@
 -- How a run ends by what came of the work.
-use Rattle.std.proofs.Common.{◌≡◌, ◌≢◌, ℕ, ◌+◌, ◌<◌, ◌≤◌, ◌⊎◌, ◌∙◌, Bool, true, false, List, length, Option, Some, None, Ok, Err, IsErr, IsSome, refl, sym, ap, subst, inl, inr, arith}
+use Rattle.std.proofs.Common.{◌≡◌, ◌≢◌, ℕ, ◌<◌, ◌≤◌, ◌∙◌, Bool, true, false, List, length, Option, Some, None, Ok, Err, IsErr, refl, sym, ap, subst, inl, inr, arith}
 use Rattle.ror_io.specs.Files.{Files}
-use Rattle.ror_io.specs.Counts.{Rose, DidNotRise}
+use Rattle.ror_io.specs.Counts.{DidNotRise}
 use Rattle.ror_frame.specs.declared.status.Status.{Status}
 use Rattle.ror_frame.specs.declared.status.Status.TheVariants as statuses
 use Rattle.ror_frame.specs.declared.stop.Refusal.{Refusal}
 use Rattle.ror_frame.specs.declared.stop.Refusal.TheVariants as refusals
 use Rattle.ror_frame.specs.declared.stop.Stop.TheVariants as stops
 use Rattle.ror_frame.specs.States.{ShelfState, SinkState}
-use Rattle.ror_frame.specs.Stops.{Outcome, status_after, outcome_of, refused_status, HidesNone}
-use Rattle.ror_frame.specs.Courses.{Ending, Leads, Ends, Writes, CountsWrites, EndsAfter, LacksOne, LacksFirst, IsPure, IsWork}
+use Rattle.ror_frame.specs.Stops.{Outcome, status_after, outcome_of, refused_status}
+use Rattle.ror_frame.specs.Courses.{Ending, Leads, Ends, CountsWrites, EndsAfter, LacksOne, LacksFirst, IsPure, IsWork}
 use Rattle.ror_words.specs.Words.{Task, task_of}
 use Rattle.ror_run.specs.Chores.{chore_of}
 use Rattle.ror_run.specs.Running.{files_named, WritesBy, IsRun}
-use Rattle.ror_frame.proofs.CourseLemmas.{IsDecided, one_ending, unbegun}
+use Rattle.ror_frame.proofs.CourseLemmas.{one_ending, unbegun}
 use Rattle.ror_run.proofs.ChoreLemmas.{decided_chore, three_files}
 
 -- ---- a status tells the outcome
