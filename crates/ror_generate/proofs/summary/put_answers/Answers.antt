@@ -12,7 +12,7 @@ use Rattle.ror_generate.proofs.Counting.{answers_more, accepted_more}
 use Rattle.ror_generate.proofs.summary.put_answers.Goals as goal
 
 pub loop-line-init : goal.loop-line-init
-loop-line-init c = record { same = c.requires.same; numbers = c.requires.numbers; blocks = []; made = made_nothing most c.args.bench.now; answers = c.requires.none; accepted = refl; few = omega arith }
+loop-line-init c = record { same = c.requires.same; numbers = c.requires.numbers; first = []; made = made_nothing most c.args.bench.now; answers = c.requires.none; accepted = refl; few = omega arith }
 
 pub checked_block-requires : goal.checked_block-requires
 checked_block-requires c =
@@ -54,10 +54,10 @@ loop-line-preserved c =
     record {
       same = new.same;
       numbers = numbers_then most c.loop-line.bench c.checked_block.new.bench line block (length (drop (i + 1) lines)) here numbers new.block new.moved;
-      blocks = were.blocks ++ block ∷ [];
-      made = rw more (made_more most c.args.bench.now (take i lines) c.loop-line.bench c.checked_block.new.bench line were.blocks block were.made desk new.block new.text new.moved);
-      answers = c.in_ok-put_all.ensures ∙ ap (λ xs. xs ++ answers_of block.body) were.answers ∙ sym (answers_more were.blocks block);
-      accepted = is ∙ ap (λ a. with_passed a passed) were.accepted ∙ ap (with_passed (accepted_of were.blocks)) new.counted ∙ accepted_more were.blocks block;
+      first = were.first ++ block ∷ [];
+      made = rw more (made_more most c.args.bench.now (take i lines) c.loop-line.bench c.checked_block.new.bench line were.first block were.made desk new.block new.text new.moved);
+      answers = c.in_ok-put_all.ensures ∙ ap (λ xs. xs ++ answers_of block.body) were.answers ∙ sym (answers_more were.first block);
+      accepted = is ∙ ap (λ a. with_passed a passed) were.accepted ∙ ap (with_passed (accepted_of were.first)) new.counted ∙ accepted_more were.first block;
       few = omega arith;
     }
 
@@ -65,4 +65,4 @@ pub returns : goal.returns
 returns c =
     let were = c.loop-line.invariant in
     let all = take_all c.loop-line.line-index c.args.lines.now (omega arith) in
-    record { blocks = were.blocks; made = rw all at were.made.blocks_are; answers_are = were.answers; accepted_are = were.accepted }
+    record { blocks = were.first; made = rw all at were.made.blocks_are; answers_are = were.answers; accepted_are = were.accepted }

@@ -11,9 +11,9 @@ abbrev pub invariant-loop-line : goal.invariant-loop-line
 invariant-loop-line l = record {
   same : HoldTheSame l.checks l.bench;
   numbers : AllByRecursion (LeavesNumbers (length (drop l.line-index l.lines))) l.bench.state;
-  blocks : List Block;
-  made : IsMade most l.initial.bench (take l.line-index l.lines) l.bench blocks;
-  answers : l.answers.items ≡ answers_in blocks;
-  accepted : l.accepted ≡ accepted_of blocks;
+  first : List Block;
+  made : IsMade most l.initial.bench (take l.line-index l.lines) l.bench first;
+  answers : l.answers.items ≡ answers_in first;
+  accepted : l.accepted ≡ accepted_of first;
   few : l.accepted.answers + l.accepted.wide ≤ 8589934590 * l.line-index;
 }
