@@ -17,7 +17,7 @@ pub fn the_first_fault_is_given()
     ensures { GivesTheFirstFault }
 {}
 
-/// The fault that is given is one of its kind that stands in the text, at the line where it begins.
+/// The fault that is given is one that the text has by the rule in `specs/Refusals`, of its kind and at its line.
 pub fn faults_are_what_they_say()
     ensures { FaultsAreWhatTheySay }
 {}

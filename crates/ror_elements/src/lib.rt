@@ -12,7 +12,9 @@
 //! in `Grammar`; what a byte does in text and outside of tags in `Reader`, in tags in `Tags`, and
 //! the reading of a whole text in `Elements`; the characters that references stand for in
 //! `References`, and the encoding that is declared in `Declarations`. The laws in `Laws` say that
-//! what is read are the documents, each as its root, and that the fault is the first.
+//! what is read are the documents, each as its root, and that the fault is the first. What stands in
+//! a text that has a fault is said in `Refusals`, for each kind of fault; and which elements are kept,
+//! row by row, in `Listed`.
 //!
 //! ```
 //! let root = read_elements(alloc, b"<XMCDA><criteria><criterion id='q'/></criteria></XMCDA>")?;
