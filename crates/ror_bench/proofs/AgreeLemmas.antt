@@ -1,9 +1,8 @@
 -- That bodies which are proved over the same commands agree, whatever proofs they have.
-use Rattle.std.proofs.Common.{◌⊎◌, inl, inr, zero, suc, ◌≡◌, ℕ, Bool, true, false, List, [], ◌∷◌, length, map, get_or, Some, refl, sym, ap, ◌∙◌, subst, arith}
+use Rattle.std.proofs.Common.{◌⊎◌, inl, inr, zero, suc, ◌≡◌, ℕ, Bool, true, false, List, [], ◌∷◌, length, map, Some, refl, sym, ap, ◌∙◌, subst, arith}
 use Rattle.std.specs.Prelude.{cond, ◌==◌}
 use Rattle.std.specs.List.{AllByRecursion, AllZip, filter}
 use Rattle.std.proofs.lemmas.List.{length-map}
-use Rattle.ror_text.proofs.FirstFaultLemmas.{first_at}
 use Rattle.ror_statement.specs.declared.statement.Statement.{Statement}
 use Rattle.ror_statement.specs.declared.question.Question.{Question}
 use Rattle.ror_statement.specs.declared.question.Conclusion.{Conclusion}
@@ -18,7 +17,6 @@ use Rattle.ror_session.specs.declared.session.Command.TheVariants.{State, Withdr
 use Rattle.ror_proof.specs.declared.answer.Answer.{Answer}
 use Rattle.ror_proof.specs.declared.answer.Verdict.{Verdict}
 use Rattle.ror_proof.specs.declared.answer.Verdict.TheVariants as verdicts
-use Rattle.ror_system.specs.System.{LinearSystem}
 use Rattle.ror_proof.specs.declared.answer.WideText.{WideText}
 use Rattle.ror_proof.specs.declared.kept.Kept.{Kept}
 use Rattle.ror_check.specs.Proof.{IsWideOrTrue, IsAllowedVerdict, base_system}
@@ -30,15 +28,13 @@ use Rattle.ror_report.specs.declared.block.Block.{Block}
 use Rattle.ror_report.specs.declared.block.Body.{Body}
 use Rattle.ror_report.specs.declared.block.Body.TheVariants as bodies
 use Rattle.ror_report.specs.declared.block.LineFault.{LineFault}
-use Rattle.ror_report.specs.declared.block.LineFault.TheVariants as faults
 use Rattle.ror_report.specs.Text.{answers_of}
 use Rattle.ror_history.specs.History.{Revisions, withdrawal, next_number, standing, statements_of, with_revision}
-use Rattle.ror_bench.specs.Allowed.{IsProvedUnlessWide, IsRepairProvedUnlessWide, proved_unless_wide}
+use Rattle.ror_bench.specs.Allowed.{Allowing, IsProvedUnlessWide, IsRepairProvedUnlessWide, proved_unless_wide}
 use Rattle.ror_bench.specs.Bench.{Workbench, revisions_at, IsLawfulThroughout}
-use Rattle.ror_bench.specs.Lines.{FailsLine, line_stage, IsRefusedFor}
-use Rattle.ror_bench.specs.Blocks.{IsBodyOf, refused, taken, IsProvedBlock, revisions_with}
+use Rattle.ror_bench.specs.Blocks.{IsBodyOf, refused, taken, IsBlockOf, revisions_with}
 use Rattle.ror_bench.specs.Reports.{EachHolds, at_desk}
-use Rattle.ror_bench.specs.Desks.{with_blocks, said_at, IsTurnOf, turns_at, commands_at, bodies_at, conclusion_of, ConcludesAs, AgreesWith, RepairsApart, AgreeInTurn, DesksAgree, IsSystemFor, NarrowConcludes, NarrowRepairs}
+use Rattle.ror_bench.specs.Desks.{with_blocks, said_at, IsTurnOf, turns_at, commands_at, bodies_at, conclusion_of, ConcludesAs, AgreesWith, RepairsApart, AgreeInTurn, DesksAgree, IsNarrowQuestion, NarrowConcludes, NarrowRepairs}
 use Rattle.ror_bench.proofs.NameLemmas.{questions_valid}
 use Rattle.ror_bench.proofs.AnswerLemmas.{one_list}
 use Rattle.ror_bench.proofs.LawfulLemmas.{lawful_now, moved_lawful}
@@ -54,7 +50,7 @@ concluded_true t list q (verdicts.No proof) c is h = subst (Answers t list q) (l
 concluded_true t list q (verdicts.Contradiction proof) c is h = subst (Answers t list q) (let same : conclusions.Contradiction ≡ c = cc in same) h
 concluded_true t list q (verdicts.Wide system note) c is h = absurd (let none = is in cc)
 
-concludes_as : (t : DecisionTable) (list : List Statement) (q : Question) (x y : Answer) → IsLawfulIn t list → IsAskedIn t q → IsProvedUnlessWide t list q x → IsProvedUnlessWide t list q y → ConcludesAs x y
+pub concludes_as : (t : DecisionTable) (list : List Statement) (q : Question) (x y : Answer) → IsLawfulIn t list → IsAskedIn t q → IsProvedUnlessWide t list q x → IsProvedUnlessWide t list q y → ConcludesAs x y
 concludes_as t list q x y lawful asked first second = record {
   question = first.question ∙ sym second.question;
   conclusion = λ c d of_x of_y. one_conclusion t list q c d
@@ -166,7 +162,7 @@ agree_along t r (x ∷ xs) (y ∷ ys) lawful one other same =
 
 -- ---- what is said at a desk
 
-said_bodies : (xs : List (Line × Block)) → map (λ (y : Command × Body). y.1) (map what_is_said xs) ≡ map (λ (x : Line × Block). x.1.body) xs
+pub said_bodies : (xs : List (Line × Block)) → map (λ (y : Command × Body). y.1) (map what_is_said xs) ≡ map (λ (x : Line × Block). x.1.body) xs
 said_bodies [] = refl
 said_bodies (x ∷ xs) = ap (λ (l : List Body). x.1.body ∷ l) (said_bodies xs)
 
@@ -182,29 +178,41 @@ said_commands desk (line ∷ lines) (block ∷ blocks) long = by (line.desk == d
     by false rest = rest
 
 -- what the commands are where each line has its block
-commands_said : (bench : Workbench) (desk : ℕ) (lines : List Line) (blocks : List Block) → EachHolds (IsProvedBlock bench.table) bench [] lines blocks → map (λ (y : Command × Body). y.0) (said_at desk lines blocks) ≡ commands_at desk lines
-commands_said bench desk lines blocks each = said_commands desk lines blocks (as_many (IsProvedBlock bench.table) bench [] lines blocks each)
+commands_said : (P : Revisions → Line → Block → Type 0) (bench : Workbench) (desk : ℕ) (lines : List Line) (blocks : List Block) → EachHolds P bench [] lines blocks → map (λ (y : Command × Body). y.0) (said_at desk lines blocks) ≡ commands_at desk lines
+commands_said P bench desk lines blocks each = said_commands desk lines blocks (as_many P bench [] lines blocks each)
+
+-- two sessions over desks that begin alike, with the same commands at a desk of each, whose blocks are allowed in one way
+pub record AreAlongside (H : Allowing) (t : DecisionTable) (r : Revisions) (xs ys : List (Command × Body)) : Type 0 where
+  pub one : AllByRecursion (IsTurnOf H t) (turns_along t r xs)
+  pub other : AllByRecursion (IsTurnOf H t) (turns_along t r ys)
+  pub commands : map (λ (x : Command × Body). x.0) xs ≡ map (λ (y : Command × Body). y.0) ys
+
+pub alongside : (H : Allowing) (one other : Workbench) (desk_one desk_other : ℕ) (lines_one lines_other : List Line) (blocks_one blocks_other : List Block) → one.table ≡ other.table → revisions_at one desk_one ≡ revisions_at other desk_other → commands_at desk_one lines_one ≡ commands_at desk_other lines_other
+    → EachHolds (IsBlockOf H one.table) one [] lines_one blocks_one → EachHolds (IsBlockOf H other.table) other [] lines_other blocks_other → AreAlongside H one.table (revisions_at one desk_one) (said_at desk_one lines_one blocks_one) (said_at desk_other lines_other blocks_other)
+alongside H one other desk_one desk_other lines_one lines_other blocks_one blocks_other table begins commands holds_one holds_other =
+    let said_other : List (Command × Body) = said_at desk_other lines_other blocks_other in
+    let turns : turns_along other.table (revisions_at other desk_other) said_other ≡ turns_along one.table (revisions_at one desk_one) said_other =
+    ap (λ (t : DecisionTable). turns_along t (revisions_at other desk_other) said_other) (sym table) ∙ ap (λ (r : Revisions). turns_along one.table r said_other) (sym begins) in
+    let second : AllByRecursion (IsTurnOf H other.table) (turns_at other desk_other [] lines_other blocks_other) = turns_of_blocks H other desk_other [] lines_other blocks_other holds_other in
+    record {
+      one = subst (AllByRecursion (IsTurnOf H one.table)) (turns_are one desk_one [] lines_one blocks_one) (turns_of_blocks H one desk_one [] lines_one blocks_one holds_one);
+      other = subst (AllByRecursion (IsTurnOf H one.table)) (turns_are other desk_other [] lines_other blocks_other ∙ turns)
+          (subst (λ (t : DecisionTable). AllByRecursion (IsTurnOf H t) (turns_at other desk_other [] lines_other blocks_other)) (sym table) second);
+      commands = commands_said (IsBlockOf H one.table) one desk_one lines_one blocks_one holds_one ∙ commands ∙ sym (commands_said (IsBlockOf H other.table) other desk_other lines_other blocks_other holds_other);
+    }
 
 pub agree : DesksAgree
 agree one other desk_one desk_other lines_one lines_other blocks_one blocks_other lawful table begins commands proved_one proved_other =
     let said_one : List (Command × Body) = said_at desk_one lines_one blocks_one in
     let said_other : List (Command × Body) = said_at desk_other lines_other blocks_other in
-    let turns : turns_along other.table (revisions_at other desk_other) said_other ≡ turns_along one.table (revisions_at one desk_one) said_other =
-    ap (λ (t : DecisionTable). turns_along t (revisions_at other desk_other) said_other) (sym table) ∙ ap (λ (r : Revisions). turns_along one.table r said_other) (sym begins) in
-    let first : AllByRecursion (IsTurnOf proved_unless_wide one.table) (turns_along one.table (revisions_at one desk_one) said_one) =
-    subst (AllByRecursion (IsTurnOf proved_unless_wide one.table)) (turns_are one desk_one [] lines_one blocks_one) (turns_of_blocks proved_unless_wide one desk_one [] lines_one blocks_one proved_one) in
-    let second : AllByRecursion (IsTurnOf proved_unless_wide other.table) (turns_at other desk_other [] lines_other blocks_other) = turns_of_blocks proved_unless_wide other desk_other [] lines_other blocks_other proved_other in
-    let over_one : AllByRecursion (IsTurnOf proved_unless_wide one.table) (turns_along one.table (revisions_at one desk_one) said_other) =
-    subst (AllByRecursion (IsTurnOf proved_unless_wide one.table)) (turns_are other desk_other [] lines_other blocks_other ∙ turns)
-    (subst (λ (t : DecisionTable). AllByRecursion (IsTurnOf proved_unless_wide t) (turns_at other desk_other [] lines_other blocks_other)) (sym table) second) in
-    let same = commands_said one desk_one lines_one blocks_one proved_one ∙ commands ∙ sym (commands_said other desk_other lines_other blocks_other proved_other) in
-    let agrees = agree_along one.table (revisions_at one desk_one) said_one said_other lawful first over_one same in
+    let both = alongside proved_unless_wide one other desk_one desk_other lines_one lines_other blocks_one blocks_other table begins commands proved_one proved_other in
+    let agrees = agree_along one.table (revisions_at one desk_one) said_one said_other lawful both.one both.other both.commands in
     subst (λ (l : List Body). AgreeInTurn l (bodies_at desk_other lines_other blocks_other)) (said_bodies (at_desk desk_one (with_blocks lines_one blocks_one)))
     (subst (AgreeInTurn (map (λ (x : Command × Body). x.1) said_one)) (said_bodies (at_desk desk_other (with_blocks lines_other blocks_other))) agrees)
 
 -- ---- where no number is too wide
 
-concluded : (most : ℕ) (t : DecisionTable) (list : List Statement) (q : Question) (v : Verdict) → IsAllowedVerdict (HasNoteAt most) t list q v → ((s : LinearSystem) (note : WideText) → IsSystemFor t list q s → HasNoteAt most s note → ⊥) → (c : Conclusion) × (conclusion_of v ≡ Some c)
+concluded : (most : ℕ) (t : DecisionTable) (list : List Statement) (q : Question) (v : Verdict) → IsAllowedVerdict (HasNoteAt most) t list q v → IsNarrowQuestion most t list q → (c : Conclusion) × (conclusion_of v ≡ Some c)
 concluded most t list q (verdicts.Yes proof) allowed narrow = (conclusions.Yes, refl)
 concluded most t list q (verdicts.No proof) allowed narrow = (conclusions.No, refl)
 concluded most t list q (verdicts.Contradiction proof) allowed narrow = (conclusions.Contradiction, refl)

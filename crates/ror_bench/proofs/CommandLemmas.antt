@@ -1,5 +1,6 @@
 -- When a command is refused, and for what first; when it is taken.
-use Rattle.std.proofs.Common.{◌≡◌, ◌≢◌, inl, inr, ℕ, zero, suc, ◌<◌, ◌≤◌, List, [], ◌∷◌, ◌++◌, Ok, Err, refl, sym, ap, ◌∙◌, subst, arith}
+use Rattle.std.proofs.Common.{◌≡◌, ◌≢◌, inl, inr, ℕ, zero, suc, ◌<◌, ◌≤◌, List, [], ◌∷◌, ◌++◌, Result, Ok, Err, refl, sym, ap, ◌∙◌, subst, arith}
+use Rattle.std.specs.Prelude.{IfErr}
 use Rattle.std.proofs.lemmas.List.Elements.{All-head, All-nil, All-cons}
 use Rattle.ror_chain.proofs.OrderLemmas.{distinct_from_Apart}
 use Rattle.std.proofs.lemmas.Bool.{cases_lt}
@@ -21,7 +22,7 @@ use Rattle.ror_history.specs.declared.history.HistoryFault.TheVariants as histor
 use Rattle.ror_history.specs.History.{Revision, Revisions, replacement, statements_of, with_revision}
 use Rattle.ror_history.specs.Faults.{Stands, CanBeAdded, FailsAddition, CanBeReplaced, FailsReplacement, CanBeWithdrawn, FailsWithdrawal, FailsUndo, IsEarlierFault}
 use Rattle.ror_bench.specs.Names.{statement_of, questions_of}
-use Rattle.ror_bench.specs.Lines.{LacksAlternative, LacksCriterion, HasUnknownClass, HasManyPairs, alternatives_in, criterion_in, FailsLine, line_stage, IsRefusedFor, IsTaken}
+use Rattle.ror_bench.specs.Lines.{LacksAlternative, LacksCriterion, HasUnknownClass, HasManyPairs, alternatives_in, criterion_in, FailsLine, line_stage, IsRefusedFor, IsTaken, IsFirstOfNames}
 use Rattle.ror_bench.specs.Steps.{stop_of_history, RefusesCommand}
 use Rattle.ror_bench.proofs.NameLemmas.{CommandStands, CommandFails, neither, statement_stands, statement_fails, replacement_stands, replacement_fails, questions_stand, questions_fail, questions_not_many}
 use Rattle.ror_bench.proofs.NameLemmas.CommandFails.{lacks_alternative, lacks_criterion, unknown_class, bad_interval}
@@ -245,6 +246,11 @@ withdrawn_refused t r n histories.NoSuchStatement refused = first_of t r (Withdr
 
 pub replacement_refused : (t : DecisionTable) (r : Revisions) (n : ℕ) (named : Named) (fault : LineFault) → statement_of t named ≡ Err fault → IsRefusedFor t r (Replace n named) fault
 replacement_refused t r n named fault e = names_refused t r (Replace n named) fault (replacement_fails t n named fault (statement_fails t named fault e))
+
+-- the fault of names is the first of a line that states them, or puts their statement in another's place
+pub first_of_names : (t : DecisionTable) (named : Named) (result : Result Statement LineFault) → result ≡ statement_of t named → IfErr result (IsFirstOfNames t named)
+first_of_names t named (Ok s) is = tt
+first_of_names t named (Err fault) is = λ r. (statement_refused t r named fault (sym is), λ n. replacement_refused t r n named fault (sym is))
 
 pub replaced_taken : (t : DecisionTable) (r : Revisions) (n : ℕ) (named : Named) (s : Statement) → statement_of t named ≡ Ok s → CanBeReplaced r n s → IsTaken t r (Replace n named)
 replaced_taken t r n named s e can = passes

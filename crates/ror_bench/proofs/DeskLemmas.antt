@@ -64,63 +64,47 @@ kept_set t [] desk new all held = tt
 kept_set t (v ∷ vs) zero new all held = (held, all.1)
 kept_set t (v ∷ vs) (suc desk) new all held = (all.0, kept_set t vs desk new all.1 held)
 
-abbrev pub bench_with : DecisionTable → ℕ → List Revisions → Workbench
-bench_with t p state = record { table = t; state = state; pivots = p }
-
-nothing : Revisions
-nothing = record { opening = []; surviving = [] }
+-- a bench of these histories, whose engine made so many pivots
+abbrev pub bench_with : DecisionTable → ℕ → List HistoryView → Workbench
+bench_with t p views = record { table = t; state = map (λ (h : HistoryView). h.state) views; pivots = p }
 
 -- what a desk holds is what the bench has there
-pub state_here : (t : DecisionTable) (p : ℕ) (views : List HistoryView) (desk : ℕ) (h : HistoryView) → desk < length (map (λ (h : HistoryView). h.state) views) → h ≡ get_or views desk h → h.state ≡ revisions_at (bench_with t p (map (λ (h : HistoryView). h.state) views)) desk
+pub state_here : (t : DecisionTable) (p : ℕ) (views : List HistoryView) (desk : ℕ) (h : HistoryView) → desk < length (map (λ (h : HistoryView). h.state) views) → h ≡ get_or views desk h → h.state ≡ revisions_at (bench_with t p views) desk
 state_here t p views desk h within is =
     let inside : desk < length views = (let n = states_count views in omega arith) in
     ap (λ (h : HistoryView). h.state) is ∙ sym (get_or-map (λ (h : HistoryView). h.state) views desk h (record { opening = []; surviving = [] }) inside)
 
--- a history that is changed at its place changes the desk there
-pub state_set : (t : DecisionTable) (p : ℕ) (views : List HistoryView) (desk : ℕ) (new : HistoryView) (r : Revisions) → new.state ≡ r → bench_with t p (map (λ (h : HistoryView). h.state) (slice_set views desk new)) ≡ bench_with t p (slice_set (map (λ (h : HistoryView). h.state) views) desk r)
-state_set t p views desk new r is =
-    ap (bench_with t p) (map-set (λ (h : HistoryView). h.state) views desk new ∙ ap (slice_set (map (λ (h : HistoryView). h.state) views) desk) is)
-
-pub state_stays : (t : DecisionTable) (p : ℕ) (views : List HistoryView) (desk : ℕ) (old new : HistoryView) → old ≡ get_or views desk old → new.state ≡ old.state → bench_with t p (map (λ (h : HistoryView). h.state) (slice_set views desk new)) ≡ bench_with t p (map (λ (h : HistoryView). h.state) views)
-state_stays t p views desk old new is same =
-    let here : new.state ≡ (get_or views desk old).state = same ∙ ap (λ (h : HistoryView). h.state) is in
-    ap (bench_with t p) (map-set_same (λ (h : HistoryView). h.state) views desk new old here)
-
 -- ---- a line at its desk
 
 -- what holds over what a history has holds over what the bench has at its desk
-pub at_bench : (P : DecisionTable → Revisions → Type 0) (t : DecisionTable) (p : ℕ) (views : List HistoryView) (desk : ℕ) (h : HistoryView) (b : Workbench) → desk < length (map (λ (h : HistoryView). h.state) views) → h ≡ get_or views desk h → bench_with t p (map (λ (h : HistoryView). h.state) views) ≡ b → P t h.state → P b.table (revisions_at b desk)
+pub at_bench : (P : DecisionTable → Revisions → Type 0) (t : DecisionTable) (p : ℕ) (views : List HistoryView) (desk : ℕ) (h : HistoryView) (b : Workbench) → desk < length (map (λ (h : HistoryView). h.state) views) → h ≡ get_or views desk h → bench_with t p views ≡ b → P t h.state → P b.table (revisions_at b desk)
 at_bench P t p views desk h b within is whole holds =
     subst (λ (b : Workbench). P b.table (revisions_at b desk)) whole (subst (P t) (state_here t p views desk h within is) holds)
 
-pub moved_bench : (t : DecisionTable) (p : ℕ) (views : List HistoryView) (line : Line) (block : Block) (old new : HistoryView) (b : Workbench) → line.desk < length (map (λ (h : HistoryView). h.state) views) → old ≡ get_or views line.desk old → bench_with t p (map (λ (h : HistoryView). h.state) views) ≡ b → new.state ≡ revisions_with t old.state line.command block.body
-    → bench_with t p (map (λ (h : HistoryView). h.state) (slice_set views line.desk new)) ≡ with_block b line block
-moved_bench t p views line block old new b within is whole moved =
+-- a history that is changed at its place changes the desk there, whatever pivots were made
+pub bench_moves : (t : DecisionTable) (p q : ℕ) (views : List HistoryView) (line : Line) (block : Block) (old new : HistoryView) (b : Workbench) → line.desk < length (map (λ (h : HistoryView). h.state) views) → old ≡ get_or views line.desk old → bench_with t p views ≡ b → new.state ≡ revisions_with t old.state line.command block.body
+    → HoldTheSame (bench_with t q (slice_set views line.desk new)) (with_block b line block)
+bench_moves t p q views line block old new b within is whole moved =
     let here = state_here t p views line.desk old within is in
-    let r : new.state ≡ revisions_with t (revisions_at (bench_with t p (map (λ (h : HistoryView). h.state) views)) line.desk) line.command block.body = moved ∙ ap (λ (r : Revisions). revisions_with t r line.command block.body) here in
-    state_set t p views line.desk new (revisions_with t (revisions_at (bench_with t p (map (λ (h : HistoryView). h.state) views)) line.desk) line.command block.body) r ∙ ap (λ (b : Workbench). with_block b line block) whole
+    let r : new.state ≡ revisions_with t (revisions_at (bench_with t p views) line.desk) line.command block.body = moved ∙ ap (λ (r : Revisions). revisions_with t r line.command block.body) here in (
+      ap (λ (b : Workbench). b.table) whole,
+      map-set (λ (h : HistoryView). h.state) views line.desk new ∙ ap (slice_set (map (λ (h : HistoryView). h.state) views) line.desk) r ∙ ap (λ (b : Workbench). (with_block b line block).state) whole,
+    )
 
--- the same where pivots were made
-pub step_moves : (t : DecisionTable) (p q : ℕ) (views : List HistoryView) (line : Line) (block : Block) (old new : HistoryView) (b : Workbench) → line.desk < length (map (λ (h : HistoryView). h.state) views) → old ≡ get_or views line.desk old → bench_with t p (map (λ (h : HistoryView). h.state) views) ≡ b → new.state ≡ revisions_with t old.state line.command block.body
-    → HoldTheSame (bench_with t q (map (λ (h : HistoryView). h.state) (slice_set views line.desk new))) (with_block b line block)
-step_moves t p q views line block old new b within is whole moved =
-    let same = moved_bench t p views line block old new b within is whole moved in
-    (ap (λ (b : Workbench). b.table) same, ap (λ (b : Workbench). b.state) same)
-
-pub step_stays : (t : DecisionTable) (p q : ℕ) (views : List HistoryView) (desk : ℕ) (old new : HistoryView) (b : Workbench) → old ≡ get_or views desk old → bench_with t p (map (λ (h : HistoryView). h.state) views) ≡ b → new.state ≡ old.state → HoldTheSame (bench_with t q (map (λ (h : HistoryView). h.state) (slice_set views desk new))) b
-step_stays t p q views desk old new b is whole kept =
-    let same = state_stays t p views desk old new is kept ∙ whole in
-    (ap (λ (b : Workbench). b.table) same, ap (λ (b : Workbench). b.state) same)
+pub bench_stays : (t : DecisionTable) (p q : ℕ) (views : List HistoryView) (desk : ℕ) (old new : HistoryView) (b : Workbench) → old ≡ get_or views desk old → bench_with t p views ≡ b → new.state ≡ old.state → HoldTheSame (bench_with t q (slice_set views desk new)) b
+bench_stays t p q views desk old new b is whole kept =
+    let here : new.state ≡ (get_or views desk old).state = kept ∙ ap (λ (h : HistoryView). h.state) is in
+    (ap (λ (b : Workbench). b.table) whole, map-set_same (λ (h : HistoryView). h.state) views desk new old here ∙ ap (λ (b : Workbench). b.state) whole)
 
 module _ (t : DecisionTable) (p : ℕ) (views : List HistoryView) (line : Line) (block : Block) (old new : HistoryView) (b : Workbench) where
-  pub checked_moves : (result : Result Passed BlockFault) → line.desk < length (map (λ (h : HistoryView). h.state) views) → old ≡ get_or views line.desk old → bench_with t p (map (λ (h : HistoryView). h.state) views) ≡ b → OnOk result (new.state ≡ revisions_with t old.state line.command block.body)
-      → OnOk result (bench_with t p (map (λ (h : HistoryView). h.state) (slice_set views line.desk new)) ≡ with_block b line block)
-  checked_moves (Ok x) within is whole moved = moved_bench t p views line block old new b within is whole moved
+  pub checked_moves : (result : Result Passed BlockFault) → line.desk < length (map (λ (h : HistoryView). h.state) views) → old ≡ get_or views line.desk old → bench_with t p views ≡ b → OnOk result (new.state ≡ revisions_with t old.state line.command block.body)
+      → OnOk result (HoldTheSame (bench_with t p (slice_set views line.desk new)) (with_block b line block))
+  checked_moves (Ok x) within is whole moved = bench_moves t p p views line block old new b within is whole moved
   checked_moves (Err e) within is whole moved = tt
 
-  pub checked_keeps : (result : Result Passed BlockFault) → old ≡ get_or views line.desk old → bench_with t p (map (λ (h : HistoryView). h.state) views) ≡ b → IfErr result (λ _. new.state ≡ old.state) → IfErr result (λ _. bench_with t p (map (λ (h : HistoryView). h.state) (slice_set views line.desk new)) ≡ b)
+  pub checked_keeps : (result : Result Passed BlockFault) → old ≡ get_or views line.desk old → bench_with t p views ≡ b → IfErr result (λ _. new.state ≡ old.state) → IfErr result (λ _. HoldTheSame (bench_with t p (slice_set views line.desk new)) b)
   checked_keeps (Ok x) is whole kept = tt
-  checked_keeps (Err e) is whole kept = state_stays t p views line.desk old new is kept ∙ whole
+  checked_keeps (Err e) is whole kept = bench_stays t p p views line.desk old new b is whole kept
 
   pub checked_lawful : (H : Allowing) (result : Result Passed BlockFault) → AllByRecursion (IsKept t) views → line.desk < length (map (λ (h : HistoryView). h.state) views) → old ≡ get_or views line.desk old → OnOk result (IsBodyOf H t old.state line.command block.body) → OnOk result (new.state ≡ revisions_with t old.state line.command block.body) → IfErr result (λ _. new.state ≡ old.state) → AllByRecursion (IsKept t) (slice_set views line.desk new)
   checked_lawful H (Ok x) all within is body moved kept =

@@ -9,11 +9,15 @@ pub mod Utf8Proofs
 pub mod ReportProofs
 pub mod Truth
 pub mod ReplayLemmas
+pub mod SameLemmas
 pub mod MakingLemmas
 pub mod PrintableLemmas
 pub mod RepairLemmas
 pub mod ApartLemmas
 pub mod AgreeLemmas
+pub mod NarrowLemmas
+pub mod GivenLemmas
+pub mod QuestionLemmas
 pub mod UniqueLemmas
 pub mod GeneratedSession
 pub mod GeneratedTable

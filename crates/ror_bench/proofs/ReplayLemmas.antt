@@ -31,7 +31,7 @@ verdict_unless_wide most t list q (verdicts.No proof) h = h
 verdict_unless_wide most t list q (verdicts.Contradiction proof) h = h
 verdict_unless_wide most t list q (verdicts.Wide system note) h = tt
 
-given_unless_wide : (most : ℕ) (t : DecisionTable) (list : List Statement) (q : Question) (x : Answer) → IsGiven most t list q x → IsProvedUnlessWide t list q x
+pub given_unless_wide : (most : ℕ) (t : DecisionTable) (list : List Statement) (q : Question) (x : Answer) → IsGiven most t list q x → IsProvedUnlessWide t list q x
 given_unless_wide most t list q x given = record { question = given.allowed.question; proof = verdict_unless_wide most t list q x.verdict given.allowed.verdict }
 
 repair_unless_wide : (most : ℕ) (t : DecisionTable) (list : List Numbered) (body : Body) → IsRepairAt most t list body → IsRepairProvedUnlessWide t list body
@@ -66,7 +66,7 @@ block_proved most t r line block of = record {
   body = body_by (given_at most) proved_unless_wide t r (λ q x given. given_unless_wide most t (statements_of r) q x given) (λ body given. repair_unless_wide most t (standing r) body given) line.command block.body of.body;
 }
 
-each_by : (P Q : Revisions → Line → Block → Type 0) → ((r : Revisions) (line : Line) (block : Block) → P r line block → Q r line block) → (bench : Workbench) (before : List (Line × Block)) (lines : List Line) (blocks : List Block) → EachHolds P bench before lines blocks → EachHolds Q bench before lines blocks
+pub each_by : (P Q : Revisions → Line → Block → Type 0) → ((r : Revisions) (line : Line) (block : Block) → P r line block → Q r line block) → (bench : Workbench) (before : List (Line × Block)) (lines : List Line) (blocks : List Block) → EachHolds P bench before lines blocks → EachHolds Q bench before lines blocks
 each_by P Q by bench before [] [] h = tt
 each_by P Q by bench before [] (block ∷ blocks) h = absurd h
 each_by P Q by bench before (line ∷ lines) [] h = absurd h

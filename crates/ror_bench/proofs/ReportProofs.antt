@@ -184,9 +184,6 @@ pub record IsAfter (start : Workbench) (before : List (Line × Block)) (bench : 
 pub after_nothing : (start : Workbench) → IsAfter start [] start
 after_nothing start = record { table = refl; desks = refl; holds = λ desk within. refl }
 
-pub the_same : (one other : Workbench) → one ≡ other → HoldTheSame one other
-the_same one other e = (ap (λ (b : Workbench). b.table) e, ap (λ (b : Workbench). b.state) e)
-
 after_same : (start : Workbench) (before : List (Line × Block)) (one other : Workbench) → HoldTheSame one other → IsAfter start before other → IsAfter start before one
 after_same start before one other same is = record {
   table = same.0 ∙ is.table;
@@ -316,7 +313,7 @@ way_goes_on start lines bytes place bench moved line left from accepted count pa
     record {
       before = way.before ++ (line, next.block) ∷ [];
       counted = let c = way.counted in omega (arith, c, length-append way.before ((line, next.block) ∷ []));
-      after = after_block start way.before bench moved line next.block way.after within (the_same moved (with_block bench line next.block) next.moved_on);
+      after = after_block start way.before bench moved line next.block way.after within next.moved_on;
       completes = λ x rest.
           let whole = way.completes (with_passed x (passed_of next.block.body)) (rest_with start way.before line left (length lines) (drop from bytes) (drop after bytes) next.block x is.text is.printable here.proved rest) in
           subst (IsProvedReport start lines bytes) (both_ways accepted x (passed_of next.block.body) passed next.counted) whole;

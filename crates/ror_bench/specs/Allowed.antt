@@ -6,7 +6,7 @@ use Rattle.ror_statement.specs.declared.statement.Numbered.{Numbered}
 use Rattle.ror_statement.specs.declared.question.Question.{Question}
 use Rattle.ror_table.specs.Table.{DecisionTable}
 use Rattle.ror_proof.specs.declared.answer.Answer.{Answer}
-use Rattle.ror_check.specs.Proof.{IsWideOrProved}
+use Rattle.ror_check.specs.Proof.{IsProvedAnswer, IsWideOrProved}
 use Rattle.ror_check.specs.Repair.{numbers_of, IsRepair, IsProvedRepair}
 use Rattle.ror_relation.specs.Answers.{IsGiven}
 use Rattle.ror_repair.specs.Repairs.{IsGivenRepair, IsWideRepair}
@@ -49,6 +49,15 @@ IsRepairProvedUnlessWide t list _ = ⊥
 -- what is proved, but that answers and repairs may be too wide
 abbrev pub proved_unless_wide : Allowing
 proved_unless_wide = record { answer = IsProvedUnlessWide; repair = IsRepairProvedUnlessWide }
+
+-- the repair's proof proves it
+abbrev pub IsRepairProved : DecisionTable → List Numbered → Body → Type 0
+IsRepairProved t list (Repaired kept) = IsProvedRepair t list kept
+IsRepairProved t list _ = ⊥
+
+-- what is proved, and nothing that is too wide
+abbrev pub proved : Allowing
+proved = record { answer = IsProvedAnswer; repair = IsRepairProved }
 
 -- ---- what is of the command's form
 

@@ -131,6 +131,11 @@ abbrev pub passed_of : Body → Passed
 passed_of (RepairWide number note) = record { answers = 0; wide = 1 }
 passed_of body = answers_passed (answers_of body)
 
+-- no answer of the body is too wide, and neither is its repair
+abbrev pub HasNothingWide : Body → Type 0
+HasNothingWide (RepairWide number note) = ⊥
+HasNothingWide body = AllByRecursion (λ x. is_wide x.verdict ≡ false) (answers_of body)
+
 -- a repair of the body drops what a repair of these statements drops
 abbrev pub IsTrueRepair : DecisionTable → List Numbered → Body → Type 0
 IsTrueRepair t list (Repaired kept) = IsRepair t list (numbers_of kept.dropped)

@@ -1,5 +1,5 @@
 -- What a desk's blocks depend on: the desk's own lines with their blocks, and nothing of other desks.
-use Rattle.std.specs.Prelude.{◌≡◌, ℕ, ◌↔◌, ◌⊎◌, ◌==◌, slice_get, if◌then◌else◌, List, [], ◌∷◌, ◌++◌, length, map, take, Option, Some, None}
+use Rattle.std.specs.Prelude.{◌≡◌, ℕ, ◌↔◌, ◌⊎◌, ◌==◌, slice_get, if◌then◌else◌, List, [], ◌∷◌, ◌++◌, length, map, take, Option, Some, None, Ok}
 use Rattle.std.specs.List.{AllByRecursion, AllZip, filter}
 use Rattle.ror_statement.specs.declared.statement.Statement.{Statement}
 use Rattle.ror_statement.specs.declared.statement.Numbered.{Numbered}
@@ -9,6 +9,7 @@ use Rattle.ror_statement.specs.declared.question.Conclusion.TheVariants as concl
 use Rattle.ror_table.specs.Table.{DecisionTable}
 use Rattle.ror_session.specs.declared.session.Line.{Line}
 use Rattle.ror_session.specs.declared.session.Command.{Command}
+use Rattle.ror_session.specs.declared.session.Command.TheVariants.{Repair, Ask}
 use Rattle.ror_system.specs.System.{LinearSystem}
 use Rattle.ror_proof.specs.declared.answer.WideText.{WideText}
 use Rattle.ror_proof.specs.declared.answer.Verdict.{Verdict}
@@ -22,9 +23,10 @@ use Rattle.ror_relation.specs.Answers.{IsGiven}
 use Rattle.ror_report.specs.declared.block.Block.{Block}
 use Rattle.ror_report.specs.declared.block.Body.{Body}
 use Rattle.ror_report.specs.declared.block.Body.TheVariants as bodies
-use Rattle.ror_history.specs.History.{Revisions}
+use Rattle.ror_history.specs.History.{Revisions, standing, statements_of}
 use Rattle.ror_bench.specs.Allowed.{Allowing, given_at, proved_unless_wide, IsRepairAt}
 use Rattle.ror_bench.specs.Bench.{Workbench, revisions_at, IsLawfulThroughout}
+use Rattle.ror_bench.specs.Names.{questions_of}
 use Rattle.ror_bench.specs.Blocks.{IsBodyOf, IsBlockOf, IsProvedBlock}
 use Rattle.ror_bench.specs.Reports.{EachHolds, at_desk, revisions_then}
 
@@ -142,20 +144,65 @@ abbrev pub IsSystemFor : DecisionTable → List Statement → Question → Linea
 IsSystemFor t list q s = (s ≡ base_system t list)
     ⊎ ((place : ℕ) × (slice_get (question_systems_of t list q) place ≡ Some s))
 
--- An answer that may be given at a width concludes something where no number on the path of any such system passes it. So
--- desks that agree then agree in every conclusion.
+-- no number on the path of any such system passes the width
+abbrev pub IsNarrowQuestion : ℕ → DecisionTable → List Statement → Question → Type 0
+IsNarrowQuestion most t list q = (s : LinearSystem) (note : WideText) → IsSystemFor t list q s
+    → HasNoteAt most s note → ⊥
+
+-- and none on the path of the system of a statement and of those that a repair of the statements before it keeps
+abbrev pub IsNarrowRepair : ℕ → DecisionTable → List Numbered → Type 0
+IsNarrowRepair most t list = (place : ℕ) (statement : Numbered) (dropped : List ℕ) (note : WideText)
+    → slice_get list place ≡ Some statement → IsRepair t (take place list) dropped
+    → HasNoteAt most (base_system t (kept_with dropped list place statement)) note → ⊥
+
+-- An answer that may be given at a width concludes something where no number on the path of a system for its question passes
+-- it. So desks that agree then agree in every conclusion.
 abbrev pub NarrowConcludes : Type 0
 NarrowConcludes = (most : ℕ) (t : DecisionTable) (list : List Statement) (q : Question) (x : Answer)
-    → IsGiven most t list q x
-    → ((s : LinearSystem) (note : WideText) → IsSystemFor t list q s → HasNoteAt most s note → ⊥)
+    → IsGiven most t list q x → IsNarrowQuestion most t list q
     → (c : Conclusion) × (conclusion_of x.verdict ≡ Some c)
 
--- So does a repair that may be given at a width, where no number passes it on the path of the system of a statement and of
--- those that a repair of the statements before it keeps.
+-- So does a repair that may be given at a width, where no number on the path of a system of a repair passes it.
 abbrev pub NarrowRepairs : Type 0
 NarrowRepairs = (most : ℕ) (t : DecisionTable) (list : List Numbered) (body : Body)
-    → IsRepairAt most t list body
-    → ((place : ℕ) (statement : Numbered) (dropped : List ℕ) (note : WideText)
-    → slice_get list place ≡ Some statement → IsRepair t (take place list) dropped
-    → HasNoteAt most (base_system t (kept_with dropped list place statement)) note → ⊥)
+    → IsRepairAt most t list body → IsNarrowRepair most t list
     → (kept : Kept) × (body ≡ bodies.Repaired kept)
+
+-- no number on the path of a system for what a command asks or repairs passes the width
+abbrev pub IsNarrowCommand : ℕ → DecisionTable → Revisions → Command → Type 0
+IsNarrowCommand most t r (Ask asked) = (questions : List Question)
+    → questions_of t asked ≡ Ok questions
+    → AllByRecursion (IsNarrowQuestion most t (statements_of r)) questions
+IsNarrowCommand most t r Repair = IsNarrowRepair most t (standing r)
+IsNarrowCommand most t r _ = Unit {0}
+
+-- two answers are to one question and conclude the same; their proofs may differ
+pub record ConcludesTheSame (x y : Answer) : Type 0 where
+  pub question : x.question ≡ y.question
+  pub conclusion : Conclusion
+  pub concluded : conclusion_of x.verdict ≡ Some conclusion
+  pub likewise : conclusion_of y.verdict ≡ Some conclusion
+
+-- answers conclude the same one by one, repairs drop the same, and any other body only goes with itself: the same number, or
+-- the same refusal. A repair that is too wide goes with none.
+abbrev pub SaysTheSame : Body → Body → Type 0
+SaysTheSame (bodies.Answers xs) (bodies.Answers ys) = AllZip ConcludesTheSame xs ys
+SaysTheSame (bodies.Repaired x) (bodies.Repaired y) = numbers_of x.dropped ≡ numbers_of y.dropped
+SaysTheSame (bodies.RepairWide n note) other = ⊥
+SaysTheSame body other = body ≡ other
+
+-- Two sessions with the same commands at a desk of the one and at a desk of the other, in whatever interleaving, over desks
+-- that begin alike and lawfully, whose blocks may be given at a width that no number on a path at that desk passes: the bodies
+-- there are as many, and have one by one the same refusals, numbers, verdicts and dropped numbers.
+abbrev pub NarrowDesksAgree : Type 0
+NarrowDesksAgree = (most : ℕ) (one other : Workbench) (desk_one desk_other : ℕ)
+    (lines_one lines_other : List Line) (blocks_one blocks_other : List Block)
+    → IsLawfulThroughout one.table (revisions_at one desk_one) → one.table ≡ other.table
+    → revisions_at one desk_one ≡ revisions_at other desk_other
+    → commands_at desk_one lines_one ≡ commands_at desk_other lines_other
+    → EachHolds (IsBlockOf (given_at most) one.table) one [] lines_one blocks_one
+    → EachHolds (IsBlockOf (given_at most) other.table) other [] lines_other blocks_other
+    → AllByRecursion (λ turn. IsNarrowCommand most one.table turn.0 turn.1)
+    (turns_at one desk_one [] lines_one blocks_one)
+    → AllZip SaysTheSame (bodies_at desk_one lines_one blocks_one)
+    (bodies_at desk_other lines_other blocks_other)

@@ -1,5 +1,5 @@
 -- Laws of blocks and reports: what is proved is true.
-use Rattle.std.specs.Prelude.{◌≡◌, ℕ, ◌≤◌, List, length, ℤ, ◌<ℤ◌, ◌≤ℤ◌, Ok}
+use Rattle.std.specs.Prelude.{◌≡◌, ℕ, ◌≤◌, List, [], length, ℤ, ◌<ℤ◌, ◌≤ℤ◌, Ok}
 use Rattle.std.specs.List.{AllByRecursion}
 use Rattle.ror_statement.specs.declared.statement.Statement.{Statement}
 use Rattle.ror_statement.specs.declared.statement.Statement.TheVariants.{Prefer, AtLeast}
@@ -11,8 +11,12 @@ use Rattle.ror_session.specs.declared.session.Command.TheVariants.{State}
 use Rattle.ror_session.specs.Sound.{IsSound}
 use Rattle.ror_report.specs.declared.block.Block.{Block}
 use Rattle.ror_history.specs.History.{Revisions, statements_of}
+use Rattle.ror_report.specs.Text.{report_text}
+use Rattle.ror_bench.specs.Allowed.{proved}
 use Rattle.ror_bench.specs.Bench.{Workbench, IsLawfulBench}
-use Rattle.ror_bench.specs.Replays.{IsReplayedReport}
+use Rattle.ror_bench.specs.Faults.{FailsBlock}
+use Rattle.ror_bench.specs.Replays.{AreBlocksAt, IsReplayedReport}
+use Rattle.ror_bench.specs.declared.bench.BlockFault.{BlockFault}
 use Rattle.ror_bench.specs.declared.report.Accepted.{Accepted}
 use Rattle.ror_bench.specs.declared.report.Rejection.{Rejection}
 use Rattle.ror_bench.specs.declared.generated.TheConstants.{MOST_GENERATED}
@@ -21,8 +25,8 @@ use Rattle.ror_bench.specs.declared.report.TheConstants.{MOST_REPORT_BYTES}
 use Rattle.ror_bench.specs.declared.generated.Generated.{Generated}
 use Rattle.ror_bench.specs.Generated.{generated, generated_table, hidden_value}
 use Rattle.ror_bench.specs.Names.{statement_of}
-use Rattle.ror_bench.specs.Blocks.{IsProvedBlock, IsTrueBlock}
-use Rattle.ror_bench.specs.Reports.{IsProvedReport, IsRejectedFor, AreTrueBlocks}
+use Rattle.ror_bench.specs.Blocks.{IsBlockOf, IsProvedBlock, HasNothingWide, IsTrueBlock}
+use Rattle.ror_bench.specs.Reports.{EachHolds, accepted_of, IsProvedReport, IsAcceptedReport, IsRejectedFor, AreTrueBlocks, block_reason, IsOfItsQuestion}
 
 -- a block that is proved over lawful statements is true: its answers that aren't too wide, of all value functions that are
 -- compatible with them, and what a repair drops
@@ -49,6 +53,43 @@ abbrev pub ReplayedIsProved : Type 0
 ReplayedIsProved = (most : ℕ) (bench : Workbench) (lines : List Line) (bytes : List ℕ)
     (accepted : Accepted) → IsReplayedReport most bench lines bytes accepted
     → IsProvedReport bench lines bytes accepted
+
+-- these very blocks are proved for the lines but for what is too wide, and so is the report of them
+pub record AreProvedBlocks (bench : Workbench) (lines : List Line) (blocks : List Block) : Type 0 where
+  pub proved : EachHolds (IsProvedBlock bench.table) bench [] lines blocks
+  pub report : IsProvedReport bench lines (report_text bench.table blocks) (accepted_of blocks)
+  pub the_same : report.blocks ≡ blocks
+
+-- each of these blocks has its proofs, and the report of them is one that a check accepts: nothing of it is too wide, it is true,
+-- and it has no first fault for which it could be rejected
+pub record AreAcceptedBlocks (bench : Workbench) (lines : List Line)
+    (blocks : List Block) : Type 0 where
+  pub proved_whole : EachHolds (IsBlockOf proved bench.table) bench [] lines blocks
+  pub accepted : IsAcceptedReport bench lines (report_text bench.table blocks) (accepted_of blocks)
+  pub nothing_wide : (accepted_of blocks).wide ≡ 0
+  pub not_rejected : length (report_text bench.table blocks) ≤ MOST_REPORT_BYTES
+      → (rejection : Rejection)
+      → IsRejectedFor bench lines (report_text bench.table blocks) rejection → ⊥
+
+-- Blocks that a replay may write at a width are, as the very same list, proved but for what is too wide. Where nothing of them is,
+-- over a table at whose desks what stands is lawful, each has its proofs and a check accepts the report of them.
+abbrev pub GivenAreProved : Type 0
+GivenAreProved = (most : ℕ) (bench : Workbench) (lines : List Line) (blocks : List Block)
+    → AreBlocksAt most bench lines blocks
+    → AreProvedBlocks bench lines blocks
+    × (IsTable bench.table → IsLawfulBench bench
+    → AllByRecursion (λ block. HasNothingWide block.body) blocks
+    → AreAcceptedBlocks bench lines blocks)
+
+-- an answer is tested as one to the question that it names, so neither a block nor a report is ever refused since that is another
+-- one: it is no block of its line then
+abbrev pub NoBlockOfAnother : Type 0
+NoBlockOfAnother = (t : DecisionTable) (r : Revisions) (line : Line) (block : Block)
+    (fault : BlockFault) → FailsBlock t r line block fault → IsOfItsQuestion (block_reason fault)
+
+abbrev pub NoReportOfAnother : Type 0
+NoReportOfAnother = (bench : Workbench) (lines : List Line) (bytes : List ℕ) (rejection : Rejection)
+    → IsRejectedFor bench lines bytes rejection → IsOfItsQuestion rejection.reason
 
 -- how many answers of a proved report have a proof, and how much of it is too wide, goes by its bytes
 abbrev pub OneCount : Type 0

@@ -186,3 +186,9 @@ IsRefusedFor t r command fault = IsFirst (FailsLine t r command) IsEarlierLineFa
 -- it fails none
 abbrev pub IsTaken : DecisionTable → Revisions → Command → Type 0
 IsTaken t r command = (fault : LineFault) → ¬ (FailsLine t r command fault)
+
+-- This is the first test that a line fails which states these names, and one which puts their statement in another's place,
+-- whatever stands at its desk: so the names alone are at fault, and their faults come in the order of those of lines.
+abbrev pub IsFirstOfNames : DecisionTable → Named → LineFault → Type 0
+IsFirstOfNames t named fault = (r : Revisions) → IsRefusedFor t r (State named) fault
+    × ((n : ℕ) → IsRefusedFor t r (Replace n named) fault)

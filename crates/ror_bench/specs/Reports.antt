@@ -172,5 +172,10 @@ IsFreeOfMemory (reasons.Answer k fault) = fault ≢ checks.Memory
 IsFreeOfMemory (reasons.Repair fault) = fault ≢ repairs.Memory
 IsFreeOfMemory _ = Unit {0}
 
+-- nor is an answer ever refused since its question is another: that is the block of another line, before any answer is tested
+abbrev pub IsOfItsQuestion : Reason → Type 0
+IsOfItsQuestion (reasons.Answer k fault) = fault ≢ checks.WrongQuestion
+IsOfItsQuestion _ = Unit {0}
+
 abbrev pub HoldsNoMemory : ReportError → Type 0
 HoldsNoMemory e = IfRejected (λ rejection. IsFreeOfMemory rejection.reason) e

@@ -28,7 +28,7 @@ use Rattle.ror_proof.specs.declared.read.ProofFault.TheVariants as forms
 use Rattle.ror_report.specs.Reading.{begins_end, block_at, end_at}
 use Rattle.ror_report.specs.Text.{block_text, end_text, IsPrintableBlock}
 use Rattle.ror_bench.specs.Allowed.{of_form}
-use Rattle.ror_bench.specs.Bench.{Workbench, revisions_at}
+use Rattle.ror_bench.specs.Bench.{Workbench, revisions_at, HoldTheSame}
 use Rattle.ror_bench.specs.Faults.{FailsRepairOf}
 use Rattle.ror_bench.specs.Reports.{EachHolds, accepted_of, misread_reason, block_reason}
 use Rattle.ror_bench.specs.declared.bench.Passed.{Passed}
@@ -140,8 +140,8 @@ fault_of_answers checks.Memory = faults.Memory
 
 -- ---- a report
 
--- a block of the line stands at the place and ends at the other, it is proved with so many answers, and the bench is moved
--- on by it
+-- a block of the line stands at the place and ends at the other, it is proved with so many answers, and the bench holds what
+-- it leaves
 pub record IsNextBlock (bench moved : Workbench) (line : Line) (bytes : List ℕ) (from : ℕ)
     (passed : Passed) (after : ℕ) : Type 0 where
   pub block : Block
@@ -149,7 +149,7 @@ pub record IsNextBlock (bench moved : Workbench) (line : Line) (bytes : List ℕ
   pub read : block_at bench.table (cursor_at bytes from) ≡ Ok (block, cursor_at bytes after)
   pub proved : IsProvedBlock bench.table (revisions_at bench line.desk) line block
   pub counted : passed ≡ passed_of block.body
-  pub moved_on : moved ≡ with_block bench line block
+  pub moved_on : HoldTheSame moved (with_block bench line block)
 
 -- the bytes are the texts of blocks that are proved for the lines, after those before, and the last line of a report of so
 -- many blocks

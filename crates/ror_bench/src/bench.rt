@@ -122,7 +122,8 @@ impl Bench {
     pub fn new(alloc: Global, input: Input, desks: u32) -> Result<Bench, AllocError>
         requires few { desks ≤ 64 }
         requires lawful { IsLawfulIn input.table input.opening }
-        ensures { IfOk result (λ bench. bench ≡ bench_of input desks) }
+        ensures begun { IfOk result (λ bench. HoldTheSame bench (bench_of input desks)) }
+        ensures pivots { IfOk result (λ bench. bench.pivots ≡ 0) }
     {
         let Input { table, opening } = input;
         let desks = histories(alloc, opening.as_slice(), desks)?;
@@ -208,9 +209,9 @@ impl Bench {
         ensures refused { IfErr result (IsRefusedBy
             (FailsBlock self.old.table (revisions_at self.old line.now.desk) line.now block.now)
             IsEarlierBlockFault BlockFault.Memory) }
-        ensures moved { OnOk result (self.new ≡ with_block self.old line.now block.now) }
-        ensures kept { IfErr result (λ _. self.new ≡ self.old) }
-        ensures pivots { self.old.pivots ≤ self.new.pivots }
+        ensures moved { OnOk result (HoldTheSame self.new (with_block self.old line.now block.now)) }
+        ensures kept { IfErr result (λ _. HoldTheSame self.new self.old) }
+        ensures pivots { self.new.pivots ≡ self.old.pivots }
     {
         if block.line != line.number {
             return Err(BlockFault::WrongBlock);

@@ -1,9 +1,10 @@
 //! The statements and questions of names, over a table.
 
-ghost use Rattle.std.specs.Prelude.{◌≡◌, ◌≤◌, ◌∷◌, [], length, IfOk};
+ghost use Rattle.std.specs.Prelude.{◌≡◌, ◌≤◌, ◌∷◌, [], length, IfOk, IfErr};
 ghost use Rattle.std.specs.List.{AllByRecursion};
 ghost use Rattle.ror_text.specs.Reading.{Gives};
 ghost use Rattle.ror_value.specs.Over.{IsValidIn, IsAskedIn};
+ghost use Rattle.ror_bench.specs.Lines.{IsFirstOfNames};
 ghost use Rattle.ror_bench.specs.Names as names;
 ghost use Rattle.ror_bench.specs.Steps.{stopping_fault};
 
@@ -39,6 +40,7 @@ pub(crate) struct Strengths {
 pub fn statement_of(table: &Table, named: &Named) -> Result<Statement, LineFault>
     ensures exact { result ≡ names.statement_of table.now named.now }
     ensures valid { IfOk result (IsValidIn table.now) }
+    ensures first { IfErr result (IsFirstOfNames table.now named.now) }
 {
     stated(table, named)
 }

@@ -6,7 +6,7 @@ ghost use Rattle.ror_text.specs.Lines.{line_of};
 ghost use Rattle.ror_table.specs.Table.{IsTable};
 ghost use Rattle.ror_report.specs.Text.{end_text};
 ghost use Rattle.ror_report.specs.Reading.{header_at};
-ghost use Rattle.ror_bench.specs.Bench.{revisions_at, LeavesNumbers};
+ghost use Rattle.ror_bench.specs.Bench.{revisions_at, HoldTheSame, LeavesNumbers};
 ghost use Rattle.ror_bench.specs.Reports.{IsProvedReport, IsAcceptedReport, IsRejectedFor, IsRejectedFrom, RejectsNext, RejectsEnd, IfRejected, NamesADesk, HoldsNoMemory};
 ghost use Rattle.ror_bench.specs.Steps.{IsEarlyEnd, IsLateBlock, IsNextBlock, misread_error, refused_block_error, rejected};
 
@@ -166,7 +166,7 @@ fn check_next(
         × RejectsNext bench.old.table (revisions_at bench.old line.now.desk) line.now bytes.now from
         rejection.reason)) }
     ensures pure { IfErr result HoldsNoMemory }
-    ensures kept { IfErr result (λ _. bench.new ≡ bench.old) }
+    ensures kept { IfErr result (λ _. HoldTheSame bench.new bench.old) }
 {
     if begins_end(bytes, from) {
         return Err(early_end(bytes, from, block));

@@ -79,7 +79,7 @@ fn summed(alloc: Global, number: u32) -> Result<Summary, AllocError>
 /// The same, at this bench.
 fn summed_at(alloc: Global, number: u32, bench: &mut Bench) -> Result<Summary, AllocError>
     requires number { number ≤ MOST_GENERATED }
-    requires bench { bench.old ≡ bench_from number }
+    requires bench { HoldTheSame bench.old (bench_from number) }
     ensures { IfOk result (IsSummaryFrom number) }
 {
     let mut checks = generated_bench(alloc, number)?;
@@ -94,8 +94,8 @@ fn summed_by(
     checks: &mut Bench,
 ) -> Result<Summary, AllocError>
     requires number { number ≤ MOST_GENERATED }
-    requires bench { bench.old ≡ bench_from number }
-    requires checks { checks.old ≡ bench_from number }
+    requires bench { HoldTheSame bench.old (bench_from number) }
+    requires checks { HoldTheSame checks.old (bench_from number) }
     ensures { IfOk result (IsSummaryFrom number) }
 {
     let generated = generate_input(alloc, number)?;
@@ -110,7 +110,7 @@ fn summed_by(
 #[tactic(auto, using(crate::proofs::Summaries::one_desk))]
 fn generated_bench(alloc: Global, number: u32) -> Result<Bench, AllocError>
     requires { number ≤ MOST_GENERATED }
-    ensures { IfOk result (λ bench. bench ≡ bench_from number) }
+    ensures { IfOk result (λ bench. HoldTheSame bench (bench_from number)) }
 {
     let Generated { input, session } = generate_input(alloc, number)?;
     Bench::new(alloc, input, session.desks.len() as u32)

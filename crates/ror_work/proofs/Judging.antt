@@ -12,7 +12,8 @@ use Rattle.ror_bench.specs.declared.report.ReportError.{ReportError}
 use Rattle.ror_bench.specs.declared.report.ReportError.TheVariants as report_errors
 use Rattle.ror_bench.specs.declared.report.Reason.TheVariants.{TooLong}
 use Rattle.ror_bench.specs.declared.report.TheConstants.{MOST_REPORT_BYTES}
-use Rattle.ror_bench.specs.Bench.{Workbench}
+use Rattle.ror_bench.specs.Bench.{Workbench, HoldTheSame}
+use Rattle.ror_bench.proofs.SameLemmas.{proved_same, rejected_same}
 use Rattle.ror_bench.specs.Reports.{IsProvedReport, IsAcceptedReport, IsRejectedFor, IfRejected, HoldsNoMemory}
 use Rattle.ror_bench.proofs.ReportProofs.{rejected_not_proved}
 use Rattle.ror_bench.proofs.UniqueLemmas.{one_count, one_rejection}
@@ -63,10 +64,15 @@ pub long_report : (i : Input) (s : Session) (bytes : List ℕ) (r : Refusal) →
 long_report i s bytes r long = (record { block = 0; reason = TooLong }, long.0, too_long long.1 refl)
 
 -- what is refused of the bytes is a rejection
-pub rejected_as : (i : Input) (s : Session) (bench : Workbench) (lines : List Line) (bytes : List ℕ) (error : ReportError) → bench ≡ bench_for i s → lines ≡ s.lines → length bytes ≤ MOST_REPORT_BYTES → IfRejected (IsRejectedFor bench lines bytes) error → HoldsNoMemory error → ReadAs {A = Accepted} 3 (ProvesReport i s) (RefusesReport i s) bytes (Err (stop_at_report error))
-rejected_as i s bench lines bytes (report_errors.Rejected rejection) benches same short why pure =
-    (refl, pure, (rejection, refl, at_fault short (subst (λ (b : Workbench). IsRejectedFor b s.lines bytes rejection) benches (subst (λ (ls : List Line). IsRejectedFor bench ls bytes rejection) same why))))
-rejected_as i s bench lines bytes report_errors.Memory benches same short why pure = tt
+pub rejected_as : (i : Input) (s : Session) (bench : Workbench) (lines : List Line) (bytes : List ℕ) (error : ReportError) → HoldTheSame bench (bench_for i s) → lines ≡ s.lines → length bytes ≤ MOST_REPORT_BYTES → IfRejected (IsRejectedFor bench lines bytes) error → HoldsNoMemory error → ReadAs {A = Accepted} 3 (ProvesReport i s) (RefusesReport i s) bytes (Err (stop_at_report error))
+rejected_as i s bench lines bytes (report_errors.Rejected rejection) held same short why pure =
+    (refl, pure, (rejection, refl, at_fault short (rejected_same bench (bench_for i s) held s.lines bytes rejection (subst (λ (ls : List Line). IsRejectedFor bench ls bytes rejection) same why))))
+rejected_as i s bench lines bytes report_errors.Memory held same short why pure = tt
+
+-- and what is accepted is proved
+pub proves_as : (i : Input) (s : Session) (bench : Workbench) (lines : List Line) (bytes : List ℕ) (x : Accepted) → HoldTheSame bench (bench_for i s) → lines ≡ s.lines → length bytes ≤ MOST_REPORT_BYTES → IsAcceptedReport bench lines bytes x → ProvesReport i s bytes x
+proves_as i s bench lines bytes x held same short accepted =
+    (short, proved_same bench (bench_for i s) held s.lines bytes x (subst (λ (ls : List Line). IsProvedReport bench ls bytes x) same accepted.proved))
 
 -- a report that is proved over a lawful input is true
 pub accepted_is : (i : Input) (s : Session) (bytes : List ℕ) (x : Accepted) → IsLawfulIn i.table i.opening → ProvesReport i s bytes x → IsAcceptedReport (bench_for i s) s.lines bytes x

@@ -1,6 +1,6 @@
 -- A report that is written block by block: what is written when one more is, and where it stops.
 use Rattle.std.proofs.lemmas.List.{take_all, take-append-drop, take_more}
-use Rattle.std.proofs.Common.{append-nil, ◌≡◌, ℕ, ◌+◌, ◌<◌, ◌≤◌, Bool, true, false, ◌||◌, List, [], ◌∷◌, ◌++◌, length, take, drop, get_or, Option, Ok, Err, refl, sym, ap, ◌∙◌, subst, inr, arith}
+use Rattle.std.proofs.Common.{append-nil, ◌≡◌, ℕ, ◌+◌, ◌<◌, ◌≤◌, Bool, true, false, ◌||◌, List, [], ◌∷◌, ◌++◌, length, take, drop, get_or, Option, Ok, Err, refl, sym, ap, ◌∙◌, subst, inl, inr, arith}
 use Rattle.std.specs.Prelude.{nat_lt, cond}
 use Rattle.std.specs.Bool.{beq}
 use Rattle.std.specs.List.{flat_map, list_any, sum_by, count_by}
@@ -22,10 +22,13 @@ use Rattle.ror_bench.specs.Reports.{accepted_of}
 use Rattle.ror_bench.proofs.MakingLemmas.{IsMade, made_nothing, made_more, text_more}
 use Rattle.ror_bench.specs.Replays.{IsBegunReport, some_lines, all_lines}
 use Rattle.ror_bench.proofs.ReportProofs.{sums}
+use Rattle.ror_bench.proofs.SameLemmas.{replayed_same, begun_same, accepted_same}
 use Rattle.ror_frame.proofs.Desks.{replayed, reported}
 use Rattle.ror_frame.specs.declared.stop.Stop.{Stop}
 use Rattle.ror_frame.specs.declared.stop.Stop.TheVariants as stops
 use Rattle.ror_frame.specs.States.{SinkState, sink_state}
+use Rattle.ror_frame.specs.Stops.{Outcome}
+use Rattle.ror_frame.specs.Inputs.{IsReportOf}
 use Rattle.ror_frame.specs.Courses.{WritesDue}
 use Rattle.ror_work.specs.Replaying.{is_wide_body, has_wide, AreFirstBlocks, report_output, WritesText, MakesBlocks}
 
@@ -168,3 +171,22 @@ module _ (most : ℕ) (bench : Workbench) (lines : List Line) where
         (accepted_of makes.1, reported most bench lines makes.1 lawful makes.2, makes.3),
         Grew-append old between new header_text rest header (Grew-append between after new (flat_map (block_text bench.table) makes.1) (end_text (length lines)) makes.4 ended),
       )
+
+-- ---- benches that hold the same
+
+-- have one report
+pub report_same : (most : ℕ) (one other : Workbench) (lines : List Line) (old new : SinkState) (outcome : Outcome) → HoldTheSame one other → WritesDue (report_output most one lines) old new outcome → WritesDue (report_output most other lines) old new outcome
+report_same most one other lines old new (Ok wide) same due =
+    let report = due.3.1 in
+    let text = due.2 in
+    let accepted = due.3.0 in
+    let here : IsReportOf most other lines text accepted = record {
+      given = replayed_same one other same most lines text accepted report.given;
+      checked = accepted_same one other same lines text accepted report.checked;
+    } in
+    (due.0, due.1, text, (accepted, here, due.3.2), due.4)
+report_same most one other lines old new (Err (stops.At r)) same due = due
+report_same most one other lines old new (Err stops.ReadFault) same due = due
+report_same most one other lines old new (Err stops.WriteFault) same due = (due.0, due.1, due.2, begun_same one other same most lines due.2 due.3, due.4)
+report_same most one other lines old new (Err stops.Memory) same (inl nothing) = inl nothing
+report_same most one other lines old new (Err stops.Memory) same (inr due) = inr (due.0, due.1, due.2, due.3, begun_same one other same most lines due.2 due.4, due.5)

@@ -3,10 +3,9 @@ use Rattle.std.specs.List.{AllByRecursion}
 use Rattle.std.proofs.lemmas.Result.{err_from_is_err_and}
 use Rattle.ror_table.specs.Table.{IsTable}
 use Rattle.ror_report.specs.Text.{end_text}
-use Rattle.ror_bench.specs.Blocks.{with_block}
 use Rattle.ror_bench.specs.Bench.{LeavesNumbers, revisions_at}
 use Rattle.ror_bench.specs.Reports.{IsRejectedFrom, RejectsNext, RejectsEnd}
-use Rattle.ror_bench.proofs.ReportProofs.{the_same, header_within, way_begins, way_goes_on, way_breaks, way_at, way_over, way_ends, way_ends_badly, desk_at, after_desks, rejects_by, numbers_after, number_left, one_fewer}
+use Rattle.ror_bench.proofs.ReportProofs.{header_within, way_begins, way_goes_on, way_breaks, way_at, way_over, way_ends, way_ends_badly, desk_at, after_desks, rejects_by, numbers_after, number_left, one_fewer}
 use Rattle.ror_bench.proofs.report.check_blocks.Goals as goal
 
 pub loop-line-init : goal.loop-line-init
@@ -48,7 +47,7 @@ loop-line-preserved c =
       block_is = omega arith;
       fits = first_of (search rules, omega arith);
       wide_fits = first_of (search rules, omega arith);
-      numbers = numbers_after c.loop-line.bench c.check_next.new.bench line next.block (length (drop (i + 1) lines)) here (subst (λ n. AllByRecursion (LeavesNumbers n) c.loop-line.bench.state) fewer c.loop-line.invariant.numbers) next.proved (the_same c.check_next.new.bench (with_block c.loop-line.bench line next.block) next.moved_on);
+      numbers = numbers_after c.loop-line.bench c.check_next.new.bench line next.block (length (drop (i + 1) lines)) here (subst (λ n. AllByRecursion (LeavesNumbers n) c.loop-line.bench.state) fewer c.loop-line.invariant.numbers) next.proved next.moved_on;
       way = way_goes_on start lines bytes c.args.start c.loop-line.bench c.check_next.new.bench line (drop (i + 1) lines) c.loop-line.next c.loop-line.accepted i c.in_ok-passed.passed c.in_ok-passed.after table desk way next;
     }
 

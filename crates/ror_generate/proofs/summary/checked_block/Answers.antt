@@ -1,6 +1,5 @@
 use Rattle.ror_bench.specs.Bench.{revisions_at}
 use Rattle.ror_bench.proofs.ReplayLemmas.{block_proved}
-use Rattle.ror_bench.proofs.ReportProofs.{the_same}
 use Rattle.ror_generate.specs.Generating.{most}
 use Rattle.ror_generate.proofs.Counting.{only_memory, checked_alike}
 use Rattle.ror_generate.proofs.summary.checked_block.Goals as goal
@@ -20,4 +19,4 @@ out_of_memory-requires c =
 
 pub returns-in-Ok-clause-same : goal.returns-in-Ok-clause-same
 returns-in-Ok-clause-same c =
-    checked_alike c.args.bench.now c.args.checks.now c.step.new.self c.check_line.new.self c.args.line.now c.in_ok-block.block c.requires.same (the_same c.check_line.new.self _ c.in-Ok.ensures.moved) c.in_ok-block.ensures.moved
+    checked_alike c.args.bench.now c.args.checks.now c.step.new.self c.check_line.new.self c.args.line.now c.in_ok-block.block c.requires.same c.in-Ok.ensures.moved c.in_ok-block.ensures.moved

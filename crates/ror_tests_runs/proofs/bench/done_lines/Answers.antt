@@ -3,8 +3,8 @@ use Rattle.std.specs.List.{AllByRecursion}
 use Rattle.ror_pivot.specs.declared.note.Bits.TheVariants.{B127}
 use Rattle.ror_pivot.specs.Answers.{most_of}
 use Rattle.ror_bench.specs.Bench.{LeavesNumbers, revisions_at}
-use Rattle.ror_bench.specs.Blocks.{revisions_with, with_block}
-use Rattle.ror_bench.proofs.ReportProofs.{desk_at, number_left, numbers_after, one_fewer, the_same}
+use Rattle.ror_bench.specs.Blocks.{revisions_with}
+use Rattle.ror_bench.proofs.ReportProofs.{desk_at, number_left, numbers_after, one_fewer}
 use Rattle.ror_bench.proofs.MakingLemmas.{numbers_then}
 use Rattle.ror_tests_runs.proofs.bench.done_lines.Goals as goal
 
@@ -60,7 +60,7 @@ loop-line-preserved c =
     let here : line.desk < length bench.state = omega (arith, desk, same) in
     let there : line.desk < length checks.state = omega (arith, desk, checked_same) in
     let moves = c.in_ok-block.ensures.moved in
-    let checked = the_same c.check_line.new.self (with_block checks line block) c.in_ok-passed.ensures.moved in
+    let checked = c.in_ok-passed.ensures.moved in
     record {
       desks = ap length moves.1 ∙ length-set bench.state line.desk (revisions_with bench.table (revisions_at bench line.desk) line.command block.body) ∙ same;
       checked_desks = ap length checked.1 ∙ length-set checks.state line.desk (revisions_with checks.table (revisions_at checks line.desk) line.command block.body) ∙ checked_same;

@@ -5,7 +5,7 @@ use Rattle.ror_history.specs.History.{Revisions, next_number}
 use Rattle.ror_bench.specs.Allowed.{given_at}
 use Rattle.ror_bench.specs.Bench.{Workbench, revisions_at, IsLawfulThroughout, pivots_together}
 use Rattle.ror_bench.specs.Blocks.{IsBlockOf, HasText}
-use Rattle.ror_bench.proofs.DeskLemmas.{at_bench, kept_at, kept_set, state_here, step_moves, step_stays}
+use Rattle.ror_bench.proofs.DeskLemmas.{at_bench, kept_at, kept_set, state_here, bench_moves, bench_stays}
 use Rattle.ror_bench.proofs.LawfulLemmas.{lawful_now, moved_lawful}
 use Rattle.ror_bench.proofs.PrintableLemmas.{has_text}
 use Rattle.ror_bench.proofs.bench.Bench.step.Goals as goal
@@ -13,7 +13,7 @@ use Rattle.ror_bench.proofs.bench.Bench.step.Goals as goal
 pub returns-in_err-body-clause-kept : goal.returns-in_err-body-clause-kept
 returns-in_err-body-clause-kept c =
     let exit = err_from_is_err_and c.from_residual.result c.from_residual.ensures.1 in
-    rw exit.1 (step_stays c.self.inside.table (pivots_together c.self.inside.engine.pivots c.self.inside.repair_pivots) (pivots_together c.perform.new.engine.pivots c.perform.new.repair_pivots) c.self.inside.desks.items c.args.line.now.desk c.index_mut-history.result.now c.perform.new.history c.args.self.now c.index_mut-history.ensures.value c.self.view_is c.in_err-body.ensures.kept)
+    rw exit.1 (bench_stays c.self.inside.table (pivots_together c.self.inside.engine.pivots c.self.inside.repair_pivots) (pivots_together c.perform.new.engine.pivots c.perform.new.repair_pivots) c.self.inside.desks.items c.args.line.now.desk c.index_mut-history.result.now c.perform.new.history c.args.self.now c.index_mut-history.ensures.value c.self.view_is c.in_err-body.ensures.kept)
 
 pub invariant_of-self-2 : goal.invariant_of-self-2
 invariant_of-self-2 c =
@@ -51,4 +51,4 @@ pub returns-clause-moved : goal.returns-clause-moved
 returns-clause-moved c =
     let views = c.self.inside.desks.items in
     let within : c.args.line.now.desk < length (map (λ h. h.state) views) = search rules in
-    step_moves c.self.inside.table (pivots_together c.self.inside.engine.pivots c.self.inside.repair_pivots) (pivots_together c.perform.new.engine.pivots c.perform.new.repair_pivots) views c.args.line.now (record { line = c.args.line.now.number; body = c.in_ok-body.body }) c.index_mut-history.result.now c.perform.new.history c.args.self.now within c.index_mut-history.ensures.value c.self.view_is c.in_ok-body.ensures.moved
+    bench_moves c.self.inside.table (pivots_together c.self.inside.engine.pivots c.self.inside.repair_pivots) (pivots_together c.perform.new.engine.pivots c.perform.new.repair_pivots) views c.args.line.now (record { line = c.args.line.now.number; body = c.in_ok-body.body }) c.index_mut-history.result.now c.perform.new.history c.args.self.now within c.index_mut-history.ensures.value c.self.view_is c.in_ok-body.ensures.moved
