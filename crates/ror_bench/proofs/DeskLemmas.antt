@@ -66,7 +66,12 @@ kept_set t (v ∷ vs) (suc desk) new all held = (all.0, kept_set t vs desk new a
 
 -- a bench of these histories, whose engine made so many pivots
 abbrev pub bench_with : DecisionTable → ℕ → List HistoryView → Workbench
-bench_with t p views = record { table = t; state = map (λ (h : HistoryView). h.state) views; pivots = p }
+bench_with t p views = record {
+  table = t;
+  state = map (λ (h : HistoryView). h.state) views;
+  pivots = p;
+  spare = map (λ (h : HistoryView). h.spare) views;
+}
 
 -- what a desk holds is what the bench has there
 pub state_here : (t : DecisionTable) (p : ℕ) (views : List HistoryView) (desk : ℕ) (h : HistoryView) → desk < length (map (λ (h : HistoryView). h.state) views) → h ≡ get_or views desk h → h.state ≡ revisions_at (bench_with t p views) desk

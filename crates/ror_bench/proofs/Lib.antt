@@ -11,6 +11,7 @@ pub mod Truth
 pub mod ReplayLemmas
 pub mod SameLemmas
 pub mod MakingLemmas
+pub mod RoomLemmas
 pub mod PrintableLemmas
 pub mod RepairLemmas
 pub mod ApartLemmas

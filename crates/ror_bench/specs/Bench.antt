@@ -7,21 +7,23 @@ use Rattle.ror_value.specs.Over.{IsLawfulIn}
 use Rattle.ror_history.specs.History.{Revision, Revisions, next_number, statements_of}
 
 -- a table that no line changes, the state of the desks: the statements that each began with and its surviving revisions,
--- and how many pivots were made so far, by questions and repairs together
+-- how many pivots were made so far, by questions and repairs together, and for how many more revisions each desk has room
 pub record Workbench : Type 0 where
   pub table : DecisionTable
   pub state : List Revisions
   pub pivots : ℕ
+  pub spare : List ℕ
 
--- the desks of an input: each begins with its opening statements, and no pivot was made
+-- the desks of an input: each begins with its opening statements, no pivot was made, and no room is asked for
 abbrev pub bench_of : Input → ℕ → Workbench
 bench_of input desks = record {
   table = input.table;
   state = replicate desks (record { opening = input.opening; surviving = [] });
   pivots = 0;
+  spare = replicate desks 0;
 }
 
--- both have one table and hold the same at each desk, whatever pivots were made
+-- both have one table and hold the same at each desk, whatever pivots were made and whatever room there is
 abbrev pub HoldTheSame : Workbench → Workbench → Type 0
 HoldTheSame one other = (one.table ≡ other.table) × (one.state ≡ other.state)
 
@@ -32,6 +34,10 @@ pivots_together questions repairs = min (questions + repairs) (2 ^ 64 - 1)
 -- what a desk holds
 abbrev pub revisions_at : Workbench → ℕ → Revisions
 revisions_at bench desk = slice_index_or bench.state desk (record { opening = []; surviving = [] })
+
+-- for how many more revisions a desk has room
+abbrev pub spare_at : Workbench → ℕ → ℕ
+spare_at bench desk = slice_index_or bench.spare desk 0
 
 -- what stands is lawful, and so is what stood after each number of the surviving revisions, the first of them first: an
 -- undo brings it back

@@ -1,5 +1,5 @@
 -- Which block is one of a line, over what its desk holds, and what the desk holds then.
-use Rattle.std.specs.Prelude.{◌≡◌, ◌-◌, true, false, List, [], ◌∷◌, length, take, count_by, Option, Some, None, Result, Ok, slice_set}
+use Rattle.std.specs.Prelude.{◌≡◌, ◌≢◌, ℕ, ◌+◌, ◌-◌, ◌≤◌, true, false, List, [], ◌∷◌, length, take, count_by, Option, Some, None, Result, Ok, slice_set}
 use Rattle.std.specs.Bool.{beq}
 use Rattle.std.specs.List.{AllByRecursion, AllZip}
 use Rattle.std.specs.Result.{result_ok}
@@ -21,7 +21,7 @@ use Rattle.ror_report.specs.Printing.{HasValidQuestion, HasNarrowVerdict, HasNar
 use Rattle.ror_report.specs.Text.{answers_of, IsPrintableBlock}
 use Rattle.ror_history.specs.History.{Revision, addition, withdrawal, replacement, Revisions, with_revision, next_number, standing, statements_of}
 use Rattle.ror_bench.specs.Allowed.{Allowing, proved_unless_wide}
-use Rattle.ror_bench.specs.Bench.{Workbench, revisions_at}
+use Rattle.ror_bench.specs.Bench.{Workbench, revisions_at, spare_at}
 use Rattle.ror_bench.specs.Names.{statement_of, questions_of}
 use Rattle.ror_bench.specs.Lines.{IsRefusedFor, IsTaken}
 use Rattle.ror_bench.specs.declared.bench.Passed.{Passed}
@@ -111,7 +111,27 @@ with_block bench line block = record {
   state = slice_set bench.state line.desk
       (revisions_with bench.table (revisions_at bench line.desk) line.command block.body);
   pivots = bench.pivots;
+  spare = bench.spare;
 }
+
+-- ---- the room that a line takes
+
+-- the command states, withdraws, replaces or undoes: it needs no search
+abbrev pub NeedsNoSearch : Command → Type 0
+NeedsNoSearch Repair = ⊥
+NeedsNoSearch (Ask asked) = ⊥
+NeedsNoSearch _ = Unit {0}
+
+-- a revision takes the room of one at most, and a command that makes none takes none
+abbrev pub most_room : Command → ℕ
+most_room Undo = 0
+most_room (Ask asked) = 0
+most_room _ = 1
+
+-- no desk has less room than it had, but for what the line takes at its own
+pub record LeavesRoom (line : Line) (old new : Workbench) : Type 0 where
+  pub here : spare_at old line.desk ≤ spare_at new line.desk + most_room line.command
+  pub elsewhere : (desk : ℕ) → desk ≢ line.desk → spare_at old desk ≤ spare_at new desk
 
 -- ---- blocks that are checked
 

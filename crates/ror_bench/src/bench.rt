@@ -1,14 +1,14 @@
 //! The desks of a session over one table: a line and its block, and the check of a block.
 
-ghost use Rattle.std.specs.Prelude.{◌≡◌, ◌≢◌, ◌<◌, ◌≤◌, ◌^◌, ◌-◌, length, map, [], replicate, OnOk, IfOk, IfErr};
+ghost use Rattle.std.specs.Prelude.{◌≡◌, ◌≢◌, ◌<◌, ◌≤◌, ◌^◌, ◌-◌, length, map, [], replicate, ℕ, IsOk, OnOk, IfOk, IfErr};
 ghost use Rattle.ror_text.specs.FirstFault.{IsRefusedBy};
 ghost use Rattle.ror_statement.specs.RowNumbers.{row_count};
 ghost use Rattle.ror_value.specs.Over.{IsLawfulIn};
 ghost use Rattle.ror_pivot.specs.Answers.{most_of};
 ghost use Rattle.ror_history.specs.History.{next_number};
 ghost use Rattle.ror_bench.specs.Allowed.{given_at};
-ghost use Rattle.ror_bench.specs.Bench.{Workbench, revisions_at, bench_of, HoldTheSame, IsLawfulBench};
-ghost use Rattle.ror_bench.specs.Blocks.{IsBlockOf, HasText, IsProvedBlock, passed_of, IsTrueBlock, with_block};
+ghost use Rattle.ror_bench.specs.Bench.{Workbench, revisions_at, spare_at, bench_of, HoldTheSame, IsLawfulBench};
+ghost use Rattle.ror_bench.specs.Blocks.{IsBlockOf, HasText, IsProvedBlock, passed_of, IsTrueBlock, with_block, NeedsNoSearch, LeavesRoom};
 ghost use Rattle.ror_bench.specs.Faults.{FailsBlock, IsEarlierBlockFault};
 ghost use Rattle.ror_bench.specs.Steps as steps;
 ghost use Rattle.ror_bench.specs.declared.bench.BlockFault.TheVariants.{Memory};
@@ -111,6 +111,7 @@ impl Model for Bench {
       table = b.table;
       state = map (λ h. h.state) b.desks.items;
       pivots = pivots_together b.engine.pivots b.repair_pivots;
+      spare = map (λ h. h.spare) b.desks.items;
     } };
 
     ghost invariant = { λ b. AllByRecursion
@@ -152,12 +153,30 @@ impl Bench {
         self.engine.pivots().saturating_add(self.repair_pivots)
     }
 
+    /// Makes room at a desk for so many more revisions. All else stays as it is.
+    ///
+    /// # Errors
+    ///
+    /// Only want of memory.
+    pub fn reserve(&mut self, desk: u32, revisions: usize) -> Result<(), AllocError>
+        requires { desk < length self.old.state }
+        ensures room { OnOk result (revisions ≤ spare_at self.new desk) }
+        ensures kept { HoldTheSame self.new self.old }
+        ensures no_less { (other : ℕ) → spare_at self.old other ≤ spare_at self.new other }
+        ensures pivots { self.new.pivots ≡ self.old.pivots }
+    {
+        let history = &mut self.desks[desk as usize];
+        history.reserve(revisions)
+    }
+
     /// Does the line at its desk, questions and repairs being decided at this width, and gives its block: what was made, the
     /// answers, what a repair drops, or the first refusal. A repair is one revision, also where it drops nothing; one that is too
     /// wide changes nothing. Another desk never changes, and this one by its own statements alone. The block has a text, which
     /// is read back as it.
     ///
-    /// It asks that the desk has a number left. Its one error is want of memory, which changes nothing.
+    /// It asks that the desk has a number left. Its one error is want of memory, which changes nothing, and which a line that
+    /// states, withdraws, replaces or undoes never meets where its desk has room. A revision takes the room of one at most, and
+    /// no line takes any at another desk.
     pub fn step(&mut self, line: &Line, bits: Bits) -> Result<Block, AllocError>
         requires desk { line.now.desk < length self.old.state }
         requires number { next_number (revisions_at self.old line.now.desk) < 2 ^ 32 - 1 }
@@ -167,6 +186,9 @@ impl Bench {
         ensures moved { IfOk result
             (λ block. HoldTheSame self.new (with_block self.old line.now block)) }
         ensures kept { IfErr result (λ _. HoldTheSame self.new self.old) }
+        ensures ready { 0 < spare_at self.old line.now.desk → NeedsNoSearch line.now.command
+            → IsOk result }
+        ensures room { LeavesRoom line.now self.old self.new }
         ensures pivots { self.old.pivots ≤ self.new.pivots }
     {
         // The systems of an answer have at most as many columns as a table, and each table has alternatives.
@@ -211,6 +233,8 @@ impl Bench {
             IsEarlierBlockFault BlockFault.Memory) }
         ensures moved { OnOk result (HoldTheSame self.new (with_block self.old line.now block.now)) }
         ensures kept { IfErr result (λ _. HoldTheSame self.new self.old) }
+        ensures room { (desk : ℕ) → desk ≢ line.now.desk
+            → spare_at self.old desk ≤ spare_at self.new desk }
         ensures pivots { self.new.pivots ≡ self.old.pivots }
     {
         if block.line != line.number {

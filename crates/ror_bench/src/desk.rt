@@ -1,6 +1,6 @@
 //! What comes of a command at a desk: what it changes there, and whether a block says so.
 
-ghost use Rattle.std.specs.Prelude.{◌≡◌, ◌↔◌, ◌-◌, ◌^◌, ◌<◌, ◌≤◌, length, map, count_by, IsTrue, OnOk, IfOk, IfErr, Err};
+ghost use Rattle.std.specs.Prelude.{◌≡◌, ◌≢◌, ◌↔◌, ◌+◌, ◌-◌, ◌^◌, ◌<◌, ◌≤◌, length, map, count_by, IsTrue, IsOk, OnOk, IfOk, IfErr, Err};
 ghost use Rattle.std.specs.Bool.{beq};
 ghost use Rattle.std.specs.List.{AllByRecursion, AllZip};
 ghost use Rattle.ror_pivot.specs.Answers.{most_of};
@@ -12,7 +12,7 @@ ghost use Rattle.ror_session.specs.declared.session.Command.TheVariants.{State, 
 ghost use Rattle.ror_bench.specs.Allowed.{IsProvedUnlessWide, IsRepairAt, given_at, proved_unless_wide};
 ghost use Rattle.ror_bench.specs.Bench.{IsLawfulThroughout};
 ghost use Rattle.ror_bench.specs.Names as names;
-ghost use Rattle.ror_bench.specs.Blocks.{AreAnswers, IsBodyOf, answers_passed, passed_of, revisions_with};
+ghost use Rattle.ror_bench.specs.Blocks.{AreAnswers, IsBodyOf, answers_passed, passed_of, revisions_with, NeedsNoSearch, most_room};
 ghost use Rattle.ror_bench.specs.Steps.{body_of, IsMade, IsOneMore, IsSaidOf, RefusesCommand, RefusesSaid, RefusesBody, RefusesAnswers, EndsWithRevision, IsTakenBack};
 
 use crate::bench::{BlockFault, Passed};
@@ -62,6 +62,8 @@ fn add(table: &Table, history: &mut History, named: &Named) -> Result<Made, Line
     ensures one_more { IfOk result (λ _. IsOneMore history.old.state history.new.state) }
     ensures refused { IfErr result (RefusesCommand table.now history.old.state (State named.now)) }
     ensures kept { IfErr result (λ _. history.new.state ≡ history.old.state) }
+    ensures roomy { IfErr result (λ stop. stop ≡ LineStop.Memory → history.old.spare ≡ 0) }
+    ensures room { history.old.spare ≤ history.new.spare + 1 }
 {
     let statement = statement_of(table, named)?;
     let number = history.add(statement)?;
@@ -75,6 +77,8 @@ fn withdraw(table: &Table, history: &mut History, number: u32) -> Result<Made, L
     ensures one_more { IfOk result (λ _. IsOneMore history.old.state history.new.state) }
     ensures refused { IfErr result (RefusesCommand table.now history.old.state (Withdraw number)) }
     ensures kept { IfErr result (λ _. history.new.state ≡ history.old.state) }
+    ensures roomy { IfErr result (λ stop. stop ≡ LineStop.Memory → history.old.spare ≡ 0) }
+    ensures room { history.old.spare ≤ history.new.spare + 1 }
 {
     history.withdraw(number)?;
     Ok(Made::Withdrawn(number))
@@ -93,6 +97,8 @@ fn replace(
     ensures refused { IfErr result
         (RefusesCommand table.now history.old.state (Replace number named.now)) }
     ensures kept { IfErr result (λ _. history.new.state ≡ history.old.state) }
+    ensures roomy { IfErr result (λ stop. stop ≡ LineStop.Memory → history.old.spare ≡ 0) }
+    ensures room { history.old.spare ≤ history.new.spare + 1 }
 {
     let statement = statement_of(table, named)?;
     history.replace(number, statement)?;
@@ -105,6 +111,8 @@ fn undo(table: &Table, history: &mut History) -> Result<Made, LineStop>
         made history.new.state) }
     ensures refused { IfErr result (RefusesCommand table.now history.old.state Undo) }
     ensures kept { IfErr result (λ _. history.new.state ≡ history.old.state) }
+    ensures no_memory { IfErr result (λ stop. stop ≢ LineStop.Memory) }
+    ensures room { history.old.spare ≤ history.new.spare }
 {
     history.undo()?;
     Ok(Made::Undone)
@@ -130,6 +138,8 @@ pub(crate) fn perform(
     ensures moved { IfOk result (λ body. history.new.state
         ≡ revisions_with table.now history.old.state command.now body) }
     ensures kept { IfErr result (λ _. history.new.state ≡ history.old.state) }
+    ensures ready { 0 < history.old.spare → NeedsNoSearch command.now → IsOk result }
+    ensures room { history.old.spare ≤ history.new.spare + most_room command.now }
     ensures counted { engine.old.pivots ≤ engine.new.pivots }
     ensures repairs_counted { repair_pivots.old ≤ repair_pivots.new }
 {
@@ -161,6 +171,7 @@ fn repair_at(
         ≡ revisions_with table.now history.old.state Repair body) }
     ensures kept { IfErr result (λ _. history.new.state ≡ history.old.state) }
     ensures counted { pivots.old ≤ pivots.new }
+    ensures room { history.old.spare ≤ history.new.spare + 1 }
 {
     let standing = history.standing()?;
     match repair_counted(alloc, table, standing.as_slice(), bits, pivots) {
@@ -183,6 +194,7 @@ fn withdraw_dropped(
     ensures withdrawn { OnOk result (history.new.state
         ≡ with_revision history.old.state (withdrawal (numbers_of dropped.now))) }
     ensures kept { IfErr result (λ _. history.new.state ≡ history.old.state) }
+    ensures room { history.old.spare ≤ history.new.spare + 1 }
 {
     let numbers = dropped_numbers(alloc, dropped)?;
     match history.withdraw_all(numbers.as_slice()) {

@@ -3,6 +3,7 @@ use Rattle.std.proofs.lemmas.Result.{err_from_is_err_and}
 use Rattle.ror_history.specs.History.{addition}
 use Rattle.ror_bench.proofs.CommandLemmas.{statement_refused, added_refused}
 use Rattle.ror_bench.proofs.BodyLemmas.{added_made}
+use Rattle.ror_bench.proofs.RoomLemmas.{stop_roomy}
 use Rattle.ror_bench.proofs.desk.add.Goals as goal
 
 pub returns-in_err-statement-clause-refused : goal.returns-in_err-statement-clause-refused
@@ -20,3 +21,13 @@ returns-clause-made c = added_made c.args.table.now c.args.history.now.state c.a
 
 pub returns-clause-one_more : goal.returns-clause-one_more
 returns-clause-one_more c = (addition c.in_ok-number.number c.in_ok-statement.statement, c.in_ok-number.ensures.added)
+
+pub returns-in_err-statement-clause-roomy : goal.returns-in_err-statement-clause-roomy
+returns-in_err-statement-clause-roomy c =
+    let exit = err_from_is_err_and c.from_residual.result c.from_residual.ensures.1 in
+    rw (exit.1, exit.2) (λ is. absurd cc)
+
+pub returns-in_err-number-clause-roomy : goal.returns-in_err-number-clause-roomy
+returns-in_err-number-clause-roomy c =
+    let exit = err_from_is_err_and c.from_residual-in_err-number.result c.from_residual-in_err-number.ensures.1 in
+    rw (exit.1, exit.2) (stop_roomy c.in_err-number.field-0.0 c.args.history.now.spare c.in_err-number.ensures.roomy)

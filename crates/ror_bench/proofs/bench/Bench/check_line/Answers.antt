@@ -9,6 +9,7 @@ use Rattle.ror_bench.specs.Bench.{revisions_at, pivots_together}
 use Rattle.ror_bench.proofs.AnswerLemmas.{checked_proved, checked_true, checked_refused, none_proved}
 use Rattle.ror_bench.proofs.DeskLemmas.{at_bench, kept_at, checked_moves, checked_keeps, checked_lawful}
 use Rattle.ror_bench.proofs.LawfulLemmas.{lawful_now}
+use Rattle.ror_bench.proofs.RoomLemmas.{room_elsewhere}
 use Rattle.ror_bench.proofs.bench.Bench.check_line.Goals as goal
 
 pub invariant_of-self : goal.invariant_of-self
@@ -56,3 +57,10 @@ returns-clause-moved c =
 
 pub returns-clause-kept : goal.returns-clause-kept
 returns-clause-kept c = checked_keeps c.self.inside.table (pivots_together c.self.inside.engine.pivots c.self.inside.repair_pivots) c.self.inside.desks.items c.args.line.now c.args.block.now c.index_mut-history.result.now c.check.new.history c.args.self.now c.check.result c.index_mut-history.ensures.value c.self.view_is c.check.ensures.kept
+
+pub returns-clause-room : goal.returns-clause-room
+returns-clause-room c =
+    let views = c.self.inside.desks.items in
+    let within : c.args.line.now.desk < length (map (λ h. h.state) views) = search rules in
+    let p = pivots_together c.self.inside.engine.pivots c.self.inside.repair_pivots in
+    room_elsewhere c.self.inside.table p p views c.args.line.now.desk c.index_mut-history.result.now c.check.new.history c.args.self.now within c.index_mut-history.ensures.value c.self.view_is

@@ -1,4 +1,4 @@
-use Rattle.std.proofs.Common.{rules, ◌≡◌, ◌<◌, ◌^◌, ◌-◌, length, map, refl, sym, ap, subst, ◌∙◌}
+use Rattle.std.proofs.Common.{rules, ℕ, ◌≡◌, ◌<◌, ◌^◌, ◌-◌, length, map, refl, sym, ap, subst, ◌∙◌}
 use Rattle.std.proofs.lemmas.Result.{err_from_is_err_and}
 use Rattle.ror_pivot.specs.Answers.{most_of}
 use Rattle.ror_history.specs.History.{Revisions, next_number}
@@ -8,6 +8,7 @@ use Rattle.ror_bench.specs.Blocks.{IsBlockOf, HasText}
 use Rattle.ror_bench.proofs.DeskLemmas.{at_bench, kept_at, kept_set, state_here, bench_moves, bench_stays}
 use Rattle.ror_bench.proofs.LawfulLemmas.{lawful_now, moved_lawful}
 use Rattle.ror_bench.proofs.PrintableLemmas.{has_text}
+use Rattle.ror_bench.proofs.RoomLemmas.{spare_old, leaves_room}
 use Rattle.ror_bench.proofs.bench.Bench.step.Goals as goal
 
 pub returns-in_err-body-clause-kept : goal.returns-in_err-body-clause-kept
@@ -52,3 +53,24 @@ returns-clause-moved c =
     let views = c.self.inside.desks.items in
     let within : c.args.line.now.desk < length (map (λ h. h.state) views) = search rules in
     bench_moves c.self.inside.table (pivots_together c.self.inside.engine.pivots c.self.inside.repair_pivots) (pivots_together c.perform.new.engine.pivots c.perform.new.repair_pivots) views c.args.line.now (record { line = c.args.line.now.number; body = c.in_ok-body.body }) c.index_mut-history.result.now c.perform.new.history c.args.self.now within c.index_mut-history.ensures.value c.self.view_is c.in_ok-body.ensures.moved
+
+pub returns-in_err-body-clause-ready : goal.returns-in_err-body-clause-ready
+returns-in_err-body-clause-ready c =
+    let exit = err_from_is_err_and c.from_residual.result c.from_residual.ensures.1 in
+    let views = c.self.inside.desks.items in
+    let within : c.args.line.now.desk < length (map (λ h. h.state) views) = search rules in
+    let p = pivots_together c.self.inside.engine.pivots c.self.inside.repair_pivots in
+    let here = spare_old c.self.inside.table p p views c.args.line.now.desk c.index_mut-history.result.now c.perform.new.history c.args.self.now within c.index_mut-history.ensures.value c.self.view_is in
+    rw exit.1 (λ some plain. c.in_err-body.ensures.ready (subst (λ (n : ℕ). 0 < n) (sym here) some) plain)
+
+pub returns-in_err-body-clause-room : goal.returns-in_err-body-clause-room
+returns-in_err-body-clause-room c =
+    let views = c.self.inside.desks.items in
+    let within : c.args.line.now.desk < length (map (λ h. h.state) views) = search rules in
+    leaves_room c.self.inside.table (pivots_together c.self.inside.engine.pivots c.self.inside.repair_pivots) (pivots_together c.perform.new.engine.pivots c.perform.new.repair_pivots) views c.args.line.now c.index_mut-history.result.now c.perform.new.history c.args.self.now within c.index_mut-history.ensures.value c.self.view_is c.in_err-body.ensures.room
+
+pub returns-clause-room : goal.returns-clause-room
+returns-clause-room c =
+    let views = c.self.inside.desks.items in
+    let within : c.args.line.now.desk < length (map (λ h. h.state) views) = search rules in
+    leaves_room c.self.inside.table (pivots_together c.self.inside.engine.pivots c.self.inside.repair_pivots) (pivots_together c.perform.new.engine.pivots c.perform.new.repair_pivots) views c.args.line.now c.index_mut-history.result.now c.perform.new.history c.args.self.now within c.index_mut-history.ensures.value c.self.view_is c.in_ok-body.ensures.room
