@@ -16,7 +16,7 @@ use std::alloc::{AllocError, Global};
 const MOST_PIVOTS: u64 = 1_000;
 
 /// The pivots of one call change so many numbers at most, where each changes the square of the rows.
-const MOST_WORK: u64 = 1 << 27;
+const MOST_WORK: u64 = 1 << 32;
 
 /// Rows, certificates and a tableau of the systems that were decided.
 #[derive(Drop)]
