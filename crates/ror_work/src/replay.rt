@@ -1,12 +1,12 @@
 //! The report of a session: its header, the block of each line, each written before the next line is taken, and its end.
 
-ghost use Rattle.std.specs.Prelude.{◌≡◌, ◌≤◌, length};
+ghost use Rattle.std.specs.Prelude.{◌≡◌, ◌≤◌, length, OnOk};
 ghost use Rattle.std.specs.List.{AllByRecursion, list_any};
 ghost use Rattle.ror_check.specs.Proof.{is_wide};
 ghost use Rattle.ror_session.specs.declared.limits.TheConstants.{MOST_LINES};
 ghost use Rattle.ror_session.specs.Sound.{IsSound};
 ghost use Rattle.ror_value.specs.Over.{IsLawfulIn};
-ghost use Rattle.ror_bench.specs.Bench.{IsLawfulBench, LeavesNumbers};
+ghost use Rattle.ror_bench.specs.Bench.{HoldTheSame, IsLawfulBench, LeavesNumbers};
 ghost use Rattle.ror_bench.specs.Blocks.{HasText};
 ghost use Rattle.ror_bench.specs.Reports.{NamesADesk};
 ghost use Rattle.ror_report.specs.Text.{block_text};
@@ -15,7 +15,7 @@ ghost use Rattle.ror_frame.specs.States.{shelf_state, sink_state};
 ghost use Rattle.ror_frame.specs.Courses.{WritesDue, IsWork};
 ghost use Rattle.ror_frame.specs.Inputs.{bench_for};
 ghost use Rattle.ror_pivot.specs.Answers.{most_of};
-ghost use Rattle.ror_work.specs.Replaying.{report_output, replay_chore, WritesText, MakesBlocks, has_wide};
+ghost use Rattle.ror_work.specs.Replaying.{report_output, replay_chore, WritesText, MakesBlocks, has_wide, revisions_of, HasRoomBelow};
 
 use ror_bench::Bench;
 use ror_frame::{Stop, fetch_session, fetch_table};
@@ -23,11 +23,11 @@ use ror_io::{Shelf, Sink, write_all};
 use ror_pivot::Bits;
 use ror_proof::{Answer, Verdict};
 use ror_report::{Block, Body, header, print_block, print_end};
-use ror_session::{Line, Session};
+use ror_session::{Command, Line, Session};
 use ror_table::Table;
 use ror_words::FileNames;
 use ror_xmcda::Input;
-use std::alloc::Global;
+use std::alloc::{AllocError, Global};
 
 /// Fetches table and session, each once those before it were read, and writes the report of the session at a width. It says
 /// whether anything is too wide.
@@ -54,8 +54,9 @@ pub fn replay_files<F: Shelf, O: Sink>(
     write_report(alloc, input, &session, bits, out)
 }
 
-/// Writes the report of a session over an input at a width, and says whether anything is too wide. Each block is written before the
-/// next line is taken, and after a write that failed nothing more is.
+/// Writes the report of a session over an input at a width, and says whether anything is too wide. There is room for all revisions
+/// before the first byte is written. Each block is written before the next line is taken, and after a write that failed nothing
+/// more is.
 fn write_report<O: Sink>(
     alloc: Global,
     input: Input,
@@ -70,8 +71,32 @@ fn write_report<O: Sink>(
         (sink_state (O.written out.new) (O.faults out.new)) result }
 {
     let desks = session.desks.len() as u32;
+    let lines = session.lines.as_slice();
     let mut bench = Bench::new(alloc, input, desks)?;
-    write_lines(alloc, &mut bench, session.lines.as_slice(), bits, out)
+    make_room(&mut bench, desks, lines)?;
+    write_lines(alloc, &mut bench, lines, bits, out)
+}
+
+/// Makes room at each of so many desks for its lines that may revise it.
+fn make_room(bench: &mut Bench, desks: u32, lines: &[Line]) -> Result<(), AllocError>
+    requires { desks ≤ length bench.old.state }
+    ensures kept { HoldTheSame bench.new bench.old }
+    ensures room { OnOk result (HasRoomBelow desks lines.now bench.new) }
+{
+    for desk in 0..desks {
+        bench.reserve(desk, revisions_of(lines, desk))?;
+    }
+    Ok(())
+}
+
+/// How many of the lines may revise a desk: all there but those that ask.
+fn revisions_of(lines: &[Line], desk: u32) -> usize
+    ensures { result ≡ revisions_of lines.now desk }
+{
+    lines
+        .iter()
+        .filter(|line| line.desk == desk && !matches!(line.command, Command::Ask(_)))
+        .count()
 }
 
 /// Writes the report of these lines over a bench, and says whether anything is too wide.
