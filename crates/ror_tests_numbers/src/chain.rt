@@ -16,6 +16,17 @@ fn a_node_comes_back_where_it_stood(rt: HostRuntime) -> Result<(), Fail> {
 }
 
 #[test]
+fn nodes_go_into_room_made_before(rt: HostRuntime) -> Result<(), Fail> {
+    let mut chain = Chain::new(rt.alloc());
+    chain.reserve(2)?;
+    assert!(rt; chain.push_reserved(10) == 0);
+    assert!(rt; chain.push_reserved(20) == 1);
+    assert!(rt; chain.first() == Some(0) && chain.next(0) == Some(1) && chain.next(1) == None);
+    assert!(rt; chain.item(0) == 10 && chain.item(1) == 20);
+    Ok(())
+}
+
+#[test]
 fn an_only_node_comes_back(rt: HostRuntime) -> Result<(), Fail> {
     let mut chain = Chain::new(rt.alloc());
     assert!(rt; chain.push('a')? == 0);

@@ -1,6 +1,6 @@
 //! Lines that are done at one bench and checked at another, and whole reports.
 
-ghost use Rattle.std.specs.Prelude.{◌≡◌, [], length, replicate, IfSome};
+ghost use Rattle.std.specs.Prelude.{◌≡◌, ◌≤◌, [], length, replicate, IfSome};
 ghost use Rattle.std.specs.List.{AllByRecursion};
 ghost use Rattle.ror_session.specs.Sound.{IsSound};
 ghost use Rattle.ror_bench.specs.Bench.{LeavesNumbers};
@@ -16,19 +16,18 @@ use ror_session::{Asked, Command, Line, Session, read_session};
 use ror_table::{Direction, Table, TableError, read_plain};
 use ror_text::Items;
 use ror_value::Input;
-use std::alloc::Global;
+use std::alloc::{AllocError, Global};
 use std::test::Fail;
 
 const TABLE: &[u8] = b"ror-table 1
 criterion q max
 criterion p min
-classes 3
 alternative a 3 10
 alternative b 2 8
 alternative c 1 12
 ";
 
-/// Three alternatives by two criteria of two steps each, with three classes.
+/// Three alternatives by two criteria of two steps each.
 fn three_alternatives(alloc: Global) -> Result<Table, TableError> {
     read_plain(alloc, TABLE)
 }
@@ -126,11 +125,28 @@ fn done_lines(
     Ok(done)
 }
 
+/// Makes room for so many revisions at the first of the desks, if there is one.
+fn make_room(bench: &mut Bench, desks: usize, room: usize) -> Result<(), AllocError>
+    requires { desks ≤ length bench.old.state }
+    ensures { bench.new.state ≡ bench.old.state }
+{
+    if desks == 0 {
+        return Ok(());
+    }
+    bench.reserve(0, room)
+}
+
 /// Does the lines of a session.
 fn done_session(alloc: Global, text: &[u8]) -> Result<Vec<Done>, Fail> {
+    done_in_room(alloc, text, 0)
+}
+
+/// Does the lines of a session, at whose first desk there is room for so many revisions.
+fn done_in_room(alloc: Global, text: &[u8], room: usize) -> Result<Vec<Done>, Fail> {
     let session = session_of(alloc, text).ok_or("the text is a session")?;
     let mut checks = bench_for(alloc, &session).ok_or("there is a bench")?;
     let mut bench = bench_for(alloc, &session).ok_or("there is a bench")?;
+    make_room(&mut bench, session.desks.len(), room)?;
     done_lines(alloc, &mut bench, &mut checks, session.lines.as_slice())
 }
 
@@ -152,6 +168,18 @@ fn a_line_is_done_and_its_block_accepted(rt: HostRuntime) -> Result<(), Fail> {
     let (block, passed) = one_block(rt.alloc(), b"ask possible b c\n")?;
     assert!(rt; matches!(&block.body, Body::Answers(answers) if answers.len() == 1));
     assert_eq!(rt; passed.answers, 1);
+    Ok(())
+}
+
+#[test]
+fn lines_are_done_in_room_made_before(rt: HostRuntime) -> Result<(), Fail> {
+    let text = b"prefer a b\nprefer a c\nreplace 1 atleast a c\nwithdraw 1\n".as_slice();
+    let done = done_in_room(rt.alloc(), text, 4)?;
+    assert!(rt; done.len() == 4);
+    assert!(rt; matches!(&done[0].block.body, Body::Added(1)));
+    assert!(rt; matches!(&done[1].block.body, Body::Added(2)));
+    assert!(rt; matches!(&done[2].block.body, Body::Replaced(1)));
+    assert!(rt; matches!(&done[3].block.body, Body::Withdrawn(1)));
     Ok(())
 }
 

@@ -38,6 +38,20 @@ fn revisions_are_undone_one_after_another(rt: HostRuntime) -> Result<(), Fail> {
 }
 
 #[test]
+fn revisions_go_into_room_made_before(rt: HostRuntime) -> Result<(), Fail> {
+    let mut history = History::new(rt.alloc(), &[])?;
+    history.reserve(3)?;
+    assert!(rt; history.add(FIRST) == Ok(1));
+    assert!(rt; history.replace(1, Statement::AtLeast(0, 1)) == Ok(()));
+    assert!(rt; history.withdraw(1) == Ok(()));
+    assert!(rt; history.undo() == Ok(()));
+    assert!(rt; history.undo() == Ok(()));
+    assert!(rt; history.undo() == Ok(()));
+    assert!(rt; stand(&history, &[])?);
+    Ok(())
+}
+
+#[test]
 fn statements_are_withdrawn_in_one_revision(rt: HostRuntime) -> Result<(), Fail> {
     let all = [numbered(1, FIRST), numbered(2, SECOND), numbered(3, THIRD)];
     let mut history = History::new(rt.alloc(), &[FIRST, SECOND, THIRD])?;

@@ -8,7 +8,7 @@ use Rattle.ror_history.specs.History.{Revisions}
 use Rattle.ror_history.proofs.TurnLemmas.{next_number-first}
 use Rattle.ror_bench.specs.Bench.{LeavesNumbers}
 use Rattle.ror_bench.specs.Reports.{NamesADesk}
-use Rattle.ror_tests_runs.proofs.bench.done_session.Goals as goal
+use Rattle.ror_tests_runs.proofs.bench.done_in_room.Goals as goal
 
 all_left : (n lines : ℕ) → lines ≤ MOST_LINES → AllByRecursion (LeavesNumbers lines) (replicate n (record { opening = []; surviving = [] }))
 all_left zero lines few = tt
@@ -19,7 +19,7 @@ done_lines-requires-clause-same c =
     let held = replicate (length c.in_ok-session.session.desks) (record { opening = []; surviving = [] }) in
     let checks : c.in_ok-checks.checks.state ≡ held = search rules in
     let bench : c.in_ok-bench.bench.state ≡ held = search rules in
-    checks ∙ sym bench
+    checks ∙ sym (c.in_ok-make_room.ensures ∙ bench)
 
 pub done_lines-requires-clause-desks : goal.done_lines-requires-clause-desks
 done_lines-requires-clause-desks c =
