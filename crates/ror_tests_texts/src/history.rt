@@ -30,6 +30,16 @@ fn revisions_are_undone_one_after_another(rt: HostRuntime) -> Result<(), Fail> {
     assert!(rt; history.withdraw(1) == Ok(()));
     assert!(rt; history.undo() == Ok(()));
     assert!(rt; history.undo() == Ok(()));
+    assert!(rt; stand(&history, &[numbered(1, FIRST), numbered(2, SECOND)])?);
+    assert!(rt; history.chain().nodes() == 2);
+    Ok(())
+}
+
+#[test]
+fn a_statement_is_added_after_an_undo(rt: HostRuntime) -> Result<(), Fail> {
+    let mut history = History::new(rt.alloc(), &[FIRST, SECOND])?;
+    assert!(rt; history.withdraw(1) == Ok(()));
+    assert!(rt; history.undo() == Ok(()));
     assert!(rt; history.add(THIRD) == Ok(3));
     let wanted = [numbered(1, FIRST), numbered(2, SECOND), numbered(3, THIRD)];
     assert!(rt; stand(&history, &wanted)?);
