@@ -1,7 +1,5 @@
-//! Tests of a bench and of a run of the program, by their public calls: ror_bench and ror_run.
+//! Tests of runs over files and streams in memory, by the public call of ror_run.
 #![tactic(auto)]
 
-#[cfg(test)]
-mod bench;
 #[cfg(test)]
 mod run;

@@ -8,7 +8,7 @@ use Rattle.ror_history.specs.History.{Revisions}
 use Rattle.ror_history.proofs.TurnLemmas.{next_number-first}
 use Rattle.ror_bench.specs.Bench.{LeavesNumbers}
 use Rattle.ror_bench.specs.Reports.{NamesADesk}
-use Rattle.ror_tests_runs.proofs.bench.done_in_room.Goals as goal
+use Rattle.ror_tests_benches.proofs.bench.done_in_room.Goals as goal
 
 all_left : (n lines : ℕ) → lines ≤ MOST_LINES → AllByRecursion (LeavesNumbers lines) (replicate n (record { opening = []; surviving = [] }))
 all_left zero lines few = tt
@@ -25,8 +25,9 @@ pub done_lines-requires-clause-desks : goal.done_lines-requires-clause-desks
 done_lines-requires-clause-desks c =
     let desks = length c.in_ok-session.session.desks in
     let sound : IsSound c.in_ok-session.session = search rules in
-    let bench : c.in_ok-bench.bench.state ≡ replicate desks (record { opening = []; surviving = [] }) = search rules in
-    let long : length c.in_ok-bench.bench.state ≡ desks = ap length bench ∙ length-replicate desks (record { opening = []; surviving = [] }) in
+    let begun : c.in_ok-bench.bench.state ≡ replicate desks (record { opening = []; surviving = [] }) = search rules in
+    let bench : c.make_room.new.bench.state ≡ replicate desks (record { opening = []; surviving = [] }) = c.in_ok-make_room.ensures ∙ begun in
+    let long : length c.make_room.new.bench.state ≡ desks = ap length bench ∙ length-replicate desks (record { opening = []; surviving = [] }) in
     subst (λ (n : ℕ). AllByRecursion (NamesADesk n) c.as_slice.result.now) (sym long)
     (subst (λ (lines : List Line). AllByRecursion (NamesADesk desks) lines) (sym c.as_slice.ensures) sound.desks)
 
@@ -34,7 +35,8 @@ pub done_lines-requires-clause-numbers : goal.done_lines-requires-clause-numbers
 done_lines-requires-clause-numbers c =
     let desks = length c.in_ok-session.session.desks in
     let sound : IsSound c.in_ok-session.session = search rules in
-    let bench : c.in_ok-bench.bench.state ≡ replicate desks (record { opening = []; surviving = [] }) = search rules in
+    let begun : c.in_ok-bench.bench.state ≡ replicate desks (record { opening = []; surviving = [] }) = search rules in
+    let bench : c.make_room.new.bench.state ≡ replicate desks (record { opening = []; surviving = [] }) = c.in_ok-make_room.ensures ∙ begun in
     let few : length c.as_slice.result.now ≤ MOST_LINES = subst (λ (lines : List Line). length lines ≤ MOST_LINES) (sym c.as_slice.ensures) sound.few_lines in
     subst (λ (rs : List Revisions). AllByRecursion (LeavesNumbers (length c.as_slice.result.now)) rs) (sym bench)
     (all_left desks (length c.as_slice.result.now) few)

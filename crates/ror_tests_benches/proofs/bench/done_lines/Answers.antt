@@ -6,7 +6,7 @@ use Rattle.ror_bench.specs.Bench.{LeavesNumbers, revisions_at}
 use Rattle.ror_bench.specs.Blocks.{revisions_with}
 use Rattle.ror_bench.proofs.ReportProofs.{desk_at, number_left, numbers_after, one_fewer}
 use Rattle.ror_bench.proofs.MakingLemmas.{numbers_then}
-use Rattle.ror_tests_runs.proofs.bench.done_lines.Goals as goal
+use Rattle.ror_tests_benches.proofs.bench.done_lines.Goals as goal
 
 pub loop-line-init : goal.loop-line-init
 loop-line-init c = record {

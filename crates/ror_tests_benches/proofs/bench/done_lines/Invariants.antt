@@ -1,7 +1,7 @@
 use Rattle.std.proofs.Common.{◌≡◌, drop, length}
 use Rattle.std.specs.List.{AllByRecursion}
 use Rattle.ror_bench.specs.Bench.{LeavesNumbers}
-use Rattle.ror_tests_runs.proofs.bench.done_lines.Given as goal
+use Rattle.ror_tests_benches.proofs.bench.done_lines.Given as goal
 
 abbrev pub invariant-loop-line : goal.invariant-loop-line
 invariant-loop-line l = record {
