@@ -8,6 +8,7 @@ pub mod ListedLemmas
 pub mod PlainReader
 pub mod Runs
 pub mod NameLemmas
+pub mod PlaceLemmas
 pub mod TagRuns
 pub mod ElementRuns
 pub mod Grown

@@ -2,6 +2,7 @@ pub mod Tree
 pub mod Kept
 pub mod Listed
 pub mod Marks
+pub mod Places
 pub mod Mode
 pub mod Faults
 pub mod Open

@@ -1,10 +1,7 @@
-//! Bytes that are gathered one by one, and sets of names.
+//! Bytes that are gathered one by one.
 
-ghost use Rattle.std.specs.Prelude.{◌≡◌, [], ◌∷◌, ◌++◌, ◌-◌, take, length, not, true, IfOk, OnOk};
-ghost use Rattle.std.specs.List.{list_any};
-ghost use Rattle.std.specs.Str.{bytes_eq};
+ghost use Rattle.std.specs.Prelude.{◌≡◌, [], ◌∷◌, ◌++◌, ◌-◌, take, length, OnOk};
 
-use indexmap::IndexSet;
 use std::alloc::{AllocError, AllocFailed, Global};
 use std::marker::Model;
 
@@ -78,39 +75,5 @@ impl Bytes {
         ensures { result.items ≡ self }
     {
         self.items
-    }
-}
-
-/// Names that differ from each other, in the order in which they came.
-#[derive(Drop)]
-pub(crate) struct Names {
-    names: IndexSet<Vec<u8>>,
-}
-
-impl Model for Names {
-    ghost use Rattle.std.specs.Prelude.{List, ℕ, map};
-
-    ghost Value = { List (List ℕ) };
-
-    ghost view = { λ fields. map (λ name. name.items) fields.names.keys };
-}
-
-impl Names {
-    /// No names.
-    pub(crate) fn new(alloc: Global) -> Names
-        ensures { result ≡ [] }
-    {
-        Names {
-            names: IndexSet::new(alloc),
-        }
-    }
-
-    /// Adds a name, and answers whether it is new.
-    pub(crate) fn add(&mut self, name: Bytes) -> Result<bool, AllocFailed<Vec<u8>>>
-        ensures new { IfOk result (λ new. new ≡ not (list_any (bytes_eq name) self.old)) }
-        ensures added { IfOk result (λ new. new ≡ true → self.new ≡ self.old ++ name ∷ []) }
-    {
-        let (_, new) = self.names.insert_full(name.into_vec())?;
-        Ok(new)
     }
 }

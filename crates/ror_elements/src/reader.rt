@@ -5,11 +5,12 @@ ghost use Rattle.ror_text.specs.Reading.{Gives};
 ghost use Rattle.ror_elements.specs.Faults.{element_fault};
 ghost use Rattle.ror_elements.specs.Reader as spec;
 
-use crate::bytes::{Bytes, Names};
+use crate::bytes::Bytes;
 use crate::declaration::Declaration;
 use crate::element::{ElementError, ElementKind};
 use crate::marks::{is_control, is_name_byte, is_white};
 use crate::mode::{Home, Mode, Opening, Seen, is_byte_at};
+use crate::names::Names;
 use crate::open::{Children, Open, Stack, fault};
 use crate::reference::character_of;
 use ror_text::reading::refuse_if;

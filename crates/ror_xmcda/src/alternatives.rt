@@ -22,7 +22,7 @@ fn alternative(alloc: Global, roster: &mut Roster, element: &Element) -> Result<
 {
     let id = new_id(roster, element)?;
     if !is_active(element)? {
-        roster.left_out.add(alloc, id)?;
+        roster.left_out.push_text(alloc, id)?;
         return Ok(());
     }
     refuse_if(

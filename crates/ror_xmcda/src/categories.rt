@@ -60,7 +60,7 @@ fn category(alloc: Global, categories: &mut Categories, element: &Element) -> Re
 {
     let id = new_id(&categories.ids, element)?;
     if !is_active(element)? {
-        categories.ids.left_out.add(alloc, id)?;
+        categories.ids.left_out.push_text(alloc, id)?;
         return Ok(());
     }
     let rank = rank_of(alloc, categories.ranks.as_slice(), element)?;

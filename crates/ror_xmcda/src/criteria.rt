@@ -73,7 +73,7 @@ fn criterion(alloc: Global, criteria: &mut Criteria, element: &Element) -> Resul
 {
     let id = new_id(&criteria.ids, element)?;
     if !is_active(element)? {
-        criteria.ids.left_out.add(alloc, id)?;
+        criteria.ids.left_out.push_text(alloc, id)?;
         return Ok(());
     }
     refuse_if(

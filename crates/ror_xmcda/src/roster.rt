@@ -6,10 +6,11 @@ ghost use Rattle.ror_table.specs.Draft.{has_id};
 ghost use Rattle.ror_table.specs.Table.{place_of};
 
 use indexmap::IndexSet;
+use ror_elements::Names;
 use std::alloc::{AllocError, Global};
 use std::marker::Model;
 
-/// Distinct ids in order, which clauses see as their list.
+/// Distinct ids in order, which clauses see as their list. There are few, so their hashes may be the same.
 #[derive(Drop)]
 pub(crate) struct Ids {
     ids: IndexSet<String>,
@@ -74,7 +75,7 @@ impl Ids {
 #[derive(Drop)]
 pub(crate) struct Roster {
     pub(crate) kept: Ids,
-    pub(crate) left_out: Ids,
+    pub(crate) left_out: Names,
 }
 
 impl Roster {
@@ -85,7 +86,7 @@ impl Roster {
     {
         Roster {
             kept: Ids::new(alloc),
-            left_out: Ids::new(alloc),
+            left_out: Names::new(alloc),
         }
     }
 
@@ -93,7 +94,7 @@ impl Roster {
     pub(crate) fn lists(&self, id: &str) -> bool
         ensures { result ≡ spec.is_listed self.now id.now }
     {
-        self.kept.has(id) || self.left_out.has(id)
+        self.kept.has(id) || self.left_out.has(id.as_bytes())
     }
 
     /// What an id stands for, if it is listed: what is kept at a place, or nothing where it is left out.
@@ -101,7 +102,7 @@ impl Roster {
     pub(crate) fn standing(&self, id: &str) -> Option<Option<usize>>
         ensures { result ≡ spec.standing self.now id.now }
     {
-        if self.left_out.has(id) {
+        if self.left_out.has(id.as_bytes()) {
             return Some(None);
         }
         match self.kept.place(id) {
