@@ -1,6 +1,6 @@
 //! Texts whose elements or faults were worked out by hand.
 
-use ror_elements::{Element, ElementError, ElementFault, ElementKind, read_elements};
+use ror_elements::{Element, ElementError, ElementFault, ElementKind, Names, read_elements};
 use ror_text::lines::MOST_TEXT_BYTES;
 use std::alloc::{AllocError, Global};
 use std::test::Fail;
@@ -195,5 +195,19 @@ fn depth_is_limited(rt: HostRuntime) -> Result<(), Fail> {
     assert!(rt; fails(alloc, &deepest, ElementKind::Unclosed, 1));
     let too_deep = nested(alloc, 65)?;
     assert!(rt; fails(alloc, &too_deep, ElementKind::TooDeep, 1));
+    Ok(())
+}
+
+#[test]
+fn names_are_found(rt: HostRuntime) -> Result<(), Fail> {
+    let alloc = rt.alloc();
+    let mut names = Names::new(alloc);
+    assert!(rt; !names.has(b"q".as_slice()));
+    names.push_text(alloc, "q")?;
+    assert!(rt; !names.has(b"p".as_slice()));
+    names.push_text(alloc, "p")?;
+    assert!(rt; names.has(b"q".as_slice()));
+    assert!(rt; names.has(b"p".as_slice()));
+    assert!(rt; !names.has(b"pq".as_slice()));
     Ok(())
 }
