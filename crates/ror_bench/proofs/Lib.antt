@@ -12,6 +12,7 @@ pub mod ReplayLemmas
 pub mod SameLemmas
 pub mod MakingLemmas
 pub mod RoomLemmas
+pub mod WideLemmas
 pub mod PrintableLemmas
 pub mod RepairLemmas
 pub mod ApartLemmas

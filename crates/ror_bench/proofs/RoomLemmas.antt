@@ -16,6 +16,7 @@ use Rattle.ror_bench.specs.declared.stop.LineStop.{LineStop}
 use Rattle.ror_bench.specs.declared.stop.LineStop.TheVariants as stops
 use Rattle.ror_bench.specs.Bench.{Workbench, spare_at}
 use Rattle.ror_bench.specs.Blocks.{NeedsNoSearch, most_room, LeavesRoom}
+use Rattle.ror_bench.specs.Rooms.{revisions_of, HasRoomBelow}
 use Rattle.ror_bench.specs.Steps.{stop_of_history}
 use Rattle.ror_bench.proofs.DeskLemmas.{bench_with}
 use Rattle.ror_bench.proofs.ReportProofs.{number_cases}
@@ -117,3 +118,18 @@ leaves_room t p q views line old new b within is whole room =
       here = omega (arith, before, after, room);
       elsewhere = λ desk ne. room_elsewhere t p q views line.desk old new b within is whole desk ne;
     }
+
+-- ---- room that is made at desks, one after another
+
+pub room_begins : (lines : List Line) (bench : Workbench) → HasRoomBelow 0 lines bench
+room_begins lines bench desk within = absurd (omega arith)
+
+-- one desk more has room, and those before it keep theirs
+pub room_more : (lines : List Line) (desks : ℕ) (bench moved : Workbench) (wanted : ℕ) → wanted ≡ revisions_of lines desks → wanted ≤ spare_at moved desks → ((other : ℕ) → spare_at bench other ≤ spare_at moved other) → HasRoomBelow desks lines bench → HasRoomBelow (desks + 1) lines moved
+room_more lines desks bench moved wanted is here kept room desk within = elim (number_cases desk desks) [
+  | inl own ↦ subst (λ (n : ℕ). revisions_of lines n ≤ spare_at moved n) (sym own) (omega (arith, is, here))
+  | inr other ↦
+      let before = room desk (let ne = other in grind arith) in
+      let stays = kept desk in
+      omega (arith, before, stays)
+]

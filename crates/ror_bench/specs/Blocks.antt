@@ -1,7 +1,7 @@
 -- Which block is one of a line, over what its desk holds, and what the desk holds then.
-use Rattle.std.specs.Prelude.{◌≡◌, ◌≢◌, ℕ, ◌+◌, ◌-◌, ◌≤◌, true, false, List, [], ◌∷◌, length, take, count_by, Option, Some, None, Result, Ok, slice_set}
+use Rattle.std.specs.Prelude.{Bool, ◌≡◌, ◌≢◌, ℕ, ◌+◌, ◌-◌, ◌≤◌, true, false, List, [], ◌∷◌, length, take, count_by, Option, Some, None, Result, Ok, slice_set}
 use Rattle.std.specs.Bool.{beq}
-use Rattle.std.specs.List.{AllByRecursion, AllZip}
+use Rattle.std.specs.List.{AllByRecursion, AllZip, list_any}
 use Rattle.std.specs.Result.{result_ok}
 use Rattle.ror_statement.specs.declared.statement.Statement.{Statement}
 use Rattle.ror_statement.specs.declared.statement.Numbered.{Numbered}
@@ -150,6 +150,14 @@ answers_passed xs = record {
 abbrev pub passed_of : Body → Passed
 passed_of (RepairWide number note) = record { answers = 0; wide = 1 }
 passed_of body = answers_passed (answers_of body)
+
+-- an answer of the body is too wide, or its repair
+abbrev pub is_wide_body : Body → Bool
+is_wide_body (RepairWide number note) = true
+is_wide_body body = list_any (λ x. is_wide x.verdict) (answers_of body)
+
+abbrev pub has_wide : Block → Bool
+has_wide block = is_wide_body block.body
 
 -- no answer of the body is too wide, and neither is its repair
 abbrev pub HasNothingWide : Body → Type 0

@@ -9,4 +9,5 @@ pub mod Lines
 pub mod Names
 pub mod Replays
 pub mod Reports
+pub mod Rooms
 pub mod Steps

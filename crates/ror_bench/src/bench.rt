@@ -10,6 +10,7 @@ ghost use Rattle.ror_bench.specs.Allowed.{given_at};
 ghost use Rattle.ror_bench.specs.Bench.{Workbench, revisions_at, spare_at, bench_of, HoldTheSame, IsLawfulBench};
 ghost use Rattle.ror_bench.specs.Blocks.{IsBlockOf, HasText, IsProvedBlock, passed_of, IsTrueBlock, with_block, NeedsNoSearch, LeavesRoom};
 ghost use Rattle.ror_bench.specs.Faults.{FailsBlock, IsEarlierBlockFault};
+ghost use Rattle.ror_bench.specs.Rooms.{revisions_of, HasRoomBelow};
 ghost use Rattle.ror_bench.specs.Steps as steps;
 ghost use Rattle.ror_bench.specs.declared.bench.BlockFault.TheVariants.{Memory};
 
@@ -18,7 +19,7 @@ use ror_check::{AnswersFault, CheckFault, RepairCheckFault};
 use ror_history::History;
 use ror_pivot::Bits;
 use ror_report::Block;
-use ror_session::Line;
+use ror_session::{Command, Line};
 use ror_statement::{MOST_ROWS, MOST_STATEMENTS, Statement};
 use ror_table::Table;
 use ror_value::Input;
@@ -169,6 +170,23 @@ impl Bench {
         history.reserve(revisions)
     }
 
+    /// Makes room at each of so many desks for its lines that may revise it. All else stays as it is.
+    ///
+    /// # Errors
+    ///
+    /// Only want of memory.
+    pub fn make_room(&mut self, desks: u32, lines: &[Line]) -> Result<(), AllocError>
+        requires { desks ≤ length self.old.state }
+        ensures kept { HoldTheSame self.new self.old }
+        ensures room { OnOk result (HasRoomBelow desks lines.now self.new) }
+        ensures pivots { self.new.pivots ≡ self.old.pivots }
+    {
+        for desk in 0..desks {
+            self.reserve(desk, revisions_of(lines, desk))?;
+        }
+        Ok(())
+    }
+
     /// Does the line at its desk, questions and repairs being decided at this width, and gives its block: what was made, the
     /// answers, what a repair drops, or the first refusal. A repair is one revision, also where it drops nothing; one that is too
     /// wide changes nothing. Another desk never changes, and this one by its own statements alone. The block has a text, which
@@ -257,4 +275,14 @@ fn histories(alloc: Global, opening: &[Statement], count: u32) -> Result<Vec<His
         desks.push(History::new(alloc, opening)?)?;
     }
     Ok(desks)
+}
+
+/// How many of the lines may revise a desk: all there but those that ask.
+fn revisions_of(lines: &[Line], desk: u32) -> usize
+    ensures { result ≡ revisions_of lines.now desk }
+{
+    lines
+        .iter()
+        .filter(|line| line.desk == desk && !matches!(line.command, Command::Ask(_)))
+        .count()
 }

@@ -1,15 +1,10 @@
 -- A report that is written block by block: what is written when one more is, and where it stops.
 use Rattle.std.proofs.lemmas.List.{take_all, take-append-drop, take_more}
-use Rattle.std.proofs.Common.{append-nil, ◌≡◌, ℕ, ◌+◌, ◌<◌, ◌≤◌, Bool, true, false, ◌||◌, List, [], ◌∷◌, ◌++◌, length, take, drop, get_or, Option, Ok, Err, refl, sym, ap, ◌∙◌, subst, inl, inr, arith}
-use Rattle.std.specs.Prelude.{nat_lt, cond}
-use Rattle.std.specs.Bool.{beq}
-use Rattle.std.specs.List.{flat_map, list_any, sum_by, count_by}
+use Rattle.std.proofs.Common.{append-nil, ◌≡◌, ℕ, ◌+◌, ◌<◌, ◌≤◌, Bool, false, ◌||◌, List, [], ◌∷◌, ◌++◌, length, take, drop, get_or, Option, Ok, Err, refl, sym, ap, ◌∙◌, subst, inl, inr, arith}
+use Rattle.std.specs.List.{flat_map, list_any}
 use Rattle.std.proofs.lemmas.List.Folds.{list_any-append}
-use Rattle.ror_proof.specs.declared.answer.Answer.{Answer}
-use Rattle.ror_check.specs.Proof.{is_wide}
 use Rattle.ror_session.specs.declared.session.Line.{Line}
 use Rattle.ror_report.specs.declared.block.Block.{Block}
-use Rattle.ror_report.specs.declared.block.Body.{Body}
 use Rattle.ror_report.specs.Text.{block_text, header_text, end_text, IsPrintableBlock}
 use Rattle.ror_table.specs.Table.{DecisionTable}
 use Rattle.ror_io.specs.Counts.{Rose}
@@ -17,11 +12,10 @@ use Rattle.ror_io.specs.Writing.{Grew, GrewShort}
 use Rattle.ror_io.proofs.Writes.{Grew-none, Grew-append, GrewShort-more, GrewShort-after}
 use Rattle.ror_bench.specs.Allowed.{given_at}
 use Rattle.ror_bench.specs.Bench.{Workbench, revisions_at, HoldTheSame, IsLawfulBench}
-use Rattle.ror_bench.specs.Blocks.{passed_of, IsBlockOf, with_block}
+use Rattle.ror_bench.specs.Blocks.{has_wide, IsBlockOf, with_block}
 use Rattle.ror_bench.specs.Reports.{accepted_of}
 use Rattle.ror_bench.proofs.MakingLemmas.{IsMade, made_nothing, made_more, text_more}
 use Rattle.ror_bench.specs.Replays.{IsBegunReport, some_lines, all_lines}
-use Rattle.ror_bench.proofs.ReportProofs.{sums}
 use Rattle.ror_bench.proofs.SameLemmas.{replayed_same, begun_same, accepted_same}
 use Rattle.ror_frame.proofs.Desks.{replayed, reported}
 use Rattle.ror_frame.specs.declared.stop.Stop.{Stop}
@@ -30,30 +24,7 @@ use Rattle.ror_frame.specs.States.{SinkState, sink_state}
 use Rattle.ror_frame.specs.Stops.{Outcome}
 use Rattle.ror_frame.specs.Inputs.{IsReportOf}
 use Rattle.ror_frame.specs.Courses.{WritesDue}
-use Rattle.ror_work.specs.Replaying.{is_wide_body, has_wide, AreFirstBlocks, report_output, WritesText, MakesBlocks}
-
--- ---- whether anything is too wide
-
-some_of_either : (m n : ℕ) → nat_lt 0 (m + n) ≡ (nat_lt 0 m || nat_lt 0 n)
-some_of_either m n = grind arith
-
-one_wide : (x : Answer) → is_wide x.verdict ≡ nat_lt 0 (cond (beq (is_wide x.verdict) true) 1 0)
-one_wide x = grind arith
-
-wide_answers : (xs : List Answer) → list_any (λ x. is_wide x.verdict) xs ≡ nat_lt 0 (count_by (λ x. beq (is_wide x.verdict) true) xs)
-wide_answers [] = refl
-wide_answers (x ∷ xs) =
-    let f : Answer → ℕ = λ x. cond (beq (is_wide x.verdict) true) 1 0 in
-    ap (λ b. b || list_any (λ x. is_wide x.verdict) xs) (one_wide x) ∙ ap (λ b. nat_lt 0 (f x) || b) (wide_answers xs) ∙ sym (some_of_either (f x) (sum_by f xs)) ∙ ap (nat_lt 0) (sym (sums f x xs))
-
-wide_body : (body : Body) → is_wide_body body ≡ nat_lt 0 (passed_of body).wide
-wide_body body = grind (arith, wide_answers)
-
-pub wide_blocks : (bs : List Block) → list_any has_wide bs ≡ nat_lt 0 (accepted_of bs).wide
-wide_blocks [] = refl
-wide_blocks (b ∷ bs) =
-    let f : Block → ℕ = λ b. (passed_of b.body).wide in
-    ap (λ x. x || list_any has_wide bs) (wide_body b.body) ∙ ap (λ x. nat_lt 0 (f b) || x) (wide_blocks bs) ∙ sym (some_of_either (f b) (sum_by f bs)) ∙ ap (nat_lt 0) (sym (sums f b bs))
+use Rattle.ror_work.specs.Replaying.{AreFirstBlocks, report_output, WritesText, MakesBlocks}
 
 -- ---- the blocks that are written
 

@@ -1,18 +1,13 @@
 -- What a replay does: it writes the report of a session over a table.
-use Rattle.std.specs.Prelude.{◌≡◌, ℕ, ◌<◌, ◌≤◌, ◌==◌, Bool, true, false, ◌&&◌, List, ◌++◌, Option, None, Result, Ok, Err, nat_lt}
-use Rattle.std.specs.List.{count_by, flat_map, list_any}
+use Rattle.std.specs.Prelude.{◌≡◌, ℕ, ◌≤◌, Bool, true, List, ◌++◌, Option, None, Result, Ok, Err, nat_lt}
+use Rattle.std.specs.List.{flat_map}
 use Rattle.ror_io.specs.Counts.{Rose}
 use Rattle.ror_io.specs.Writing.{Grew, GrewShort}
 use Rattle.ror_session.specs.declared.session.Line.{Line}
-use Rattle.ror_session.specs.declared.session.Command.{Command}
-use Rattle.ror_session.specs.declared.session.Command.TheVariants.{Ask}
-use Rattle.ror_check.specs.Proof.{is_wide}
 use Rattle.ror_report.specs.declared.block.Block.{Block}
-use Rattle.ror_report.specs.declared.block.Body.{Body}
-use Rattle.ror_report.specs.declared.block.Body.TheVariants.{RepairWide}
-use Rattle.ror_report.specs.Text.{answers_of, block_text}
+use Rattle.ror_report.specs.Text.{block_text}
 use Rattle.ror_bench.specs.declared.report.Accepted.{Accepted}
-use Rattle.ror_bench.specs.Bench.{Workbench, spare_at}
+use Rattle.ror_bench.specs.Bench.{Workbench}
 use Rattle.ror_bench.specs.Replays.{AreBlocksAt, IsBegunReport}
 use Rattle.ror_bench.specs.Reports.{accepted_of}
 use Rattle.ror_pivot.specs.declared.note.Bits.{Bits}
@@ -40,14 +35,6 @@ abbrev pub replay_chore : InputNames → Bits → Chore
 replay_chore names bits = writing_chore names (λ i s. report_output (most_of bits) (bench_for i s) s.lines)
 
 -- ---- the blocks of lines, one after another
-
--- an answer of the body is too wide, or its repair
-abbrev pub is_wide_body : Body → Bool
-is_wide_body (RepairWide number note) = true
-is_wide_body body = list_any (λ x. is_wide x.verdict) (answers_of body)
-
-abbrev pub has_wide : Block → Bool
-has_wide block = is_wide_body block.body
 
 -- the text is that of the blocks of the first lines
 pub record AreFirstBlocks (most : ℕ) (bench : Workbench) (lines : List Line) (text : List ℕ) : Type 0 where
@@ -77,19 +64,3 @@ MakesBlocks most bench lines old new (Err stops.WriteFault) = (old.faults ≤ ne
 MakesBlocks most bench lines old new (Err stops.Memory) = (new.faults ≡ old.faults)
     × (text : List ℕ) × AreFirstBlocks most bench lines text × Grew old.written new.written text
 MakesBlocks most bench lines old new (Err stop) = ⊥
-
--- ---- the room that is made first
-
--- the line may revise its desk
-abbrev pub may_revise : Command → Bool
-may_revise (Ask asked) = false
-may_revise _ = true
-
--- how many of the lines may revise a desk
-abbrev pub revisions_of : List Line → ℕ → ℕ
-revisions_of lines desk = count_by (λ line. (line.desk == desk) && may_revise line.command) lines
-
--- each desk before this one has room for all of its lines that may revise it
-abbrev pub HasRoomBelow : ℕ → List Line → Workbench → Type 0
-HasRoomBelow desks lines bench = (desk : ℕ) → desk < desks
-    → revisions_of lines desk ≤ spare_at bench desk

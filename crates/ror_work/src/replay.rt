@@ -6,8 +6,8 @@ ghost use Rattle.ror_check.specs.Proof.{is_wide};
 ghost use Rattle.ror_session.specs.declared.limits.TheConstants.{MOST_LINES};
 ghost use Rattle.ror_session.specs.Sound.{IsSound};
 ghost use Rattle.ror_value.specs.Over.{IsLawfulIn};
-ghost use Rattle.ror_bench.specs.Bench.{HoldTheSame, IsLawfulBench, LeavesNumbers};
-ghost use Rattle.ror_bench.specs.Blocks.{HasText};
+ghost use Rattle.ror_bench.specs.Bench.{IsLawfulBench, LeavesNumbers};
+ghost use Rattle.ror_bench.specs.Blocks.{HasText, has_wide};
 ghost use Rattle.ror_bench.specs.Reports.{NamesADesk};
 ghost use Rattle.ror_report.specs.Text.{block_text};
 ghost use Rattle.ror_words.specs.Named.{inputs_of};
@@ -15,7 +15,7 @@ ghost use Rattle.ror_frame.specs.States.{shelf_state, sink_state};
 ghost use Rattle.ror_frame.specs.Courses.{WritesDue, IsWork};
 ghost use Rattle.ror_frame.specs.Inputs.{bench_for};
 ghost use Rattle.ror_pivot.specs.Answers.{most_of};
-ghost use Rattle.ror_work.specs.Replaying.{report_output, replay_chore, WritesText, MakesBlocks, has_wide, revisions_of, HasRoomBelow};
+ghost use Rattle.ror_work.specs.Replaying.{report_output, replay_chore, WritesText, MakesBlocks};
 
 use ror_bench::Bench;
 use ror_frame::{Stop, fetch_session, fetch_table};
@@ -23,11 +23,11 @@ use ror_io::{Shelf, Sink, write_all};
 use ror_pivot::Bits;
 use ror_proof::{Answer, Verdict};
 use ror_report::{Block, Body, header, print_block, print_end};
-use ror_session::{Command, Line, Session};
+use ror_session::{Line, Session};
 use ror_table::Table;
 use ror_words::FileNames;
 use ror_xmcda::Input;
-use std::alloc::{AllocError, Global};
+use std::alloc::Global;
 
 /// Fetches table and session, each once those before it were read, and writes the report of the session at a width. It says
 /// whether anything is too wide.
@@ -73,30 +73,8 @@ fn write_report<O: Sink>(
     let desks = session.desks.len() as u32;
     let lines = session.lines.as_slice();
     let mut bench = Bench::new(alloc, input, desks)?;
-    make_room(&mut bench, desks, lines)?;
+    bench.make_room(desks, lines)?;
     write_lines(alloc, &mut bench, lines, bits, out)
-}
-
-/// Makes room at each of so many desks for its lines that may revise it.
-fn make_room(bench: &mut Bench, desks: u32, lines: &[Line]) -> Result<(), AllocError>
-    requires { desks ≤ length bench.old.state }
-    ensures kept { HoldTheSame bench.new bench.old }
-    ensures room { OnOk result (HasRoomBelow desks lines.now bench.new) }
-{
-    for desk in 0..desks {
-        bench.reserve(desk, revisions_of(lines, desk))?;
-    }
-    Ok(())
-}
-
-/// How many of the lines may revise a desk: all there but those that ask.
-fn revisions_of(lines: &[Line], desk: u32) -> usize
-    ensures { result ≡ revisions_of lines.now desk }
-{
-    lines
-        .iter()
-        .filter(|line| line.desk == desk && !matches!(line.command, Command::Ask(_)))
-        .count()
 }
 
 /// Writes the report of these lines over a bench, and says whether anything is too wide.

@@ -1,4 +1,4 @@
-use Rattle.std.proofs.Common.{rules, arith, ◌≡◌, ◌≤◌, length, sym, ap, subst}
+use Rattle.std.proofs.Common.{rules, arith, ◌≤◌, length, sym, ap, subst}
 use Rattle.std.specs.List.{AllByRecursion}
 use Rattle.std.proofs.lemmas.Result.{err_from_is_err_and}
 use Rattle.ror_session.specs.declared.limits.TheConstants.{MOST_LINES}

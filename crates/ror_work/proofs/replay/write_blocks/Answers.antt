@@ -11,8 +11,10 @@ use Rattle.ror_bench.proofs.ReportProofs.{desk_at, after_desks, number_left, one
 use Rattle.ror_bench.proofs.MakingLemmas.{numbers_then}
 use Rattle.ror_frame.specs.States.{sink_state}
 use Rattle.ror_pivot.specs.Answers.{most_of}
-use Rattle.ror_work.specs.Replaying.{has_wide, WritesText}
-use Rattle.ror_work.proofs.Making.{none_written, one_written, first_blocks, block_stopped, wide_blocks}
+use Rattle.ror_bench.specs.Blocks.{has_wide}
+use Rattle.ror_bench.proofs.WideLemmas.{wide_blocks}
+use Rattle.ror_work.specs.Replaying.{WritesText}
+use Rattle.ror_work.proofs.Making.{none_written, one_written, first_blocks, block_stopped}
 use Rattle.ror_work.proofs.replay.write_blocks.Goals.{then-wide, else-wide}
 use Rattle.ror_work.proofs.replay.write_blocks.Goals as goal
 

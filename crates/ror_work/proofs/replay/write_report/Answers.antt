@@ -32,8 +32,8 @@ pub write_lines-requires-clause-lawful : goal.write_lines-requires-clause-lawful
 write_lines-requires-clause-lawful g c =
     let start = bench_for c.args.input c.args.session.now in
     let begun : HoldTheSame c.in_ok-bench.bench start = search rules in
-    let same = same_through c.make_room.new.bench c.in_ok-bench.bench start c.in_ok-make_room.ensures.kept begun in
-    lawful_same start c.make_room.new.bench (same_back c.make_room.new.bench start same) (lawful_desks c.args.input (length c.args.session.now.desks) c.requires.lawful)
+    let same = same_through c.make_room.new.self c.in_ok-bench.bench start c.in_ok-make_room.ensures.kept begun in
+    lawful_same start c.make_room.new.self (same_back c.make_room.new.self start same) (lawful_desks c.args.input (length c.args.session.now.desks) c.requires.lawful)
 
 pub write_lines-requires-clause-few : goal.write_lines-requires-clause-few
 write_lines-requires-clause-few g c =
@@ -46,7 +46,7 @@ write_lines-requires-clause-numbers g c =
     let i = c.args.input in
     let s = c.args.session.now in
     let begun : HoldTheSame c.in_ok-bench.bench (bench_for i s) = search rules in
-    let held = same_through c.make_room.new.bench c.in_ok-bench.bench (bench_for i s) c.in_ok-make_room.ensures.kept begun in
+    let held = same_through c.make_room.new.self c.in_ok-bench.bench (bench_for i s) c.in_ok-make_room.ensures.kept begun in
     let same = ap length c.as_slice-lines.ensures in
     let sound = c.requires.sound.few_lines in
     let few : length c.as_slice-lines.result.now ≤ MOST_LINES = omega (arith, same, sound) in
@@ -57,8 +57,8 @@ write_lines-requires-clause-desks g c =
     let i = c.args.input in
     let s = c.args.session.now in
     let begun : HoldTheSame c.in_ok-bench.bench (bench_for i s) = search rules in
-    let held = same_through c.make_room.new.bench c.in_ok-bench.bench (bench_for i s) c.in_ok-make_room.ensures.kept begun in
-    let long : length c.make_room.new.bench.state ≡ length s.desks = ap length held.1 ∙ length-replicate (length s.desks) _ in
+    let held = same_through c.make_room.new.self c.in_ok-bench.bench (bench_for i s) c.in_ok-make_room.ensures.kept begun in
+    let long : length c.make_room.new.self.state ≡ length s.desks = ap length held.1 ∙ length-replicate (length s.desks) _ in
     subst (λ (n : ℕ). AllByRecursion (NamesADesk n) c.as_slice-lines.result.now) (sym long)
     (subst (λ (lines : List Line). AllByRecursion (NamesADesk (length s.desks)) lines) (sym c.as_slice-lines.ensures) c.requires.sound.desks)
 
@@ -66,5 +66,5 @@ pub returns : goal.returns
 returns g c =
     let start = bench_for c.args.input c.args.session.now in
     let begun : HoldTheSame c.in_ok-bench.bench start = search rules in
-    let same = same_through c.make_room.new.bench c.in_ok-bench.bench start c.in_ok-make_room.ensures.kept begun in
-    rw (← c.as_slice-lines.ensures) (report_same (most_of c.args.bits) c.make_room.new.bench start c.as_slice-lines.result.now _ _ _ same c.write_lines.ensures)
+    let same = same_through c.make_room.new.self c.in_ok-bench.bench start c.in_ok-make_room.ensures.kept begun in
+    rw (← c.as_slice-lines.ensures) (report_same (most_of c.args.bits) c.make_room.new.self start c.as_slice-lines.result.now _ _ _ same c.write_lines.ensures)
