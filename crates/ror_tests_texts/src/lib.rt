@@ -1,19 +1,11 @@
-//! Tests of the crates that read and write texts, by their public calls: ror_text, ror_io, ror_table, ror_elements,
-//! ror_session, ror_history, ror_proof, ror_report and ror_xmcda.
+//! Tests of the crates that read what a user writes, by their public calls: ror_text, ror_io, ror_table, ror_elements,
+//! ror_session and ror_xmcda.
 #![tactic(auto)]
 
 #[cfg(test)]
 mod elements;
 #[cfg(test)]
-mod history;
-#[cfg(test)]
 mod io;
-#[cfg(test)]
-mod made;
-#[cfg(test)]
-mod proof;
-#[cfg(test)]
-mod report;
 #[cfg(test)]
 mod session;
 #[cfg(test)]

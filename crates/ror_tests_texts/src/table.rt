@@ -2,7 +2,7 @@
 
 ghost use Rattle.ror_table.specs.Amounts.{IsAmount};
 
-use crate::made::three_alternatives;
+use ror_made::three_alternatives;
 use ror_table::{
     Amount, Direction, Draft, DraftFault, Table, TableError, TableFault, TableKind, read_plain,
 };

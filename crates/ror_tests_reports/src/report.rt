@@ -1,6 +1,6 @@
 //! Texts of blocks and of whole reports, piece by piece.
 
-use crate::made::three_alternatives;
+use ror_made::three_alternatives;
 use ror_proof::{Answer, Certificate, Proof, ProofFault, Verdict};
 use ror_report::{
     Block, Body, begins_end, header, print_block, print_end, read_block, read_end, read_header,

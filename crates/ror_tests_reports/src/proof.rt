@@ -3,7 +3,7 @@
 ghost use Rattle.std.specs.Prelude.{IfOk};
 ghost use Rattle.ror_proof.specs.Text.{IsNarrowVerdict};
 
-use crate::made::three_alternatives;
+use ror_made::three_alternatives;
 use ror_proof::{
     Answer, PlaceText, ProofFault, Verdict, print_answer, print_kept, read_answer, read_kept,
     read_wide, write_wide,
