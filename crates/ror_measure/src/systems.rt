@@ -137,8 +137,8 @@ pub fn decide(alloc: Global, s: &System, bits: Bits) -> Option<Found>
     ensures { IfSome result (IsFound (most_of bits) s.now) }
 {
     match solve_bits(alloc, s, bits) {
-        Ok(Outcome::Feasible(x)) => { Some(Found::Solution(positive_total(x.steps.as_slice())?)) }
-        Ok(Outcome::Infeasible(y)) => Some(Found::Multipliers(positive_total(y.strict.as_slice()))),
+        Ok(Outcome::Feasible(x)) => { Some(Found::Solution(positive_total(&x.steps)?)) }
+        Ok(Outcome::Infeasible(y)) => Some(Found::Multipliers(positive_total(&y.strict))),
         Err(SolveFault::Wide(note)) => Some(Found::TooWide(note.path.len())),
         Err(SolveFault::Memory) => None,
     }

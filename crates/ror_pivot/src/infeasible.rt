@@ -16,8 +16,7 @@ use crate::note::Place;
 use crate::shape::Shape;
 use crate::sums::plus_column;
 use ror_fraction::FracRow;
-use ror_system::{Multipliers, System};
-use ror_text::Items;
+use ror_system::{Multipliers, Numbers, System};
 use ror_word::Word;
 use std::alloc::{AllocError, Global};
 
@@ -55,8 +54,8 @@ pub(crate) fn infeasible_end<W: Word>(
         column_sum(s, weak.as_slice(), strict.as_slice(), j).ok_or(fault)?;
     }
     Ok(Multipliers {
-        weak: Items::from(numbers_of(alloc, weak.as_slice())?),
-        strict: Items::from(numbers_of(alloc, strict.as_slice())?),
+        weak: numbers_of(alloc, weak.as_slice())?,
+        strict: numbers_of(alloc, strict.as_slice())?,
     })
 }
 
@@ -97,11 +96,11 @@ fn column_sum<W: Word>(s: &System, weak: &[W], strict: &[W], j: usize) -> Option
 }
 
 /// The values of these words.
-fn numbers_of<W: Word>(alloc: Global, words: &[W]) -> Result<Vec<i128>, AllocError>
+fn numbers_of<W: Word>(alloc: Global, words: &[W]) -> Result<Numbers, AllocError>
     requires { AllByRecursion (λ word. IsWithin W.most (W.value word)) words.now }
-    ensures { IfOk result (λ numbers. numbers.items ≡ map W.value words.now) }
+    ensures { IfOk result (λ numbers. numbers ≡ map W.value words.now) }
 {
-    let mut numbers = Vec::with_capacity(alloc, words.len())?;
+    let mut numbers = Numbers::with_capacity(alloc, words.len())?;
     for word in words {
         numbers.push(word.to_i128())?;
     }

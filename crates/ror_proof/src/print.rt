@@ -2,6 +2,7 @@
 #![tactic(auto, using(crate::proofs::PrintLemmas::in_front))]
 
 ghost use Rattle.std.specs.Prelude.{◌≡◌, ◌<◌, ◌^◌, [], ◌∷◌, ◌++◌, length, map, codes, IfOk, OnOk};
+ghost use Rattle.std.specs.Fmt.{signed_decimal};
 ghost use Rattle.std.specs.List.{flat_map};
 ghost use Rattle.ror_text.specs.SpacedLines.{line_text};
 ghost use Rattle.ror_statement.specs.Names.{PairWithin, ScopeWithin, NamesWithin, IsPropertyWithin, IsValidQuestion};
@@ -15,7 +16,7 @@ use crate::kept::{Dropped, Kept};
 use crate::names::{Name, PlaceName, QuestionName, VerdictName};
 use itoa::{Buffer, Integer};
 use ror_statement::{Form, Pair, Property, Question, Scope};
-use ror_system::Multipliers;
+use ror_system::{Multipliers, Numbers};
 use ror_table::Table;
 use std::alloc::{AllocError, Global};
 
@@ -266,7 +267,7 @@ fn write_certificate(text: &mut Vec<u8>, certificate: &Certificate) -> Result<()
     match certificate {
         Certificate::Solution(solution) => {
             write_word(text, b"solution")?;
-            write_numbers(text, solution.steps.as_slice())
+            write_numbers(text, &solution.steps)
         }
         Certificate::Multipliers(multipliers) => write_multipliers(text, multipliers),
     }
@@ -279,9 +280,9 @@ fn write_multipliers(text: &mut Vec<u8>, multipliers: &Multipliers) -> Result<()
     ensures front { StandsInFront text.old.items text.new.items }
 {
     write_word(text, b"multipliers")?;
-    write_numbers(text, multipliers.weak.as_slice())?;
+    write_numbers(text, &multipliers.weak)?;
     write_word(text, b"|")?;
-    write_numbers(text, multipliers.strict.as_slice())
+    write_numbers(text, &multipliers.strict)
 }
 
 /// Writes the line of a number too wide on the way to the certificate of this system behind what is
@@ -333,12 +334,13 @@ fn write_pivot(text: &mut Vec<u8>, pivot: Pivot) -> Result<(), AllocError>
     write_digits(text, pivot.row)
 }
 
-fn write_numbers<N: Integer + Drop>(text: &mut Vec<u8>, numbers: &[N]) -> Result<(), AllocError>
-    ensures ok { OnOk result (text.new.items ≡ text.old.items ++ spaced (map N.text numbers.now)) }
+fn write_numbers(text: &mut Vec<u8>, numbers: &Numbers) -> Result<(), AllocError>
+    ensures ok { OnOk result (text.new.items
+        ≡ text.old.items ++ spaced (map signed_decimal numbers.now)) }
     ensures front { StandsInFront text.old.items text.new.items }
 {
-    'numbers: for number in numbers {
-        write_number(text, *number)?;
+    for k in 0..numbers.len() {
+        write_number(text, numbers.entry(k))?;
     }
     Ok(())
 }

@@ -409,7 +409,7 @@ fn solution_at(alloc: Global, place: usize, words: Words<'_>) -> Result<Certific
     ensures exact { Gives (λ x. x) proof_fault result (reading.solution_at place words.entry) }
     ensures placed { IfErr result (IsProofFaultWithin place) }
 {
-    let steps = Items::from(numbers_at(alloc, place, words)?);
+    let steps = numbers_at(alloc, place, words)?;
     Ok(Certificate::Solution(Solution { steps }))
 }
 
@@ -420,8 +420,7 @@ fn multipliers_at(alloc: Global, place: usize, words: Words<'_>) -> Result<Multi
     ensures placed { IfErr result (IsProofFaultWithin place) }
 {
     let (weak, words) = numbers_before_bar(alloc, place, words)?;
-    let weak = Items::from(weak);
-    let strict = Items::from(numbers_at(alloc, place, words)?);
+    let strict = numbers_at(alloc, place, words)?;
     Ok(Multipliers { weak, strict })
 }
 

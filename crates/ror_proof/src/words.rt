@@ -9,6 +9,7 @@ ghost use Rattle.ror_proof.specs.Reading.{proof_fault, IsProofFaultWithin};
 use crate::answer::Pivot;
 use crate::names::{Name, named};
 use crate::read::ProofFault;
+use ror_system::Numbers;
 use ror_text::numbers::{read_number, read_small_number};
 use ror_text::reading::{need, refuse_if};
 use ror_text::spaced::Words;
@@ -96,12 +97,12 @@ pub(crate) fn numbers_at(
     alloc: Global,
     place: usize,
     words: Words<'_>,
-) -> Result<Vec<i128>, ProofFault>
-    ensures exact { Gives (λ numbers. numbers.items) proof_fault result
+) -> Result<Numbers, ProofFault>
+    ensures exact { Gives (λ numbers. numbers) proof_fault result
         (spec.numbers_at place words.entry) }
     ensures placed { IfErr result (IsProofFaultWithin place) }
 {
-    let mut numbers = Vec::new(alloc);
+    let mut numbers = Numbers::new(alloc);
     let mut left = words;
     'numbers: while let Some((word, rest)) = left.next() {
         let number = number_in(place, word)?;
@@ -116,12 +117,12 @@ pub(crate) fn numbers_before_bar<'a>(
     alloc: Global,
     place: usize,
     words: Words<'a>,
-) -> Result<(Vec<i128>, Words<'a>), ProofFault>
-    ensures exact { Gives (λ x. (x.0.items, x.1)) proof_fault result
+) -> Result<(Numbers, Words<'a>), ProofFault>
+    ensures exact { Gives (λ x. (x.0, x.1)) proof_fault result
         (spec.numbers_before_bar place words.entry) }
     ensures placed { IfErr result (IsProofFaultWithin place) }
 {
-    let mut numbers = Vec::new(alloc);
+    let mut numbers = Numbers::new(alloc);
     let mut left = words;
     'numbers: while let Some((word, rest)) = left.next() {
         if word == b"|".as_slice() {

@@ -17,7 +17,7 @@ use ror_proof::{Certificate, Dropped, Kept};
 use ror_relation::{Decision, decide_system};
 use ror_rows::system_of;
 use ror_statement::Numbered;
-use ror_system::{Multipliers, Solution, System, accept_solution};
+use ror_system::{Multipliers, Numbers, Solution, System, accept_solution};
 use ror_table::Table;
 use ror_text::Items;
 use std::alloc::{AllocError, Global};
@@ -113,13 +113,13 @@ fn base_of_nothing(alloc: Global, table: &Table) -> Result<Certificate, AllocErr
         let steps = all_ones(alloc, columns)?;
         return Ok(Certificate::Solution(Solution { steps }));
     }
-    let weak = Items::from(Vec::new(alloc));
+    let weak = Numbers::new(alloc);
     let strict = all_ones(alloc, 1)?;
     Ok(Certificate::Multipliers(Multipliers { weak, strict }))
 }
 
-fn all_ones(alloc: Global, count: usize) -> Result<Items<i128>, AllocError>
+fn all_ones(alloc: Global, count: usize) -> Result<Numbers, AllocError>
     ensures { IfOk result (λ xs. xs ≡ ones count) }
 {
-    Ok(Items::from(vec![in alloc; 1i128; count]?))
+    Numbers::of(alloc, vec![in alloc; 1i128; count]?.as_slice())
 }

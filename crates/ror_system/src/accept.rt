@@ -8,24 +8,24 @@ ghost use Rattle.ror_system.specs.Acceptance.{rows_of, IsAcceptedSolution, AreAc
 ghost use Rattle.ror_system.specs.Steps.{PassesBoth, IsFirstOfTwo};
 ghost use Rattle.ror_system.specs.Signs.{IsFirstNegative};
 
+use crate::numbers::Numbers;
 use crate::reject::Reject;
-use crate::steps::{first_negative, positive_total};
+use crate::steps::{first_negative_of, is_some_positive, positive_total};
 use crate::sum::{Sum, row_at_steps};
 use crate::system::System;
-use ror_text::Items;
 use std::alloc::{AllocError, Global};
 
 /// A whole number for each column.
 #[derive(Debug, Drop)]
 pub struct Solution {
-    pub steps: Items<i128>,
+    pub steps: Numbers,
 }
 
 /// A whole number for each row, weak rows first.
 #[derive(Debug, Drop)]
 pub struct Multipliers {
-    pub weak: Items<i128>,
-    pub strict: Items<i128>,
+    pub weak: Numbers,
+    pub strict: Numbers,
 }
 
 impl Solution {
@@ -34,7 +34,7 @@ impl Solution {
         ensures { IfOk result (λ copy. copy ≡ self.now) }
     {
         Ok(Solution {
-            steps: Items::from(Vec::from_slice(alloc, self.steps.as_slice())?),
+            steps: self.steps.copied(alloc)?,
         })
     }
 }
@@ -45,8 +45,8 @@ impl Multipliers {
         ensures { IfOk result (λ copy. copy ≡ self.now) }
     {
         Ok(Multipliers {
-            weak: Items::from(Vec::from_slice(alloc, self.weak.as_slice())?),
-            strict: Items::from(Vec::from_slice(alloc, self.strict.as_slice())?),
+            weak: self.weak.copied(alloc)?,
+            strict: self.strict.copied(alloc)?,
         })
     }
 }
@@ -62,7 +62,7 @@ pub fn accept_solution(s: &System, x: &Solution) -> Result<(), Reject>
     ensures rejected { IfErr result (IsFirst (FailsSolution s.now x.now.steps) IsEarlierTest) }
     ensures solvable { OnOk result (IsSolvable s.now) }
 {
-    check_steps(s, x.steps.as_slice())
+    check_steps(s, &x.steps)
 }
 
 /// Whether these multipliers show that the system is not solvable, with sums that stay within 2^127 - 1. It takes no
@@ -78,18 +78,18 @@ pub fn accept_multipliers(s: &System, m: &Multipliers) -> Result<(), Reject>
         (IsFirst (FailsMultipliers s.now m.now.weak m.now.strict) IsEarlierTest) }
     ensures not_solvable { OnOk result (IsSolvable s.now → ⊥) }
 {
-    check_weights(s, m.weak.as_slice(), m.strict.as_slice())
+    check_weights(s, &m.weak, &m.strict)
 }
 
 /// All tests of a solution.
-fn check_steps(s: &System, steps: &[i128]) -> Result<(), Reject>
+fn check_steps(s: &System, steps: &Numbers) -> Result<(), Reject>
     ensures { MatchResult result (λ _. IsAcceptedSolution s.now steps.now)
         (IsFirst (FailsSolution s.now steps.now) IsEarlierTest) }
 {
     if steps.len() != s.columns() {
         return Err(Reject::Length);
     }
-    if let Some(place) = first_negative(steps) {
+    if let Some(place) = first_negative_of(steps) {
         return Err(Reject::Negative(place));
     }
     if positive_total(steps).is_none() {
@@ -102,7 +102,7 @@ fn check_steps(s: &System, steps: &[i128]) -> Result<(), Reject>
 }
 
 /// All tests of multipliers.
-fn check_weights(s: &System, weak: &[i128], strict: &[i128]) -> Result<(), Reject>
+fn check_weights(s: &System, weak: &Numbers, strict: &Numbers) -> Result<(), Reject>
     ensures { MatchResult result (λ _. AreAcceptedMultipliers s.now weak.now strict.now)
         (IsFirst (FailsMultipliers s.now weak.now strict.now) IsEarlierTest) }
 {
@@ -122,27 +122,20 @@ fn check_weights(s: &System, weak: &[i128], strict: &[i128]) -> Result<(), Rejec
 }
 
 /// The place of the first number below 0 in two lists, one after the other, if there is one.
-fn first_negative_of_both(first: &[i128], second: &[i128]) -> Option<usize>
+fn first_negative_of_both(first: &Numbers, second: &Numbers) -> Option<usize>
     requires { length first.now + length second.now < 2 ^ 64 }
     ensures { MatchOption result (NoneNegative (first.now ++ second.now))
         (IsFirstNegative (first.now ++ second.now)) }
 {
-    if let Some(place) = first_negative(first) {
+    if let Some(place) = first_negative_of(first) {
         return Some(place);
     }
-    let place = first_negative(second)?;
+    let place = first_negative_of(second)?;
     Some(first.len() + place)
 }
 
-/// Whether some number is above 0.
-fn is_some_positive(numbers: &[i128]) -> bool
-    ensures { IsTrue result ↔ SomePositive numbers.now }
-{
-    numbers.iter().any(|number| *number > 0)
-}
-
 /// The two tests of the row at a place.
-fn check_row(s: &System, steps: &[i128], place: usize) -> Result<(), Reject>
+fn check_row(s: &System, steps: &Numbers, place: usize) -> Result<(), Reject>
     requires width { length steps.now ≡ s.now.columns }
     requires within { place < length (rows_of s.now) }
     ensures { MatchResult result
@@ -163,7 +156,7 @@ fn check_row(s: &System, steps: &[i128], place: usize) -> Result<(), Reject>
 }
 
 /// The two tests of a column.
-fn check_column(s: &System, weak: &[i128], strict: &[i128], j: usize) -> Result<(), Reject>
+fn check_column(s: &System, weak: &Numbers, strict: &Numbers, j: usize) -> Result<(), Reject>
     requires weak_lengths { length weak.now ≡ length s.now.weak }
     requires strict_lengths { length strict.now ≡ length s.now.strict }
     requires within { j < s.now.columns }
@@ -182,7 +175,7 @@ fn check_column(s: &System, weak: &[i128], strict: &[i128], j: usize) -> Result<
 }
 
 /// The weighted sum of a column, unless the absolute values of its terms sum past 2^127 - 1.
-fn column_sum(s: &System, weak: &[i128], strict: &[i128], j: usize) -> Option<i128>
+fn column_sum(s: &System, weak: &Numbers, strict: &Numbers, j: usize) -> Option<i128>
     requires weak_lengths { length weak.now ≡ length s.now.weak }
     requires strict_lengths { length strict.now ≡ length s.now.strict }
     requires within { j < s.now.columns }

@@ -5,7 +5,8 @@
 //! each strict row above 0, and the first strict row is all ones. `accept_solution` and
 //! `accept_multipliers` multiply a certificate out. What they accept is one, with sums below
 //! 2^127; what they refuse has a first test that fails, which they name (`Reject`). No system has
-//! both certificates (`laws::never_both`). `steps` has the tests of numbers that are to be steps.
+//! both certificates (`laws::never_both`). `steps` has the tests of numbers that are to be steps. `Numbers` keeps a
+//! certificate's numbers in 32 bits each, where they fit.
 //!
 //! Over two columns let the strict rows be (1, 1) and (1, -1):
 //!
@@ -22,6 +23,7 @@
 mod accept;
 pub mod laws;
 mod limits;
+mod numbers;
 mod reject;
 mod row;
 pub mod steps;
@@ -30,6 +32,7 @@ mod system;
 
 pub use accept::{Multipliers, Solution, accept_multipliers, accept_solution};
 pub use limits::{MOST_COLUMNS, MOST_SYSTEM_ROWS};
+pub use numbers::Numbers;
 pub use reject::Reject;
 pub use row::Row;
 pub use system::System;

@@ -5,6 +5,7 @@ ghost use Rattle.std.specs.List.{AllByRecursion};
 ghost use Rattle.ror_integers.specs.Vectors.{dot, absolute_dot, column};
 ghost use Rattle.ror_system.specs.System.{sum_limit};
 
+use crate::numbers::Numbers;
 use crate::row::Row;
 
 /// A sum of products, and the sum of their absolute values.
@@ -47,7 +48,7 @@ impl Sum {
     }
 
     /// The sum with a column of these rows, each entry times its row's multiplier.
-    pub(crate) fn plus_column(self, rows: &[Row], multipliers: &[i128], j: usize) -> Option<Sum>
+    pub(crate) fn plus_column(self, rows: &[Row], multipliers: &Numbers, j: usize) -> Option<Sum>
         requires lengths { length rows.now ≡ length multipliers.now }
         requires widths { AllByRecursion (λ row. j < length row) rows.now }
         ensures { MatchOption result (sum_limit
@@ -57,21 +58,21 @@ impl Sum {
     {
         let mut sum = self;
         for i in 0..rows.len() {
-            sum = sum.plus(multipliers[i], rows[i].entry(j))?;
+            sum = sum.plus(multipliers.entry(i), rows[i].entry(j))?;
         }
         Some(sum)
     }
 }
 
 /// What a row comes to at these steps, unless the absolute values of its terms sum past 2^127 - 1.
-pub(crate) fn row_at_steps(row: &Row, steps: &[i128]) -> Option<i128>
+pub(crate) fn row_at_steps(row: &Row, steps: &Numbers) -> Option<i128>
     requires { length row.now ≡ length steps.now }
     ensures { MatchOption result (sum_limit ≤ absolute_dot row.now steps.now)
         (λ sum. (sum ≡ dot row.now steps.now) × (absolute_dot row.now steps.now < sum_limit)) }
 {
     let mut sum = Sum::zero();
     for j in 0..row.len() {
-        sum = sum.plus(row.entry(j), steps[j])?;
+        sum = sum.plus(row.entry(j), steps.entry(j))?;
     }
     Some(sum.value)
 }

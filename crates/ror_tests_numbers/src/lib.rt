@@ -9,6 +9,8 @@ mod fraction;
 #[cfg(test)]
 mod made;
 #[cfg(test)]
+mod numbers;
+#[cfg(test)]
 mod pivot;
 #[cfg(test)]
 mod statement;

@@ -2,6 +2,7 @@
 
 use crate::made::{Rows, Seen, Unmade, seen_of, system};
 use ror_pivot::{Bits, Outcome, Place, SolveFault, solve, solve_bits, solve_counted};
+use ror_system::Numbers;
 use std::test::Fail;
 
 const RATIO: Rows = &[&[200, -199]];
@@ -24,7 +25,7 @@ fn finds_the_solution_in_more_bits(rt: HostRuntime) -> Result<(), Fail> {
     let s = system(rt.alloc(), 2, &[], RATIO).ok_or(Unmade)?;
     match solve::<i32>(rt.alloc(), &s) {
         Ok(Outcome::Feasible(x)) => {
-            assert_eq!(rt; x.steps.as_slice(), [200, 199].as_slice());
+            assert!(rt; x.steps.is_same(&Numbers::of(rt.alloc(), &[200, 199])?));
             Ok(())
         }
         _ => Err(Unmade)?,

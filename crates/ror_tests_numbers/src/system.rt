@@ -1,8 +1,9 @@
 //! Certificates of small systems, accepted or refused.
 
 use crate::made::{Unmade, system};
-use ror_system::{Multipliers, Reject, Row, Solution, System, accept_multipliers, accept_solution};
-use ror_text::Items;
+use ror_system::{
+    Multipliers, Numbers, Reject, Row, Solution, System, accept_multipliers, accept_solution,
+};
 use std::alloc::{AllocError, Global};
 use std::test::Fail;
 
@@ -13,7 +14,7 @@ const HALF: i128 = 1 << 126;
 /// What `accept_solution` says of these steps.
 fn verdict(alloc: Global, s: &System, steps: &[i128]) -> Result<Result<(), Reject>, AllocError> {
     let x = Solution {
-        steps: Items::from(Vec::from_slice(alloc, steps)?),
+        steps: Numbers::of(alloc, steps)?,
     };
     Ok(accept_solution(s, &x))
 }
@@ -26,8 +27,8 @@ fn refutation(
     strict: &[i128],
 ) -> Result<Result<(), Reject>, AllocError> {
     let m = Multipliers {
-        weak: Items::from(Vec::from_slice(alloc, weak)?),
-        strict: Items::from(Vec::from_slice(alloc, strict)?),
+        weak: Numbers::of(alloc, weak)?,
+        strict: Numbers::of(alloc, strict)?,
     };
     Ok(accept_multipliers(s, &m))
 }

@@ -6,7 +6,7 @@ use ror_report::{
     Block, Body, begins_end, header, print_block, print_end, read_block, read_end, read_header,
 };
 use ror_statement::Question;
-use ror_system::Solution;
+use ror_system::{Numbers, Solution};
 use ror_table::Table;
 use ror_text::Items;
 use std::alloc::{AllocError, Global};
@@ -63,7 +63,7 @@ fn a_revision_is_printed(rt: HostRuntime) -> Result<(), Fail> {
 /// The text of a block of line 7 whose one answer is that some function agrees with all statements.
 fn printed_answer(alloc: Global, table: &Table) -> Result<Vec<u8>, AllocError> {
     let base = Certificate::Solution(Solution {
-        steps: Items::from(Vec::new(alloc)),
+        steps: Numbers::new(alloc),
     });
     let parts = Items::from(Vec::new(alloc));
     let mut answers = Vec::new(alloc);
@@ -105,7 +105,9 @@ fn last_step(body: &Body, place: usize) -> Option<i128> {
     let Certificate::Solution(solution) = &proof.base else {
         return None;
     };
-    solution.steps.as_slice().last().copied()
+    let steps = &solution.steps;
+    let last = steps.len().checked_sub(1)?;
+    Some(steps.entry(last))
 }
 
 #[test]

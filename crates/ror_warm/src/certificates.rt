@@ -147,13 +147,15 @@ impl KeptMultipliers {
         multipliers: &Multipliers,
     ) -> Result<Option<KeptMultipliers>, AllocError> {
         let mut kept = KeptMultipliers::new(alloc, store.columns)?;
-        for (position, value) in multipliers.weak.as_slice().iter().enumerate() {
-            if *value != 0 && !kept.add(store, front, Position::Weak(position), *value)? {
+        for position in 0..multipliers.weak.len() {
+            let value = multipliers.weak.entry(position);
+            if value != 0 && !kept.add(store, front, Position::Weak(position), value)? {
                 return Ok(None);
             }
         }
-        for (position, value) in multipliers.strict.as_slice().iter().enumerate() {
-            if *value != 0 && !kept.add(store, front, Position::Strict(position), *value)? {
+        for position in 0..multipliers.strict.len() {
+            let value = multipliers.strict.entry(position);
+            if value != 0 && !kept.add(store, front, Position::Strict(position), value)? {
                 return Ok(None);
             }
         }

@@ -8,7 +8,7 @@ ghost use Rattle.ror_warm.specs.Engine.{IsFitting};
 ghost use Rattle.ror_pivot.specs.declared.note.Outcome.TheVariants.{Feasible, Infeasible};
 
 use ror_pivot::{Bits, Outcome};
-use ror_system::{Multipliers, Solution, System, accept_multipliers, accept_solution};
+use ror_system::{Multipliers, Numbers, Solution, System, accept_multipliers, accept_solution};
 
 /// Whether the outcome is accepted for the system, and no number of it passes the width.
 pub(crate) fn outcome_fits(s: &System, outcome: &Outcome, bits: Bits) -> bool
@@ -24,25 +24,25 @@ pub(crate) fn outcome_fits(s: &System, outcome: &Outcome, bits: Bits) -> bool
 fn solution_fits(s: &System, solution: &Solution, bits: Bits) -> bool
     ensures { IsTrue result → IsFitting (most_of bits) s.now (Feasible solution.now) }
 {
-    are_within(solution.steps.as_slice(), bits) && accept_solution(s, solution).is_ok()
+    are_within(&solution.steps, bits) && accept_solution(s, solution).is_ok()
 }
 
 /// Whether the multipliers are accepted for the system, and none passes the width.
 fn multipliers_fit(s: &System, multipliers: &Multipliers, bits: Bits) -> bool
     ensures { IsTrue result → IsFitting (most_of bits) s.now (Infeasible multipliers.now) }
 {
-    are_within(multipliers.weak.as_slice(), bits)
-        && are_within(multipliers.strict.as_slice(), bits)
+    are_within(&multipliers.weak, bits)
+        && are_within(&multipliers.strict, bits)
         && accept_multipliers(s, multipliers).is_ok()
 }
 
 /// Whether no number passes the width.
-fn are_within(numbers: &[i128], bits: Bits) -> bool
+fn are_within(numbers: &Numbers, bits: Bits) -> bool
     ensures { IsTrue result → AllByRecursion (IsWithin (most_of bits)) numbers.now }
 {
     let most = most(bits);
-    for number in numbers {
-        if number.unsigned_abs() > most {
+    for k in 0..numbers.len() {
+        if numbers.entry(k).unsigned_abs() > most {
             return false;
         }
     }

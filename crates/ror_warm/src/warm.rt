@@ -8,8 +8,7 @@ use crate::fault::TableauFault;
 use crate::store::{Front, Position, RowStore};
 use crate::tableau::{End, Multiplier, Tableau};
 use ror_pivot::Outcome;
-use ror_system::{Multipliers, Solution, System};
-use ror_text::Items;
+use ror_system::{Multipliers, Numbers, Solution, System};
 use std::alloc::{AllocError, Global};
 
 /// So many pivots are made in one call at most.
@@ -136,7 +135,7 @@ impl Warm {
         };
         match outcome {
             Outcome::Feasible(solution) => {
-                if let Some(sums) = sums_of(self.alloc, solution.steps.as_slice())? {
+                if let Some(sums) = sums_of(self.alloc, &solution.steps)? {
                     self.lists.keep_solution(store, sums)?;
                 }
                 Ok(())
@@ -247,24 +246,22 @@ fn outcome_of(alloc: Global, store: &RowStore, end: End) -> Result<Option<Outcom
 
 /// The solution whose steps have these sums before each place.
 fn solution_outcome(alloc: Global, sums: &[i64]) -> Result<Outcome, AllocError> {
-    let mut steps = Vec::with_capacity(alloc, sums.len())?;
+    let mut steps = Numbers::with_capacity(alloc, sums.len())?;
     let mut before: i64 = 0;
     for sum in sums.iter().skip(1) {
         steps.push(i128::from(sum.wrapping_sub(before)))?;
         before = *sum;
     }
-    Ok(Outcome::Feasible(Solution {
-        steps: Items::from(steps),
-    }))
+    Ok(Outcome::Feasible(Solution { steps }))
 }
 
 /// The sums of these steps before each place, unless one is too wide.
-fn sums_of(alloc: Global, steps: &[i128]) -> Result<Option<Vec<i64>>, AllocError> {
+fn sums_of(alloc: Global, steps: &Numbers) -> Result<Option<Vec<i64>>, AllocError> {
     let mut sums = Vec::with_capacity(alloc, steps.len().saturating_add(1))?;
     let mut sum: i64 = 0;
     sums.push(0)?;
-    for step in steps {
-        let Some(next) = next_sum(sum, *step) else {
+    for place in 0..steps.len() {
+        let Some(next) = next_sum(sum, steps.entry(place)) else {
             return Ok(None);
         };
         sum = next;
@@ -297,8 +294,8 @@ fn multipliers_of(
         set_at_place(&mut strict, &store.strict, *multiplier);
     }
     Ok(Multipliers {
-        weak: Items::from(weak),
-        strict: Items::from(strict),
+        weak: Numbers::of(alloc, weak.as_slice())?,
+        strict: Numbers::of(alloc, strict.as_slice())?,
     })
 }
 
@@ -326,8 +323,8 @@ fn multipliers_with(
         Position::Strict(position) => set_at(&mut strict, position, kept.weight),
     }
     Ok(Multipliers {
-        weak: Items::from(weak),
-        strict: Items::from(strict),
+        weak: Numbers::of(alloc, weak.as_slice())?,
+        strict: Numbers::of(alloc, strict.as_slice())?,
     })
 }
 

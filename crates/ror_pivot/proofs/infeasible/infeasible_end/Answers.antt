@@ -67,15 +67,15 @@ returns-clause-exact g c =
     let strict = c.in_ok-strict.strict.items in
     let is_weak = weak_read h c.of-shape.result rows c.index-rows-objective_row.result c.objective_row.result c.slack_column.result (map value weak) c.requires.tableau.rows_of_shape c.of-shape.ensures.value c.objective_row.ensures c.index-rows-objective_row.is c.slack_column.ensures c.in_ok-weak.ensures.exact in
     let is_strict = strict_read h c.of-shape.result rows c.index-rows-objective_row.result c.objective_row.result c.slack_column-2.result (map value strict) c.requires.tableau.rows_of_shape c.of-shape.ensures.value c.objective_row.ensures c.index-rows-objective_row.is c.slack_column-2.ensures c.in_ok-strict.ensures.exact in
-    columns_end most s c.of-shape.result rows (map value weak) (map value strict) c.loop-j.j c.from.result c.from-2.result c.of-shape.ensures.value is_weak is_strict (omega arith) c.loop-j-test.false
-    (c.from.ensures ∙ c.in_ok-numbers_of.ensures ∙ ap (map value) c.as_slice-2.ensures.value)
-    (c.from-2.ensures ∙ c.in_ok-numbers_of-2.ensures ∙ ap (map value) c.as_slice-3.ensures.value)
+    columns_end most s c.of-shape.result rows (map value weak) (map value strict) c.loop-j.j c.in_ok-numbers_of.field-0 c.in_ok-numbers_of-2.field-0 c.of-shape.ensures.value is_weak is_strict (omega arith) c.loop-j-test.false
+    (c.in_ok-numbers_of.ensures ∙ ap (map value) c.as_slice-2.ensures.value)
+    (c.in_ok-numbers_of-2.ensures ∙ ap (map value) c.as_slice-3.ensures.value)
     c.loop-j.invariant
 
 pub returns-clause-narrow : goal.returns-clause-narrow
 returns-clause-narrow g c =
     let value = g.W.Word.value in
     let most = g.W.Word.most in (
-      words_narrow value most c.in_ok-weak.weak.items c.from.result (c.from.ensures ∙ c.in_ok-numbers_of.ensures ∙ ap (map value) c.as_slice-2.ensures.value) c.in_ok-weak.ensures.within,
-      words_narrow value most c.in_ok-strict.strict.items c.from-2.result (c.from-2.ensures ∙ c.in_ok-numbers_of-2.ensures ∙ ap (map value) c.as_slice-3.ensures.value) c.in_ok-strict.ensures.within,
+      words_narrow value most c.in_ok-weak.weak.items c.in_ok-numbers_of.field-0 (c.in_ok-numbers_of.ensures ∙ ap (map value) c.as_slice-2.ensures.value) c.in_ok-weak.ensures.within,
+      words_narrow value most c.in_ok-strict.strict.items c.in_ok-numbers_of-2.field-0 (c.in_ok-numbers_of-2.ensures ∙ ap (map value) c.as_slice-3.ensures.value) c.in_ok-strict.ensures.within,
     )

@@ -16,7 +16,7 @@ returns-clause-ok c =
     let xs = map signed_decimal m.weak in
     let ys = map signed_decimal m.strict in
     let first = first_word start begun (codes "multipliers") c.in_ok-write_word.ensures.ok in
-    let second = more_words start begun weak (codes "multipliers" ∷ []) xs first (c.in_ok-write_numbers.ensures.ok ∙ ap (λ l. begun ++ spaced (map signed_decimal l)) c.as_slice.ensures) in
+    let second = more_words start begun weak (codes "multipliers" ∷ []) xs first c.in_ok-write_numbers.ensures.ok in
     let third = one_word start weak bar (codes "multipliers" ∷ xs) (codes "|") second c.in_ok-write_word-2.ensures.ok in
     let regrouped = ap (λ (ws : List (List ℕ)). start ++ spaced (codes "multipliers" ∷ ws)) (append_assoc xs (codes "|" ∷ []) ys) in
-    on_ok c.write_numbers-2.result c.write_numbers-2.ensures.ok (λ e. more_words start bar text (codes "multipliers" ∷ (xs ++ codes "|" ∷ [])) ys third (e ∙ ap (λ l. bar ++ spaced (map signed_decimal l)) c.as_slice-2.ensures) ∙ regrouped)
+    on_ok c.write_numbers-2.result c.write_numbers-2.ensures.ok (λ e. more_words start bar text (codes "multipliers" ∷ (xs ++ codes "|" ∷ [])) ys third e ∙ regrouped)

@@ -4,7 +4,7 @@ use Rattle.ror_proof.proofs.Loops.{with_front}
 use Rattle.ror_proof.proofs.words.numbers_before_bar.Given as goal
 
 abbrev pub invariant-numbers : goal.invariant-numbers
-invariant-numbers l = with_front l.numbers.items (numbers_before_bar l.place l.left) ≡ numbers_before_bar l.place l.fn.words
+invariant-numbers l = with_front l.numbers (numbers_before_bar l.place l.left) ≡ numbers_before_bar l.place l.fn.words
 
 abbrev pub decreases-numbers : goal.decreases-numbers
 decreases-numbers l = length l.left

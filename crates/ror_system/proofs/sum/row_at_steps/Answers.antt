@@ -1,4 +1,4 @@
-use Rattle.std.proofs.Common.{◌≤◌, ◌∙◌, ◌^◌, pos, arith, rules, get_or, FitsSigned}
+use Rattle.std.proofs.Common.{◌≤◌, ◌∙◌, ◌^◌, pos, arith, rules, FitsSigned}
 use Rattle.std.specs.Int.{w128}
 use Rattle.std.proofs.lemmas.Int.{ints, to_z-of_z}
 use Rattle.ror_integers.specs.Vectors.{absolute_dot}
@@ -11,8 +11,8 @@ returns-in_err-sum c =
     let steps = c.args.steps.now in
     let j = c.loop-j.j in
     let f : FitsSigned w128 c.entry.result = search rules in
-    let g : FitsSigned w128 (get_or steps j (pos 0)) = search rules in
-    let over = IsLeft-over _ (pos 0) _ 0 row steps j _ _ (2 ^ 127) c.loop-j.invariant (omega arith) (omega arith) (to_z-of_z w128 _ f ∙ c.entry.ensures.value) (to_z-of_z w128 _ g) c.in_err-sum.ensures in
+    let g : FitsSigned w128 c.entry-in-loop-j.result = search rules in
+    let over = IsLeft-over _ (pos 0) _ 0 row steps j _ _ (2 ^ 127) c.loop-j.invariant (omega arith) (omega arith) (to_z-of_z w128 _ f ∙ c.entry.ensures.value) (to_z-of_z w128 _ g ∙ c.entry-in-loop-j.ensures) c.in_err-sum.ensures in
     let all : 2 ^ 127 ≤ absolute_dot row steps = omega arith in
     search rules
 
@@ -22,8 +22,8 @@ loop-j-preserved c =
     let steps = c.args.steps.now in
     let j = c.loop-j.j in
     let f : FitsSigned w128 c.entry.result = search rules in
-    let g : FitsSigned w128 (get_or steps j (pos 0)) = search rules in
-    IsLeft-more _ (pos 0) _ 0 row steps j _ _ _ _ c.loop-j.invariant (omega arith) (omega arith) (to_z-of_z w128 _ f ∙ c.entry.ensures.value) (to_z-of_z w128 _ g) c.in_ok-sum.ensures.0 c.in_ok-sum.ensures.1
+    let g : FitsSigned w128 c.entry-in-loop-j.result = search rules in
+    IsLeft-more _ (pos 0) _ 0 row steps j _ _ _ _ c.loop-j.invariant (omega arith) (omega arith) (to_z-of_z w128 _ f ∙ c.entry.ensures.value) (to_z-of_z w128 _ g ∙ c.entry-in-loop-j.ensures) c.in_ok-sum.ensures.0 c.in_ok-sum.ensures.1
 
 pub returns : goal.returns
 returns c =

@@ -7,4 +7,4 @@ use Rattle.ror_warm.proofs.fitting.are_within.Goals as goal
 pub returns : goal.returns
 returns c = λ _.
     let xs = c.args.numbers.now in
-    recursion_from_All (IsWithin (most_of c.args.bits)) xs (All-from_get_or (IsWithin (most_of c.args.bits)) xs (pos 0) (λ (i : ℕ) (l : i < length xs). c.loop-number.invariant i (omega arith)))
+    recursion_from_All (IsWithin (most_of c.args.bits)) xs (All-from_get_or (IsWithin (most_of c.args.bits)) xs (pos 0) (λ (i : ℕ) (l : i < length xs). c.loop-k.invariant i (omega arith)))
