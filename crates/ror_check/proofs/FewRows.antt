@@ -1,7 +1,6 @@
 -- A solution of the base that is accepted for extra rows alone is accepted for both together, and so are multipliers that few
 -- rows of the base and the extra rows accept.
-use Rattle.std.proofs.Common.{ℕ, List, [], ℤ, pos, ◌≡◌, ◌++◌, ◌∷◌, ◌<◌, ◌≤ℤ◌, ◌<ℤ◌, Bool, false, Result, Ok, Err, take, drop, subst, sym, arith, length, ◌-◌, length-drop, take-append-drop}
-use Rattle.std.proofs.lemmas.List.{take_all}
+use Rattle.std.proofs.Common.{ℕ, List, [], ℤ, pos, ◌≡◌, ◌++◌, ◌∷◌, ◌<◌, ◌≤ℤ◌, ◌<ℤ◌, Bool, false, Result, Ok, Err, take, drop, subst, sym, take-append-drop}
 use Rattle.std.specs.Prelude.{OnOk, IfOk, IsTrue}
 use Rattle.std.specs.Result.{is_err}
 use Rattle.std.specs.List.{AllByRecursion}
@@ -56,7 +55,3 @@ pub refuted_by_few : (t : DecisionTable) (base few system : LinearSystem) (cs : 
 refuted_by_few t base few system cs nw weak ns strict n k w s is accepted =
     let all : AreAcceptedMultipliers (extended_by t base cs) (take n weak ++ drop n weak) (take k strict ++ drop k strict) = accepted_for_all t base few cs nw (take n weak) (drop n weak) ns (take k strict) (drop k strict) w s (subst (λ (z : LinearSystem). AreAcceptedMultipliers z (nw ++ drop n weak) (ns ++ drop k strict)) is accepted) in
     rw (take-append-drop n weak, take-append-drop k strict) at all
-
--- the rest of a list is all that is past the place
-pub whole_rest : (n : ℕ) (xs : List ℤ) → take (length xs - n) (drop n xs) ≡ drop n xs
-whole_rest n xs = take_all (length xs - n) (drop n xs) (omega (arith, length-drop n xs))

@@ -1,7 +1,7 @@
 -- What stands for no rows, for one row more, and what few rows show of all.
-use Rattle.std.proofs.Common.{◌⊎◌, inl, inr, ℕ, zero, suc, ◌+◌, ◌<◌, List, [], ◌∷◌, ◌++◌, length, take, get_or, ℤ, pos, ◌+ℤ◌, ◌*ℤ◌, ◌≡◌, refl, ap, sym, ◌∙◌, arith, length-append, length-take, unsigned_abs}
+use Rattle.std.proofs.Common.{◌⊎◌, inl, inr, ℕ, zero, suc, ◌+◌, ◌<◌, ◌≤◌, List, [], ◌∷◌, ◌++◌, length, take, get_or, ℤ, pos, ◌+ℤ◌, ◌*ℤ◌, ◌≡◌, refl, ap, sym, subst, ◌∙◌, arith, length-append, length-take, unsigned_abs}
 use Rattle.std.specs.Prelude.{slice_get}
-use Rattle.std.proofs.lemmas.List.{take_more}
+use Rattle.std.proofs.lemmas.List.{take_more, take_all}
 use Rattle.ror_text.proofs.Everywhere.{all-append, all-front, all-back}
 use Rattle.ror_integers.specs.Vectors.{dot, absolute_dot, entry, column, SomePositive}
 use Rattle.ror_integers.proofs.Ring.{sums, zero-product}
@@ -91,15 +91,22 @@ stands_with ns ms few rows m row s =
     }
 
 -- the rows up to a place and the one there
-pub stands_more_with : (ms : List ℤ) (rows : List (List ℤ)) (i : ℕ) (ns pushed : List ℤ) (few copied : List (List ℤ)) (row : List ℤ) → length ms ≡ length rows → i < length rows → row ≡ get_or rows i row → pushed ≡ ns ++ get_or ms i (pos 0) ∷ [] → copied ≡ few ++ row ∷ [] → StandsFor ns few (take i ms) (take i rows) → StandsFor pushed copied (take (i + 1) ms) (take (i + 1) rows)
+pub stands_more_with : (ms : List ℤ) (rows : List (List ℤ)) (i : ℕ) (ns pushed : List ℤ) (few copied : List (List ℤ)) (row : List ℤ) → length rows ≤ length ms → i < length rows → row ≡ get_or rows i row → pushed ≡ ns ++ get_or ms i (pos 0) ∷ [] → copied ≡ few ++ row ∷ [] → StandsFor ns few (take i ms) (take i rows) → StandsFor pushed copied (take (i + 1) ms) (take (i + 1) rows)
 stands_more_with ms rows i ns pushed few copied row long within row-is pushed-is copied-is s =
     let ms-more = take_more ms i (pos 0) (omega (arith, long, within)) in
     let rows-more : take (i + 1) rows ≡ take i rows ++ row ∷ [] = take_more rows i row within ∙ ap (λ (x : List ℤ). take i rows ++ x ∷ []) (sym row-is) in
     rw (pushed-is, copied-is, ms-more, rows-more) (stands_with ns (take i ms) few (take i rows) (get_or ms i (pos 0)) row s)
 
-pub stands_more_without : (ms : List ℤ) (rows : List (List ℤ)) (i : ℕ) (ns : List ℤ) (few : List (List ℤ)) → length ms ≡ length rows → i < length rows → 0 < i → get_or ms i (pos 0) ≡ pos 0 → StandsFor ns few (take i ms) (take i rows) → StandsFor ns few (take (i + 1) ms) (take (i + 1) rows)
+pub stands_more_without : (ms : List ℤ) (rows : List (List ℤ)) (i : ℕ) (ns : List ℤ) (few : List (List ℤ)) → length rows ≤ length ms → i < length rows → 0 < i → get_or ms i (pos 0) ≡ pos 0 → StandsFor ns few (take i ms) (take i rows) → StandsFor ns few (take (i + 1) ms) (take (i + 1) rows)
 stands_more_without ms rows i ns few long within later zero-is s =
     rw (take_more ms i (pos 0) (omega (arith, long, within)), take_more rows i [] within) (stands_without ns (take i ms) few (take i rows) (get_or ms i (pos 0)) (get_or rows i []) (omega (arith, length-take i rows, later, within)) zero-is s)
+
+-- where no row is left, what stands behind a multiplier for each is left out
+pub stands_for_all : (ms : List ℤ) (rows : List (List ℤ)) (i : ℕ) (ns : List ℤ) (few : List (List ℤ)) → i ≡ length rows → StandsFor ns few (take i ms) (take i rows) → StandsFor ns few (take (length rows) ms) rows
+stands_for_all ms rows i ns few is s =
+    let whole : take i rows ≡ rows = take_all i rows (omega (arith, is)) in
+    let front : take i ms ≡ take (length rows) ms = ap (λ n. take n ms) is in
+    subst (λ (xs : List ℤ). StandsFor ns few xs rows) front (subst (λ (xs : List (List ℤ)). StandsFor ns few (take i ms) xs) whole s)
 
 -- ---- multipliers that few rows and the extra ones accept
 

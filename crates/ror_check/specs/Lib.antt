@@ -1,6 +1,7 @@
 pub mod Proof
 pub mod Faults
 pub mod Steps
+pub mod Checkers
 pub mod Repair
 pub mod RepairFaults
 pub mod RepairSteps

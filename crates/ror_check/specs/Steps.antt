@@ -33,8 +33,8 @@ IsAcceptedFor s (certificates.Multipliers m) = AreAcceptedMultipliers s m.weak m
 
 -- the base is of this system, which accepts the certificates that are known
 pub record IsBaseOf (s : LinearSystem) (base : Base) : Type 0 where
-  pub system : base.system.now ≡ s
-  pub known : AllByRecursion (λ c. IsAcceptedFor s c.now) base.known.items
+  pub system : base.system ≡ s
+  pub known : AllByRecursion (IsAcceptedFor s) base.known.items
 
 -- at most 200 extra rows, each with names of the table
 abbrev pub AreUsable : DecisionTable → SmallVec Extra → Type 0

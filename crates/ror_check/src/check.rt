@@ -1,4 +1,4 @@
-//! The check of an answer, test by test.
+//! The check of a verdict, test by test, and of many answers over the same statements.
 
 ghost use Rattle.std.specs.Prelude.{◌≡◌, ◌≢◌, ℕ, [], ◌∷◌, ◌≤◌, ◌<◌, ◌+◌, ◌-◌, ◌^◌, ◌↔◌, length, map, true, false, IsTrue, OnOk, OnErr, IfErr, MatchOption};
 ghost use Rattle.std.specs.List.{AllByRecursion, range_with_len};
@@ -20,50 +20,6 @@ use ror_rows::{Extras, question_systems, system_of, with_extras};
 use ror_statement::{Conclusion, Question, QuestionKind, Statement, kind_of};
 use ror_table::Table;
 use std::alloc::Global;
-
-/// Whether the answer's proof proves its verdict on the question, over the statements. The base is a solution of the
-/// system of the statements alone or, where the verdict is a contradiction, multipliers that refute it. The parts are
-/// certificates of the question's systems: on every compatible function multipliers of each for yes, a solution of one
-/// for no; on some compatible function a solution of its one system for yes, multipliers for no.
-///
-/// The statements are lawful and the question is valid for the table. The verdict of an answer that is accepted
-/// answers the question.
-///
-/// # Errors
-///
-/// The first test that fails, in the order of `CheckFault`.
-pub fn check_answer(
-    alloc: Global,
-    table: &Table,
-    list: &[Statement],
-    asked: &Question,
-    x: &Answer,
-) -> Result<(), CheckFault>
-    requires lawful { IsLawfulIn table.now list.now }
-    requires named { IsAskedIn table.now asked.now }
-
-    ensures accepted { OnOk result (IsProvedAnswer table.now list.now asked.now x.now) }
-    ensures true_answer { OnOk result (IsTrueVerdict table.now list.now asked.now x.now.verdict) }
-
-    // Nothing that is proved is refused, and a refusal names the first test that fails.
-    ensures not_proved { IfErr result (λ e. e ≢ CheckFault.Memory
-        → IsProvedAnswer table.now list.now asked.now x.now → ⊥) }
-    ensures refused { IfErr result (IsRefusedBy (FailsAnswer table.now list.now asked.now x.now)
-        IsEarlierFault CheckFault.Memory) }
-{
-    if !x.question.is_same(*asked) {
-        return Err(CheckFault::WrongQuestion);
-    }
-    let base = system_of(alloc, table, list)?;
-    check_verdict(
-        alloc,
-        table,
-        list,
-        &mut Base::new(alloc, &base),
-        asked,
-        &x.verdict,
-    )
-}
 
 /// Whether each answer's proof proves its verdict on the question that it names, over the same statements, as
 /// `check_answer` has it. An answer that is too wide concludes nothing, and is passed over. The system of the statements is
@@ -94,8 +50,7 @@ pub fn check_answers(
     ensures refused { IfErr result (IsRefusedBy (FailsAnswers table.now list.now answers.now)
         IsEarlierAnswersFault AnswersFault.Memory) }
 {
-    let system = system_of(alloc, table, list)?;
-    let mut base = Base::new(alloc, &system);
+    let mut base = Base::new(alloc, system_of(alloc, table, list)?);
     for (place, answer) in answers.iter().enumerate() {
         if let Err(fault) = check_unless_wide(alloc, table, list, &mut base, answer) {
             return Err(refused_at(place as u32 + 1, fault));
@@ -105,12 +60,12 @@ pub fn check_answers(
 }
 
 /// Whether the answer is too wide or its proof proves its verdict, where the statements have this base.
-fn check_unless_wide<'a>(
+fn check_unless_wide(
     alloc: Global,
     table: &Table,
     list: &[Statement],
-    base: &mut Base<'a>,
-    x: &'a Answer,
+    base: &mut Base,
+    x: &Answer,
 ) -> Result<(), CheckFault>
     requires lawful { IsLawfulIn table.now list.now }
     requires named { IsAskedIn table.now x.now.question }
@@ -139,13 +94,13 @@ fn refused_at(place: u32, fault: CheckFault) -> AnswersFault
 }
 
 /// Whether the verdict has a proof that proves it, where the statements have this base.
-fn check_verdict<'a>(
+pub(crate) fn check_verdict(
     alloc: Global,
     table: &Table,
     list: &[Statement],
-    base: &mut Base<'a>,
+    base: &mut Base,
     asked: &Question,
-    verdict: &'a Verdict,
+    verdict: &Verdict,
 ) -> Result<(), CheckFault>
     requires lawful { IsLawfulIn table.now list.now }
     requires named { IsAskedIn table.now asked.now }
@@ -178,14 +133,14 @@ fn concluded(verdict: &Verdict) -> Option<(Conclusion, &Proof)>
 }
 
 /// Whether the proof proves the conclusion.
-fn check_proof<'a>(
+fn check_proof(
     alloc: Global,
     table: &Table,
     list: &[Statement],
-    base: &mut Base<'a>,
+    base: &mut Base,
     asked: &Question,
     conclusion: Conclusion,
-    proof: &'a Proof,
+    proof: &Proof,
 ) -> Result<(), CheckFault>
     requires lawful { IsLawfulIn table.now list.now }
     requires named { IsAskedIn table.now asked.now }
@@ -205,7 +160,7 @@ fn check_proof<'a>(
     if !are_numbered_for(kind_of(asked), conclusion, extras.len(), parts) {
         return Err(CheckFault::PartCount);
     }
-    check_base(base, &proof.base)?;
+    check_base(alloc, base, &proof.base)?;
     check_parts(alloc, table, base, extras, parts)
 }
 
@@ -260,45 +215,45 @@ fn are_numbered_from(first: u32, parts: &[Part]) -> bool
     }
 }
 
-fn check_base<'a>(base: &mut Base<'a>, certificate: &'a Certificate) -> Result<(), CheckFault>
-    requires { IsBaseOf base.old.system.now base.old }
-    ensures ok { OnOk result (IsAcceptedFor base.old.system.now certificate.now) }
-    ensures base { IsBaseOf base.old.system.now base.new }
-    ensures err { IfErr result (RefusesBase base.old.system.now certificate.now) }
+fn check_base(alloc: Global, base: &mut Base, certificate: &Certificate) -> Result<(), CheckFault>
+    requires { IsBaseOf base.old.system base.old }
+    ensures ok { OnOk result (IsAcceptedFor base.old.system certificate.now) }
+    ensures base { IsBaseOf base.old.system base.new }
+    ensures err { IfErr result (RefusesBase base.old.system certificate.now) }
 {
-    match base.accept(certificate) {
+    match base.accept(alloc, certificate) {
         Ok(()) => Ok(()),
         Err(reject) => Err(CheckFault::Base(reject)),
     }
 }
 
 /// Checks each part for the system that has its number, the base with its extra rows, from the first part on.
-fn check_parts<'a>(
+fn check_parts(
     alloc: Global,
     table: &Table,
-    base: &mut Base<'a>,
+    base: &mut Base,
     systems: &[Extras],
-    parts: &'a [Part],
+    parts: &[Part],
 ) -> Result<(), CheckFault>
-    requires base { IsBaseOf base.old.system.now base.old }
-    requires columns { base.old.system.now.columns ≡ columns table.now }
-    requires rows { length base.old.system.now.weak + length base.old.system.now.strict ≤ MOST_ROWS }
+    requires base { IsBaseOf base.old.system base.old }
+    requires columns { base.old.system.columns ≡ columns table.now }
+    requires rows { length base.old.system.weak + length base.old.system.strict ≤ MOST_ROWS }
     requires usable { AllByRecursion (AreUsable table.now) systems.now }
     requires numbers { NameSystems (length systems.now) parts.now }
     requires few { length parts.now < 2 ^ 32 - 1 }
-    ensures base { IsBaseOf base.old.system.now base.new }
+    ensures base { IsBaseOf base.old.system base.new }
     ensures ok { OnOk result
-        (AreShownBefore (systems_with table.now base.old.system.now systems.now) parts.now
+        (AreShownBefore (systems_with table.now base.old.system systems.now) parts.now
         (length parts.now)) }
     ensures err { IfErr result
-        (RefusesParts (systems_with table.now base.old.system.now systems.now) parts.now) }
+        (RefusesParts (systems_with table.now base.old.system systems.now) parts.now) }
 {
     for (i, part) in parts.iter().enumerate() {
         let extras = systems[part.at as usize - 1].as_slice();
         if is_shown_by_few(alloc, table, base, extras, &part.body)? {
             continue;
         }
-        let system = with_extras(alloc, table, base.system, extras)?;
+        let system = with_extras(alloc, table, &base.system, extras)?;
         if let Err(reject) = accept(&system, &part.body) {
             return Err(CheckFault::Part(i as u32 + 1, reject));
         }

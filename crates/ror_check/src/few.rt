@@ -13,39 +13,40 @@ use crate::base::Base;
 use crate::weighed::Weighed;
 use ror_proof::Certificate;
 use ror_rows::{Extra, system_of, with_extras};
-use ror_system::{Multipliers, Solution, System, accept_multipliers, accept_solution};
+use ror_system::{
+    MOST_SYSTEM_ROWS, Multipliers, Solution, System, accept_multipliers, accept_solution,
+};
 use ror_table::Table;
-use ror_text::Items;
 use std::alloc::{AllocError, Global};
 
 /// Whether few rows show that the certificate is accepted for the base with these extra rows: a solution of the base is where
 /// it holds at the extra rows, and multipliers are where they refute the rows that they weigh.
-pub(crate) fn is_shown_by_few<'a>(
+pub(crate) fn is_shown_by_few(
     alloc: Global,
     table: &Table,
-    base: &mut Base<'a>,
+    base: &mut Base,
     extras: &[Extra],
-    certificate: &'a Certificate,
+    certificate: &Certificate,
 ) -> Result<bool, AllocError>
-    requires base { IsBaseOf base.old.system.now base.old }
-    requires columns { base.old.system.now.columns ≡ columns table.now }
-    requires rows { length base.old.system.now.weak + length base.old.system.now.strict ≤ MOST_ROWS }
+    requires base { IsBaseOf base.old.system base.old }
+    requires columns { base.old.system.columns ≡ columns table.now }
+    requires rows { length base.old.system.weak + length base.old.system.strict ≤ MOST_ROWS }
     requires few { length extras.now ≤ MOST_STATEMENTS }
     requires named { AllByRecursion (λ e. IsNamedIn table.now e.form) extras.now }
-    ensures base { IsBaseOf base.old.system.now base.new }
+    ensures base { IsBaseOf base.old.system base.new }
     ensures shown { IfOk result (λ shown. IsTrue shown
-        → IsAcceptedFor (extended_by table.now base.old.system.now
+        → IsAcceptedFor (extended_by table.now base.old.system
         (map comparison_of_extra extras.now)) certificate.now) }
 {
     match certificate {
         Certificate::Solution(solution) => {
-            if base.accept(certificate).is_err() {
+            if base.accept(alloc, certificate).is_err() {
                 return Ok(false);
             }
             holds_beside(alloc, table, extras, solution)
         }
         Certificate::Multipliers(multipliers) => {
-            refute_by_weighed(alloc, table, base.system, extras, multipliers)
+            refute_by_weighed(alloc, table, &base.system, extras, multipliers)
         }
     }
 }
@@ -84,24 +85,26 @@ fn refute_by_weighed(
         → AreAcceptedMultipliers (extended_by table.now base.now
         (map comparison_of_extra extras.now)) multipliers.now.weak multipliers.now.strict) }
 {
-    let weak = multipliers.weak.as_slice();
-    let strict = multipliers.strict.as_slice();
+    let weak = &multipliers.weak;
+    let strict = &multipliers.strict;
     let weak_count = base.weak().len();
     let strict_count = base.strict().len();
     if weak.len() < weak_count || strict.len() < strict_count {
         return Ok(false);
     }
-    let mut few_weak = Weighed::of(alloc, base.weak(), &weak[..weak_count])?;
-    let mut few_strict = Weighed::of(alloc, base.strict(), &strict[..strict_count])?;
+    // What is too long for any system isn't copied.
+    if weak.len() > MOST_SYSTEM_ROWS || strict.len() > MOST_SYSTEM_ROWS {
+        return Ok(false);
+    }
+    let mut few_weak = Weighed::of(alloc, base.weak(), weak)?;
+    let mut few_strict = Weighed::of(alloc, base.strict(), strict)?;
     let few = System::new(base.columns(), few_weak.rows, few_strict.rows);
     let system = with_extras(alloc, table, &few, extras)?;
-    few_weak.multipliers.extend_from_slice(&weak[weak_count..])?;
-    few_strict
-        .multipliers
-        .extend_from_slice(&strict[strict_count..])?;
+    few_weak.multipliers.push_rest(weak, weak_count)?;
+    few_strict.multipliers.push_rest(strict, strict_count)?;
     let few_multipliers = Multipliers {
-        weak: Items::from(few_weak.multipliers),
-        strict: Items::from(few_strict.multipliers),
+        weak: few_weak.multipliers,
+        strict: few_strict.multipliers,
     };
     Ok(accept_multipliers(&system, &few_multipliers).is_ok())
 }

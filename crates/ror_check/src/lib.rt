@@ -24,6 +24,8 @@
 //! function is against the answer. With the base 0 0 0 1 the answer is refused: the base's row 1
 //! comes to -1.
 //!
+//! `check_answers` takes many answers over the same statements, and a `Checker` one after the other.
+//!
 //! `check_repair` takes the numbered statements that stand, and which of them a repair drops, with multipliers for each that
 //! refute it together with those kept before it and a base of all that is kept. What is accepted is proved
 //! (`IsProvedRepair`), and what is proved is the repair (`laws::proved_repairs_are_true`). Where 1 `a` over `b`,
@@ -31,6 +33,7 @@
 
 mod base;
 mod check;
+mod checker;
 mod fault;
 mod few;
 pub mod laws;
@@ -38,6 +41,7 @@ mod repair;
 mod side;
 mod weighed;
 
-pub use check::{check_answer, check_answers};
+pub use check::check_answers;
+pub use checker::{Checker, check_answer};
 pub use fault::{AnswersFault, CheckFault, RepairCheckFault};
 pub use repair::check_repair;

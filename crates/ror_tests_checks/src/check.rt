@@ -2,13 +2,14 @@
 
 ghost use Rattle.std.specs.Prelude.{IsTrue};
 ghost use Rattle.std.specs.List.{AllByRecursion};
-ghost use Rattle.ror_value.specs.Over.{IsAskedIn};
+ghost use Rattle.ror_value.specs.Over.{IsLawfulIn, IsAskedIn};
+ghost use Rattle.ror_check.specs.Checkers.{IsCheckerOf};
 
-use ror_check::{check_answer, check_answers, check_repair};
+use ror_check::{Checker, check_answer, check_answers, check_repair};
 use ror_made::{AB, AC, BA, BC, is_asked, is_lawful, may_stand, three_alternatives};
 use ror_proof::{Answer, Certificate, Dropped, Kept, read_answer};
 use ror_statement::{Numbered, Question, Scope, Statement};
-use ror_system::{Multipliers, Solution};
+use ror_system::{Multipliers, Numbers, Solution};
 use ror_table::{Table, read_plain};
 use ror_text::Items;
 use std::alloc::{AllocError, Global};
@@ -245,20 +246,88 @@ fn each_answer_is_checked_over_one_base(rt: HostRuntime) -> Result<(), Fail> {
     Ok(())
 }
 
-fn whole_numbers(alloc: Global, numbers: &[i128]) -> Result<Items<i128>, AllocError> {
-    let mut list = Vec::new(alloc);
-    for number in numbers {
-        list.push(*number)?;
+/// Questions over the statement of a over b, answers, and what a checker says of one after the other.
+const ONE_BY_ONE: [(Question, &[u8], &str); 7] = [
+    (Question::Necessary(0, 1), SETTLED, ""),
+    (
+        Question::Necessary(0, 1),
+        AGAINST_THE_BASE,
+        "part 1 is not accepted: Row(2)",
+    ),
+    (Question::Possible(1, 0), AGAIN, ""),
+    (
+        Question::Possible(1, 0),
+        BY_A_WRONG_BASE,
+        "the base is not accepted: Row(1)",
+    ),
+    (
+        Question::Necessary(1, 0),
+        SETTLED,
+        "the answer is to another question",
+    ),
+    (Question::Necessary(0, 2), TOO_WIDE, OTHER_KIND),
+    (Question::Necessary(0, 1), SETTLED, ""),
+];
+
+/// Whether the checker says this of an answer with this text: the fault, or nothing.
+fn is_said_by(
+    alloc: Global,
+    checker: &mut Checker,
+    table: &Table,
+    list: &[Statement],
+    asked: &Question,
+    text: &[u8],
+    expected: &str,
+) -> Result<bool, Fail>
+    requires lawful { IsLawfulIn table.now list.now }
+    requires checker { IsCheckerOf table.now list.now checker.old }
+    ensures { IsCheckerOf table.now list.now checker.new }
+{
+    if !is_asked(table, asked) {
+        return Err(Fail::new("the question is valid"));
     }
-    Ok(list.into())
+    let (answer, _) = read_answer(alloc, table, text, 0)?;
+    match checker.check(alloc, table, list, asked, &answer) {
+        Ok(()) => Ok(expected.is_empty()),
+        Err(fault) => Ok(format!(in alloc; "{fault}")?.as_str() == expected),
+    }
+}
+
+/// Whether one checker says of each answer what is expected, as a check of it alone does.
+fn are_said_by_one(
+    alloc: Global,
+    table: &Table,
+    list: &[Statement],
+    answers: &[(Question, &[u8], &str)],
+) -> Result<bool, Fail> {
+    if !is_lawful(table, list) {
+        return Err(Fail::new("the list is lawful"));
+    }
+    let mut checker = Checker::new(alloc, table, list)?;
+    for (asked, text, expected) in answers {
+        if !is_said_by(alloc, &mut checker, table, list, asked, text, expected)?
+            || !is_said(alloc, table, list, asked, text, expected)?
+        {
+            return Ok(false);
+        }
+    }
+    Ok(true)
+}
+
+#[test]
+fn a_checker_goes_on_after_a_refusal(rt: HostRuntime) -> Result<(), Fail> {
+    let table = three_alternatives(rt.alloc())?;
+    let are_said = are_said_by_one(rt.alloc(), &table, A_OVER_B, ONE_BY_ONE.as_slice())?;
+    assert!(rt; are_said);
+    Ok(())
 }
 
 /// The multipliers of weak rows and of strict ones.
 type Weights = (&'static [i128], &'static [i128]);
 
 fn multipliers(alloc: Global, weights: Weights) -> Result<Multipliers, AllocError> {
-    let weak = whole_numbers(alloc, weights.0)?;
-    let strict = whole_numbers(alloc, weights.1)?;
+    let weak = Numbers::of(alloc, weights.0)?;
+    let strict = Numbers::of(alloc, weights.1)?;
     Ok(Multipliers { weak, strict })
 }
 
@@ -272,7 +341,7 @@ enum Given {
 fn certificate(alloc: Global, given: Given) -> Result<Certificate, AllocError> {
     match given {
         Given::Steps(steps) => Ok(Certificate::Solution(Solution {
-            steps: whole_numbers(alloc, steps)?,
+            steps: Numbers::of(alloc, steps)?,
         })),
         Given::Weights(weights) => Ok(Certificate::Multipliers(multipliers(alloc, weights)?)),
     }

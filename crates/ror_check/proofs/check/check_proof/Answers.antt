@@ -16,7 +16,7 @@ are_numbered_for-requires c =
     rw c.as_slice-extras.ensures.value (omega (arith, few))
 
 pub check_parts-requires-clause-rows : goal.check_parts-requires-clause-rows
-check_parts-requires-clause-rows c = base_few c.args.table.now c.args.list.now c.check_base.new.base.system.now c.requires.lawful (c.check_base.ensures.base.system ∙ c.requires.base.system)
+check_parts-requires-clause-rows c = base_few c.args.table.now c.args.list.now c.check_base.new.base.system c.requires.lawful (c.check_base.ensures.base.system ∙ c.requires.base.system)
 
 pub check_parts-requires-clause-usable : goal.check_parts-requires-clause-usable
 check_parts-requires-clause-usable c = rw c.as_slice-extras.ensures.value (systems_usable c.args.table.now c.args.list.now c.in_ok-systems.systems.items c.args.asked.now c.in_ok-systems.ensures c.requires.lawful c.requires.named)
@@ -42,7 +42,7 @@ returns-clause-ok c =
     let kinds : has_kinds c.args.asked.now c.args.conclusion c.args.proof.now ≡ true = search rules in
     let numbered : AreNumbersFor (kind_of c.args.asked.now) c.args.conclusion (length c.as_slice-extras.result.now) (map (λ p. p.at) c.as_slice-parts.result.now) = search rules in
     let accepted = subst (λ (s : LinearSystem). IsAcceptedFor s c.args.proof.now.base) c.requires.base.system c.in_ok-check_base.ensures.ok in
-    proof_accepted {A = Unit {0}} t list c.args.asked.now c.args.conclusion c.args.proof.now c.check_base.new.base.system.now c.as_slice-extras.result.now c.as_slice-parts.result.now c.check_parts.result (c.check_base.ensures.base.system ∙ c.requires.base.system) e c.as_slice-parts.ensures kinds numbered (accepted_shows (base_system t list) c.args.proof.now.base accepted) c.check_parts.ensures.ok
+    proof_accepted {A = Unit {0}} t list c.args.asked.now c.args.conclusion c.args.proof.now c.check_base.new.base.system c.as_slice-extras.result.now c.as_slice-parts.result.now c.check_parts.result (c.check_base.ensures.base.system ∙ c.requires.base.system) e c.as_slice-parts.ensures kinds numbered (accepted_shows (base_system t list) c.args.proof.now.base accepted) c.check_parts.ensures.ok
 
 pub returns-clause-err : goal.returns-clause-err
 returns-clause-err c =
@@ -52,4 +52,4 @@ returns-clause-err c =
     let kinds : has_kinds c.args.asked.now c.args.conclusion c.args.proof.now ≡ true = search rules in
     let numbered : AreNumbersFor (kind_of c.args.asked.now) c.args.conclusion (length c.as_slice-extras.result.now) (map (λ p. p.at) c.as_slice-parts.result.now) = search rules in
     let accepted = subst (λ (s : LinearSystem). IsAcceptedFor s c.args.proof.now.base) c.requires.base.system c.in_ok-check_base.ensures.ok in
-    proof_refused {A = Unit {0}} t list c.args.asked.now c.args.conclusion c.args.proof.now c.check_base.new.base.system.now c.as_slice-extras.result.now c.as_slice-parts.result.now c.check_parts.result (c.check_base.ensures.base.system ∙ c.requires.base.system) e c.as_slice-parts.ensures kinds numbered (accepted_shows (base_system t list) c.args.proof.now.base accepted) c.check_parts.ensures.err
+    proof_refused {A = Unit {0}} t list c.args.asked.now c.args.conclusion c.args.proof.now c.check_base.new.base.system c.as_slice-extras.result.now c.as_slice-parts.result.now c.check_parts.result (c.check_base.ensures.base.system ∙ c.requires.base.system) e c.as_slice-parts.ensures kinds numbered (accepted_shows (base_system t list) c.args.proof.now.base accepted) c.check_parts.ensures.err

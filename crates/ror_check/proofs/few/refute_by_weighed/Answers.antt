@@ -1,8 +1,8 @@
-use Rattle.std.proofs.Common.{map, ◌≡◌, ◌∙◌, ap, ◌++◌, take, drop, length, rules}
+use Rattle.std.proofs.Common.{map, ◌≡◌, ◌++◌, take, drop, length, rules}
 use Rattle.std.specs.Prelude.{IsOk}
 use Rattle.ror_rows.specs.Rows.{comparison_of_extra}
 use Rattle.ror_check.specs.Weighed.{StandsFor}
-use Rattle.ror_check.proofs.FewRows.{refuted_by_few, whole_rest}
+use Rattle.ror_check.proofs.FewRows.{refuted_by_few}
 use Rattle.ror_check.proofs.few.refute_by_weighed.Goals as goal
 
 pub new-few-requires-clause-weak_widths : goal.new-few-requires-clause-weak_widths
@@ -17,10 +17,10 @@ returns c accepted =
     let strict = c.args.multipliers.now.strict in
     let n = length c.args.base.now.weak in
     let k = length c.args.base.now.strict in
-    let w : StandsFor c.in_ok-few_weak.few_weak.multipliers.items c.new-few.result.weak (take n weak) c.args.base.now.weak = search rules in
-    let s : StandsFor c.in_ok-few_strict.few_strict.multipliers.items c.new-few.result.strict (take k strict) c.args.base.now.strict = search rules in
+    let w : StandsFor c.in_ok-few_weak.few_weak.multipliers c.new-few.result.weak (take n weak) c.args.base.now.weak = search rules in
+    let s : StandsFor c.in_ok-few_strict.few_strict.multipliers c.new-few.result.strict (take k strict) c.args.base.now.strict = search rules in
     let ok : IsOk c.accept_multipliers.result = search rules in
     let all = c.accept_multipliers.ensures.accepted.0 ok in
-    let weak_is : c.from.result ≡ c.in_ok-few_weak.few_weak.multipliers.items ++ drop n weak = c.from.ensures ∙ (rw (c.weak-weak_count.ensures.value, c.as_slice-weak.ensures) at c.in_ok-extend_from_slice.ensures.items) ∙ ap (λ rest. c.in_ok-few_weak.few_weak.multipliers.items ++ rest) (whole_rest n weak) in
-    let strict_is : c.from-2.result ≡ c.in_ok-few_strict.few_strict.multipliers.items ++ drop k strict = c.from-2.ensures ∙ (rw (c.strict-strict_count.ensures.value, c.as_slice-strict.ensures) at c.in_ok-extend_from_slice-2.ensures.items) ∙ ap (λ rest. c.in_ok-few_strict.few_strict.multipliers.items ++ rest) (whole_rest k strict) in
-    refuted_by_few c.args.table.now c.args.base.now c.new-few.result c.in_ok-system.system (map comparison_of_extra c.args.extras.now) c.in_ok-few_weak.few_weak.multipliers.items weak c.in_ok-few_strict.few_strict.multipliers.items strict n k w s c.in_ok-system.ensures (rw (weak_is, strict_is) at all)
+    let weak_is : c.push_rest.new.self ≡ c.in_ok-few_weak.few_weak.multipliers ++ drop n weak = rw c.weak-weak_count.ensures.value at c.in_ok-push_rest.ensures in
+    let strict_is : c.push_rest-2.new.self ≡ c.in_ok-few_strict.few_strict.multipliers ++ drop k strict = rw c.strict-strict_count.ensures.value at c.in_ok-push_rest-2.ensures in
+    refuted_by_few c.args.table.now c.args.base.now c.new-few.result c.in_ok-system.system (map comparison_of_extra c.args.extras.now) c.in_ok-few_weak.few_weak.multipliers weak c.in_ok-few_strict.few_strict.multipliers strict n k w s c.in_ok-system.ensures (rw (weak_is, strict_is) at all)

@@ -1,6 +1,6 @@
 use Rattle.std.proofs.Common.{rules, ◌≡◌}
 use Rattle.ror_check.proofs.FirstFaults.{answer_refused_in, answer_true_in, answer_not_proved}
-use Rattle.ror_check.proofs.check.check_answer.Goals as goal
+use Rattle.ror_check.proofs.checker.Checker.check.Goals as goal
 
 pub returns-clause-refused : goal.returns-clause-refused
 returns-clause-refused c =
