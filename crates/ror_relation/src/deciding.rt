@@ -1,22 +1,17 @@
 //! The calls that decide questions.
 
-ghost use Rattle.std.specs.Prelude.{◌≡◌, ◌≤◌, IfOk};
+ghost use Rattle.std.specs.Prelude.{◌≤◌, IfOk};
 ghost use Rattle.std.specs.List.{AllByRecursion, AllZip};
 ghost use Rattle.ror_pivot.specs.Answers.{most_of};
 ghost use Rattle.ror_value.specs.Over.{IsLawfulIn, IsAskedIn};
-ghost use Rattle.ror_check.specs.Proof.{base_system, IsAllowedAnswer, IsWideOrTrue};
+ghost use Rattle.ror_check.specs.Proof.{IsAllowedAnswer, IsWideOrTrue};
 ghost use Rattle.ror_relation.specs.Wide.{HasNoteAt};
 ghost use Rattle.ror_relation.specs.Answers.{IsVerdictWithin, IsGiven};
-ghost use Rattle.ror_relation.specs.Decisions.{IsDecision, IsGivenVerdict, verdict_of};
 
-use crate::decision::{Decision, decide_system_warm};
-use crate::search::{Search, first_solvable};
-use crate::wide::copied_note;
+use crate::decided::DecidedList;
 use ror_pivot::Bits;
-use ror_proof::{Answer, Certificate, Part, Proof, Verdict};
-use ror_rows::{question_systems, system_of};
-use ror_statement::{Question, QuestionKind, Statement, kind_of};
-use ror_system::{Multipliers, Solution, System};
+use ror_proof::Answer;
+use ror_statement::{Question, Statement};
 use ror_table::Table;
 use ror_text::Items;
 use ror_warm::Engine;
@@ -62,9 +57,9 @@ pub fn decide_warm(
     ensures true_answer { IfOk result (λ x. IsWideOrTrue table.now list.now q.now x.verdict) }
     ensures counted { engine.old.pivots ≤ engine.new.pivots }
 {
-    let system = system_of(alloc, table, list)?;
-    let base = decide_system_warm(alloc, engine, &system, bits)?;
-    answer_over(alloc, engine, table, list, &system, &base, q, bits)
+    let list = Items::from(Vec::from_slice(alloc, list)?);
+    let decided = DecidedList::new(alloc, engine, table, list, bits)?;
+    decided.answer(alloc, engine, table, q, bits)
 }
 
 /// Answers each of these questions as `decide` does, in order. The base is made and decided once.
@@ -98,114 +93,12 @@ pub fn decide_each_warm(
         AllZip (IsGiven (most_of bits) table.now list.now) questions.now answers.items) }
     ensures counted { engine.old.pivots ≤ engine.new.pivots }
 {
-    let system = system_of(alloc, table, list)?;
-    let base = decide_system_warm(alloc, engine, &system, bits)?;
+    let list = Items::from(Vec::from_slice(alloc, list)?);
+    let decided = DecidedList::new(alloc, engine, table, list, bits)?;
     let mut answers = Vec::with_capacity(alloc, questions.len())?;
     for question in questions {
-        let answer = answer_over(alloc, engine, table, list, &system, &base, question, bits)?;
+        let answer = decided.answer(alloc, engine, table, question, bits)?;
         answers.push(answer)?;
     }
     Ok(answers)
-}
-
-/// Answers the question, where the system of the statements, the base, comes to this.
-fn answer_over(
-    alloc: Global,
-    engine: &mut Engine,
-    table: &Table,
-    list: &[Statement],
-    system: &System,
-    base: &Decision,
-    question: &Question,
-    bits: Bits,
-) -> Result<Answer, AllocError>
-    requires lawful { IsLawfulIn table.now list.now }
-    requires asked { IsAskedIn table.now question.now }
-    requires system { system.now ≡ base_system table.now list.now }
-    requires base { IsDecision (most_of bits) system.now base.now }
-    ensures given { IfOk result (IsGiven (most_of bits) table.now list.now question.now) }
-    ensures counted { engine.old.pivots ≤ engine.new.pivots }
-{
-    let verdict = match base {
-        Decision::Solvable(solution) => {
-            verdict_over(alloc, engine, table, list, system, solution, question, bits)?
-        }
-        Decision::NotSolvable(multipliers) => Verdict::Contradiction(Proof {
-            base: Certificate::Multipliers(multipliers.copied(alloc)?),
-            parts: Items::from(Vec::new(alloc)),
-        }),
-        Decision::TooWide(note) => Verdict::Wide {
-            system: 0,
-            note: copied_note(alloc, note)?,
-        },
-    };
-    Ok(Answer {
-        question: *question,
-        verdict,
-    })
-}
-
-/// The verdict on the question, where the system of the statements, the base, has this solution.
-fn verdict_over(
-    alloc: Global,
-    engine: &mut Engine,
-    table: &Table,
-    list: &[Statement],
-    system: &System,
-    base: &Solution,
-    question: &Question,
-    bits: Bits,
-) -> Result<Verdict, AllocError>
-    requires lawful { IsLawfulIn table.now list.now }
-    requires asked { IsAskedIn table.now question.now }
-    requires system { system.now ≡ base_system table.now list.now }
-    requires base { IsDecision (most_of bits) system.now (Decision.Solvable base.now) }
-    ensures given { IfOk result (IsGivenVerdict (most_of bits) table.now list.now question.now) }
-    ensures counted { engine.old.pivots ≤ engine.new.pivots }
-{
-    let systems = question_systems(alloc, table, list, question)?;
-    let search = first_solvable(alloc, engine, table, system, systems.as_slice(), bits)?;
-    let base = Certificate::Solution(base.copied(alloc)?);
-    concluded(alloc, kind_of(question), base, search)
-}
-
-/// The verdict on a question of this kind, where the base is solvable and the search among its systems comes to this.
-fn concluded(
-    alloc: Global,
-    kind: QuestionKind,
-    base: Certificate,
-    search: Search,
-) -> Result<Verdict, AllocError>
-    ensures { IfOk result (λ v. v ≡ verdict_of kind base search) }
-{
-    match search {
-        Search::Solvable(part) => {
-            let mut parts = Vec::new(alloc);
-            parts.push(part)?;
-            let proof = proof(base, parts);
-            match kind {
-                QuestionKind::Every => Ok(Verdict::No(proof)),
-                _ => Ok(Verdict::Yes(proof)),
-            }
-        }
-        Search::NoneSolvable(parts) => {
-            let proof = proof(base, parts);
-            match kind {
-                QuestionKind::Any => Ok(Verdict::No(proof)),
-                _ => Ok(Verdict::Yes(proof)),
-            }
-        }
-        Search::TooWide { system, note } => Ok(Verdict::Wide { system, note }),
-    }
-}
-
-/// The proof of this base and these parts.
-fn proof(base: Certificate, parts: Vec<Part>) -> Proof
-    ensures base { result.base ≡ base }
-    ensures parts { result.parts ≡ parts.items }
-{
-    Proof {
-        base,
-        parts: Items::from(parts),
-    }
 }

@@ -1,7 +1,8 @@
 //! Deciding questions over all value functions that are compatible with statements, each with its proof.
 //!
 //! `decide` answers one question, `decide_each` many over one list; `decide_warm` and `decide_each_warm` do so by an engine
-//! that the caller keeps from question to question. The base, the system of the statements alone, is
+//! that the caller keeps from question to question. A `DecidedList` keeps what belongs to a list, for questions that come one by
+//! one among those over other lists. The base, the system of the statements alone, is
 //! decided first, then the question's systems in order, up to the first that is solvable. The certificates that are found
 //! prove the verdict (`ror_check`), and it is true. A number past the width ends the search: the answer then names the
 //! system and the note of its path, and concludes nothing. `decide_system` decides one system by itself, for questions and for
@@ -19,12 +20,14 @@
 //! Over `Prefer(0, 1)` the second is Yes, and over that and `Prefer(1, 0)` each answer is Contradiction.
 #![tactic(auto)]
 
+mod decided;
 mod deciding;
 mod decision;
 mod pairs;
 mod search;
 mod wide;
 
+pub use decided::DecidedList;
 pub use deciding::{decide, decide_each, decide_each_warm, decide_warm};
 pub use decision::{Decision, decide_system};
-pub use pairs::relation_questions;
+pub use pairs::{ordered_pairs, relation_questions};

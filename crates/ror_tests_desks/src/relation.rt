@@ -1,14 +1,20 @@
 //! Questions that are decided at a width, together and each alone.
 
+ghost use Rattle.std.specs.Prelude.{IfOk};
+ghost use Rattle.ror_pivot.specs.Answers.{most_of};
+ghost use Rattle.ror_relation.specs.DecidedLists.{IsDecidedList};
+
 use ror_made::{are_asked, is_asked, is_lawful, three_alternatives};
 use ror_pivot::Bits;
 use ror_proof::Verdict;
 use ror_relation::{
-    Decision, decide, decide_each, decide_each_warm, decide_system, decide_warm, relation_questions,
+    DecidedList, Decision, decide, decide_each, decide_each_warm, decide_system, decide_warm,
+    ordered_pairs, relation_questions,
 };
 use ror_rows::system_of;
 use ror_statement::{Pair, Question, Scope, Statement};
 use ror_table::{Table, read_plain};
+use ror_text::Items;
 use ror_warm::Engine;
 use std::alloc::{AllocError, Global};
 use std::process::Abort;
@@ -157,6 +163,61 @@ fn an_engine_answers_one_question_after_another(rt: HostRuntime) -> Result<(), F
     Ok(())
 }
 
+/// The list with its base.
+fn list_with_base(
+    alloc: Global,
+    engine: &mut Engine,
+    table: &Table,
+    list: &[Statement],
+) -> Result<DecidedList, Fail>
+    ensures { IfOk result (IsDecidedList (most_of Bits.B15) table.now) }
+{
+    if !is_lawful(table, list) {
+        return Err(Fail::new("the list is lawful"));
+    }
+    let list = Items::from(Vec::from_slice(alloc, list)?);
+    Ok(DecidedList::new(alloc, engine, table, list, Bits::B15)?)
+}
+
+/// What is said on the question over the list.
+fn said_over(
+    alloc: Global,
+    engine: &mut Engine,
+    table: &Table,
+    list: &DecidedList,
+    question: &Question,
+) -> Result<Said, Fail>
+    requires { IsDecidedList (most_of Bits.B15) table.now list.now }
+{
+    if !is_asked(table, question) {
+        return Err(Fail::new("the question is valid"));
+    }
+    let answer = list.answer(alloc, engine, table, question, Bits::B15)?;
+    Ok(outcome(&answer.verdict))
+}
+
+#[test]
+fn two_lists_are_asked_in_turn(rt: HostRuntime) -> Result<(), Fail> {
+    let table = three_alternatives(rt.alloc())?;
+    let mut engine = Engine::new(rt.alloc());
+    let stated = [Statement::Prefer(0, 1)];
+    let nothing = list_with_base(rt.alloc(), &mut engine, &table, &[])?;
+    let something = list_with_base(rt.alloc(), &mut engine, &table, &stated)?;
+    assert!(rt; nothing.statements().is_empty() && something.statements() == stated.as_slice());
+    for (question, over_nothing, over_something) in [
+        (Question::Necessary(0, 1), Said::No, Said::Yes),
+        (Question::Possible(1, 0), Said::Yes, Said::No),
+    ] {
+        let said = said_over(rt.alloc(), &mut engine, &table, &nothing, &question)?;
+        assert_eq!(rt; said, over_nothing);
+        let said = said_over(rt.alloc(), &mut engine, &table, &something, &question)?;
+        assert_eq!(rt; said, over_something);
+        let alone = decided(&rt, &table, &stated, &question, Bits::B15)?;
+        assert_eq!(rt; said, alone);
+    }
+    Ok(())
+}
+
 /// What the system of the statements comes to: its number of pivots, and whether it is solvable where it isn't too wide.
 fn decided_base(
     alloc: Global,
@@ -187,6 +248,14 @@ fn one_system_is_decided_and_its_pivots_counted(rt: HostRuntime) -> Result<(), F
     let both = [Statement::Prefer(0, 1), Statement::Prefer(1, 0)];
     let (pivots, solvable) = decided_base(rt.alloc(), &table, &both, Bits::B15)?;
     assert!(rt; pivots > 0 && solvable == Some(false));
+    Ok(())
+}
+
+#[test]
+fn pairs_are_in_order(rt: HostRuntime) -> Result<(), Fail> {
+    let pairs = ordered_pairs(rt.alloc(), 3)?;
+    let expected = [(0, 1), (0, 2), (1, 0), (1, 2), (2, 0), (2, 1)];
+    assert!(rt; pairs.as_slice() == expected.as_slice());
     Ok(())
 }
 

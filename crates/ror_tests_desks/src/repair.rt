@@ -5,6 +5,7 @@ use ror_pivot::Bits;
 use ror_proof::{Certificate, Kept};
 use ror_repair::{repair, repair_counted};
 use ror_statement::{Numbered, Statement};
+use ror_system::Numbers;
 use ror_table::{Table, read_plain};
 use std::alloc::Global;
 use std::test::Fail;
@@ -36,9 +37,14 @@ fn a_repair_need_not_be_counted(rt: HostRuntime) -> Result<(), Fail> {
     Ok(())
 }
 
+/// Whether the list is of these numbers.
+fn are(list: &Numbers, numbers: &[i128]) -> bool {
+    list.len() == numbers.len() && (0..list.len()).all(|place| list.entry(place) == numbers[place])
+}
+
 fn has_steps(base: &Certificate, steps: &[i128]) -> bool {
     match base {
-        Certificate::Solution(solution) => solution.steps.as_slice() == steps,
+        Certificate::Solution(solution) => are(&solution.steps, steps),
         Certificate::Multipliers(_) => false,
     }
 }
@@ -46,7 +52,7 @@ fn has_steps(base: &Certificate, steps: &[i128]) -> bool {
 fn has_multipliers(base: &Certificate, weak: &[i128], strict: &[i128]) -> bool {
     match base {
         Certificate::Solution(_) => false,
-        Certificate::Multipliers(m) => m.weak.as_slice() == weak && m.strict.as_slice() == strict,
+        Certificate::Multipliers(m) => are(&m.weak, weak) && are(&m.strict, strict),
     }
 }
 
@@ -54,9 +60,7 @@ fn has_multipliers(base: &Certificate, weak: &[i128], strict: &[i128]) -> bool {
 fn drops_one(kept: &Kept, number: u32, weak: &[i128], strict: &[i128]) -> bool {
     match kept.dropped.as_slice() {
         [one] => {
-            one.number == number
-                && one.proof.weak.as_slice() == weak
-                && one.proof.strict.as_slice() == strict
+            one.number == number && are(&one.proof.weak, weak) && are(&one.proof.strict, strict)
         }
         _ => false,
     }

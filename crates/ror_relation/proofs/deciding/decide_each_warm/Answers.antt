@@ -1,6 +1,7 @@
-use Rattle.std.proofs.Common.{rules, arith, ◌+◌, take, List, sym, subst}
+use Rattle.std.proofs.Common.{rules, arith, ◌≡◌, ◌+◌, take, get_or, List, sym, subst}
 use Rattle.std.specs.List.{AllZip}
 use Rattle.ror_pivot.specs.Answers.{most_of}
+use Rattle.ror_statement.specs.declared.statement.Statement.{Statement}
 use Rattle.ror_statement.specs.declared.question.Question.TheVariants.{Consistent}
 use Rattle.ror_proof.specs.declared.answer.Answer.{Answer}
 use Rattle.ror_relation.specs.Answers.{IsGiven}
@@ -15,7 +16,9 @@ loop-question-preserved c =
     let i = c.loop-question.question-index in
     let most = most_of c.args.bits in
     let answer = c.in_ok-answer in
-    let more = zip_more (IsGiven most t list) questions c.loop-question.answers.items i Consistent answer.answer (search rules) c.loop-question.invariant.1 answer.ensures.given in
+    let same : c.in_ok-decided.decided.list ≡ list = search rules in
+    let given = subst (λ (list : List Statement). IsGiven most t list (get_or questions i Consistent) answer.answer) same answer.ensures.given in
+    let more = zip_more (IsGiven most t list) questions c.loop-question.answers.items i Consistent answer.answer (search rules) c.loop-question.invariant.1 given in
     let before = c.loop-question.invariant.2 in
     let risen = answer.ensures.counted in
     (c.loop-question.invariant.0, subst (λ (answers : List Answer). AllZip (IsGiven most t list) (take (i + 1) questions) answers) (sym {A = List Answer} c.in_ok-push.ensures.items) more, omega (arith, before, risen))

@@ -12,7 +12,7 @@ use Rattle.ror_check.specs.Steps.{AreUsable}
 use Rattle.ror_check.proofs.Checking.{systems_usable, few_systems}
 use Rattle.ror_relation.specs.Decisions.{ShowsAsBase}
 use Rattle.ror_relation.proofs.Concluding.{searched, concluded_given}
-use Rattle.ror_relation.proofs.deciding.verdict_over.Goals as goal
+use Rattle.ror_relation.proofs.decided.verdict_over.Goals as goal
 
 pub first_solvable-requires-clause-columns : goal.first_solvable-requires-clause-columns
 first_solvable-requires-clause-columns c = ap (λ (s : LinearSystem). s.columns) c.requires.system
