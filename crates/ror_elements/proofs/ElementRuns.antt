@@ -153,7 +153,7 @@ opens : (spaced : Bool) (line start : ℕ) (top : Open) (below : List Open) (tag
 unfolding plain in_tag open_element opened is_bad_root
 opens spaced line start top below tag j form = rw form refl
 
-slash_step : (spaced : Bool) (line start : ℕ) (top : Open) (below : List Open) (tag : Tag) (j : Reader) → plain (tagged (modes.Tag spaced) line start top below tag j) 47 ≡ Ok (tagged modes.EmptyTag line start top below tag j)
+pub slash_step : (spaced : Bool) (line start : ℕ) (top : Open) (below : List Open) (tag : Tag) (j : Reader) → plain (tagged (modes.Tag spaced) line start top below tag j) 47 ≡ Ok (tagged modes.EmptyTag line start top below tag j)
 unfolding plain in_tag
 slash_step spaced line start top below tag j = refl
 
@@ -209,7 +209,7 @@ end_now : (name : List ℕ) (line start : ℕ) (top around : Open) (outer : List
 unfolding plain plain_in_end_name plain_after_end_name
 end_now name line start top around outer j some same = rw (some, same) refl
 
-end_white : (name : List ℕ) (byte line start : ℕ) (top around : Open) (outer : List Open) (j : Reader) → is_none name ≡ false → bytes_eq name top.name ≡ true → is_white byte ≡ true
+pub end_white : (name : List ℕ) (byte line start : ℕ) (top around : Open) (outer : List Open) (j : Reader) → is_none name ≡ false → bytes_eq name top.name ≡ true → is_white byte ≡ true
     → plain (in_end name line start top (around ∷ outer) j) byte ≡ Ok (at modes.AfterEndName (line_after line byte) top (around ∷ outer) (record j { start = start; piece = name }))
 unfolding plain plain_in_end_name plain_after_end_name
 end_white name byte line start top around outer j some same white = rw (white_unnamed byte white, white, some, same) refl

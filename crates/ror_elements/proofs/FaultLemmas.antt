@@ -210,7 +210,7 @@ clean_more : (before : List ℕ) (byte : ℕ) → IsClean before → is_control 
 clean_more [] byte clean is = (is, tt)
 clean_more (first ∷ before) byte clean is = (clean.0, clean_more before byte clean.1 is)
 
-control_low : (byte : ℕ) → is_control byte ≡ true → byte < 128
+pub control_low : (byte : ℕ) → is_control byte ≡ true → byte < 128
 control_low byte is = by (nat_lt byte 32) (not (is_white byte)) (ltb-true byte 32) is
   where
     by : (low dark : Bool) → (low ≡ true → byte < 32) → (low && dark) ≡ true → byte < 128

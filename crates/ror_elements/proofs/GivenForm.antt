@@ -48,7 +48,7 @@ too_many line start top below j last deep e =
     let parts = run_split (47 ∷ []) (62 ∷ []) (in_start root_name line start top below j) last e in
     ok_or_err parts.0 _ (sym parts.1 ∙ deep_here root_name 47 line start top below j refl deep)
 
-inside_fails : (line : ℕ) (top around : Open) (outer : List Open) (j last : Reader) (root : Tree) → run (at modes.Content line top (around ∷ outer) j) (codes "<XMCDA/>") ≡ Ok last → finish last ≡ Ok root → ⊥
+pub inside_fails : (line : ℕ) (top around : Open) (outer : List Open) (j last : Reader) (root : Tree) → run (at modes.Content line top (around ∷ outer) j) (codes "<XMCDA/>") ≡ Ok last → finish last ≡ Ok root → ⊥
 inside_fails line top around outer j last root e f = elim (cases_Bool (nat_le 64 (length (around ∷ outer)))) [
   | inl deep ↦ too_many (line_at line root_name) line top (around ∷ outer) j last deep (sym (start_name-run root_name root_name-is root_begins line top (around ∷ outer) j (47 ∷ 62 ∷ []) refl) ∙ e)
   | inr few ↦
@@ -57,7 +57,7 @@ inside_fails line top around outer j last root e f = elim (cases_Bool (nat_le 64
       unclosed _ around outer _ g.0 root (ap finish same ∙ f)
 ]
 
-second_fails : (line : ℕ) (top : Open) (j last : Reader) → is_none top.children ≡ false → run (at modes.Content line top [] j) (codes "<XMCDA/>") ≡ Ok last → ⊥
+pub second_fails : (line : ℕ) (top : Open) (j last : Reader) → is_none top.children ≡ false → run (at modes.Content line top [] j) (codes "<XMCDA/>") ≡ Ok last → ⊥
 unfolding run plain in_content in_markup begin_tag
 second_fails line top j last some e = let f = rw some at e in absurd cc
 

@@ -1,9 +1,9 @@
 -- References for no character are given wherever a text has them.
-use Rattle.std.proofs.Common.{◌≡◌, ℕ, true, List, [], ◌∷◌, ◌++◌, Option, Some, None, Err, refl, ap, subst, ◌∙◌, inl, inr}
+use Rattle.std.proofs.Common.{◌≡◌, ℕ, true, false, List, [], ◌∷◌, ◌++◌, Option, Some, None, Err, refl, sym, ap, subst, ◌∙◌, inl, inr}
 use Rattle.std.specs.Prelude.{◌⊎◌, ◌==◌}
 use Rattle.std.specs.List.{AllByRecursion}
 use Rattle.std.specs.Str.{IsUtf8}
-use Rattle.std.proofs.lemmas.Bool.{eqb-true, false_from_ne_true}
+use Rattle.std.proofs.lemmas.Bool.{eqb-true, false_from_ne_true, true≢false}
 use Rattle.ror_text.specs.Reading.{read_all}
 use Rattle.ror_text.proofs.ReadingLemmas.{bind-at_err}
 use Rattle.ror_elements.specs.declared.element.ElementFault.{ElementFault}
@@ -18,15 +18,16 @@ use Rattle.ror_elements.specs.declared.reader.Reader.{Reader}
 use Rattle.ror_elements.specs.declared.reader.Tag.{Tag}
 use Rattle.ror_elements.specs.Elements.{read, finish, elements_of, without_mark}
 use Rattle.ror_elements.specs.Faults.{fault}
-use Rattle.ror_elements.specs.Grammar.{AreDigits}
+use Rattle.ror_elements.specs.Grammar.{AreDigits, IsCharacter}
+use Rattle.ror_elements.specs.Marks.{is_name_byte}
 use Rattle.ror_elements.specs.Reader.{nothing_read, in_content, end_reference, in_reference}
-use Rattle.ror_elements.specs.Refusals.{IsClean, AreReferenceBytes, IsNoName}
-use Rattle.ror_elements.specs.References.{entity, number_of, character_of}
+use Rattle.ror_elements.specs.Refusals.{IsClean, AreReferenceBytes, IsNoName, IsBadReference}
+use Rattle.ror_elements.specs.References.{entity, number_of, character_at, character_of}
 use Rattle.ror_elements.specs.Tags.{add_byte, in_value}
 use Rattle.ror_elements.proofs.ElementRuns.{some_name}
 use Rattle.ror_elements.proofs.GivenFaults.{read_err}
 use Rattle.ror_elements.proofs.LawLemmas.{without_mark-IsUtf8, past_utf8}
-use Rattle.ror_elements.proofs.NameLemmas.{which, is_reference_byte, entity_named, some_digits}
+use Rattle.ror_elements.proofs.NameLemmas.{which, is_reference_byte, entity_named, some_digits, character_code}
 use Rattle.ror_elements.proofs.PlainReader.{plain, run, same_part}
 use Rattle.ror_elements.proofs.Runs.{line_at, at}
 use Rattle.ror_elements.proofs.TagRuns.{referring, name-run, tagged}
@@ -42,7 +43,7 @@ given_by bytes front after f u split clean e =
 
 -- ---- the character of a name
 
-number_shape : (name : List ℕ) (number : ℕ) → number_of name ≡ Some number → ((digits : List ℕ) × AreDigits 10 digits × (name ≡ 35 ∷ digits)) ⊎ ((digits : List ℕ) × AreDigits 16 digits × (name ≡ 35 ∷ 120 ∷ digits))
+pub number_shape : (name : List ℕ) (number : ℕ) → number_of name ≡ Some number → ((digits : List ℕ) × AreDigits 10 digits × (name ≡ 35 ∷ digits)) ⊎ ((digits : List ℕ) × AreDigits 16 digits × (name ≡ 35 ∷ 120 ∷ digits))
 unfolding number_of
 number_shape [] number e = absurd cc
 number_shape (first ∷ []) number e = elim (which (first == 35) _ _ (Some number) e) [ inl h ↦ absurd cc | inr h ↦ absurd cc ]
@@ -85,7 +86,7 @@ pub record Referring (from : Reader) (line : ℕ) : Type 0 where
   pub like : Reader
   pub begins : (more : List ℕ) → run from (38 ∷ more) ≡ run (referring home [] line top below (record like { reference_line = line })) more
 
-ended_here : (home : Home) (name : List ℕ) (l : ℕ) (top : Open) (below : List Open) (j : Reader) (f : ElementFault) → character_of j.reference_line name ≡ Err f → run (referring home name l top below j) (59 ∷ []) ≡ Err f
+pub ended_here : (home : Home) (name : List ℕ) (l : ℕ) (top : Open) (below : List Open) (j : Reader) (f : ElementFault) → character_of j.reference_line name ≡ Err f → run (referring home name l top below j) (59 ∷ []) ≡ Err f
 unfolding run plain in_reference end_reference
 ended_here home name l top below j f e = rw e refl
 
@@ -103,3 +104,39 @@ pub in_value-refers : (quote : Quote) (line start : ℕ) (top : Open) (below : L
 unfolding run plain in_value add_byte
 in_value-refers quotes.Single line start top below tag j = record { home = homes.Value quotes.Single; top = top; below = below; like = tagged (modes.Value quotes.Single) line start top below tag j; begins = λ more. refl }
 in_value-refers quotes.Double line start top below tag j = record { home = homes.Value quotes.Double; top = top; below = below; like = tagged (modes.Value quotes.Double) line start top below tag j; begins = λ more. refl }
+
+-- ---- references that are none
+
+unended_here : (home : Home) (name : List ℕ) (byte l : ℕ) (top : Open) (below : List Open) (j : Reader) → is_name_byte byte ≡ false → run (referring home name l top below j) (byte ∷ []) ≡ Err (fault kinds.BadMarkup j.reference_line)
+unfolding run plain in_reference
+unended_here home name byte l top below j unnamed = rw (unnamed, other) refl
+  where
+    other : (byte == 59) ≡ false
+    other = false_from_ne_true (byte == 59) (λ e. true≢false (ap is_name_byte (sym (eqb-true byte 59 e)) ∙ unnamed))
+
+no_code : (code : ℕ) → ¬ (IsCharacter code) → (o : Option ℕ) → character_at code ≡ o → o ≡ None
+no_code code not_character None e = refl
+no_code code not_character (Some there) e = absurd (not_character (character_code code there e).0)
+
+no_entity_number : (name : List ℕ) (code : ℕ) → number_of name ≡ Some code → entity name ≡ None
+unfolding entity
+no_entity_number name code e = elim (number_shape name code e) [
+  | inl d ↦ subst (λ (n : List ℕ). entity n ≡ None) (sym d.2) refl
+  | inr d ↦ subst (λ (n : List ℕ). entity n ≡ None) (sym d.2) refl
+]
+
+bad_character : (line : ℕ) (name : List ℕ) (code : ℕ) → number_of name ≡ Some code → ¬ (IsCharacter code) → character_of line name ≡ Err (fault kinds.BadMarkup line)
+unfolding character_of
+bad_character line [] code e not_character = refl
+bad_character line (byte ∷ name) code e not_character = rw (no_entity_number (byte ∷ name) code e, e, no_code code not_character (character_at code) refl) refl
+
+unnamed_character : (line : ℕ) → character_of line [] ≡ Err (fault kinds.BadMarkup line)
+unfolding character_of
+unnamed_character line = refl
+
+pub bad_reference : (from : Reader) (line : ℕ) (bytes : List ℕ) → IsBadReference bytes → Referring from line → run from (38 ∷ bytes) ≡ Err (fault kinds.BadMarkup line)
+bad_reference from line bytes (IsBadReference.unended name byte all unnamed) r =
+    let k = record r.like { reference_line = line } in
+    r.begins (name ++ byte ∷ []) ∙ name-run r.home name (as_reference name all) line r.top r.below k (byte ∷ []) ∙ unended_here r.home name byte (line_at line name) r.top r.below k unnamed
+bad_reference from line bytes IsBadReference.unnamed r = ended_reference from line [] (fault kinds.BadMarkup line) r tt (unnamed_character line)
+bad_reference from line bytes (IsBadReference.no_character name code all e not_character) r = ended_reference from line name (fault kinds.BadMarkup line) r all (bad_character line name code e not_character)

@@ -1,10 +1,11 @@
--- References in values that are for no character are given wherever a text has them.
+-- References that are for no character, or are none, are given wherever a text has them.
 use Rattle.std.proofs.Common.{◌≡◌, ℕ, ◌<◌, false, not, List, [], ◌∷◌, ◌++◌, append_assoc, append-nil, length, Err, refl, sym, ap, subst, ◌∙◌, arith, inl, inr}
 use Rattle.std.specs.List.{list_any}
 use Rattle.std.specs.Str.{IsUtf8, bytes_eq}
 use Rattle.std.proofs.lemmas.Bool.{cases_Bool, lt-leb}
 use Rattle.std.proofs.lemmas.List.{append_cancel_right}
 use Rattle.ror_text.specs.Reading.{◌>>=◌, read_all}
+use Rattle.ror_elements.specs.declared.element.ElementKind.{ElementKind}
 use Rattle.ror_elements.specs.declared.element.ElementKind.TheVariants as kinds
 use Rattle.ror_elements.specs.declared.mode.Mode.{Mode}
 use Rattle.ror_elements.specs.declared.mode.Mode.TheVariants as modes
@@ -18,7 +19,7 @@ use Rattle.ror_elements.specs.Grammar.{IsName, IsGap, BeginsTag, Attribute, AreA
 use Rattle.ror_elements.specs.Marks.{is_white, is_name_byte}
 use Rattle.ror_elements.specs.Mode.{quote_byte}
 use Rattle.ror_elements.specs.Reader.{nothing_read}
-use Rattle.ror_elements.specs.Refusals.{IsBeforeRoot, IsFront, StandsAt, TagStandsAt, IsInValue, IsNoName, RefersAt, HasEntity}
+use Rattle.ror_elements.specs.Refusals.{IsBeforeRoot, IsFront, StandsAt, TagStandsAt, IsInValue, IsBadReference, RefersAt, HasEntity}
 use Rattle.ror_elements.specs.Tags.{opened, is_bad_root, open_element, begin_attribute, in_tag, in_start_name, before_value}
 use Rattle.ror_elements.proofs.ElementRuns.{named_tag, in_start, start_name-run}
 use Rattle.ror_elements.proofs.FaultFronts.{run_on, count_names}
@@ -26,7 +27,7 @@ use Rattle.ror_elements.proofs.FaultValues.{twice_last}
 use Rattle.ror_elements.proofs.FaultWords.{open_names, is_closed}
 use Rattle.ror_elements.proofs.GivenFaults.{clean_append, on_from, front_clean, reached_by, from_known, open_is_content}
 use Rattle.ror_elements.proofs.GivenForm.{led}
-use Rattle.ror_elements.proofs.GivenReferences.{Referring, given_by, no_character_of, ended_reference, in_text-refers, in_value-refers}
+use Rattle.ror_elements.proofs.GivenReferences.{bad_reference, Referring, given_by, no_character_of, ended_reference, in_text-refers, in_value-refers}
 use Rattle.ror_elements.proofs.LawLemmas.{lines_are_counted, without_mark-IsUtf8}
 use Rattle.ror_elements.proofs.TextLemmas.{cut_front}
 use Rattle.ror_elements.proofs.PlainReader.{plain, run}
@@ -108,7 +109,7 @@ names_with tag (a ∷ list) = names_with (with_attribute tag a) list ∙ append_
 -- ---- up to what stands in a value
 
 -- a name that stays distinct is none of the others
-new_name : (names : List (List ℕ)) (name : List ℕ) → AreDistinct (names ++ name ∷ []) → list_any (bytes_eq name) names ≡ false
+pub new_name : (names : List (List ℕ)) (name : List ℕ) → AreDistinct (names ++ name ∷ []) → list_any (bytes_eq name) names ≡ false
 new_name names name d = elim (cases_Bool (list_any (bytes_eq name) names)) [
   | inl again ↦ absurd (twice_last names name again d)
   | inr new ↦ new
@@ -118,7 +119,9 @@ new_name names name d = elim (cases_Bool (list_any (bytes_eq name) names)) [
 pub record InQuotes (from : Reader) (line : ℕ) (rest bytes : List ℕ) : Type 0 where
   pub lead : List ℕ
   pub split : rest ≡ lead ++ bytes
+  pub quote : Quote
   pub refers : (r : Reader) × Referring r (line_at line lead) × (run from rest ≡ run r bytes)
+  pub mode : refers.0.mode ≡ modes.Value quote
 
 lead_is : (gap name before after written bytes : List ℕ) (q : ℕ) → gap ++ (name ++ (before ++ (61 ∷ after ++ (q ∷ written ++ bytes)))) ≡ (gap ++ (name ++ (before ++ (61 ∷ after ++ (q ∷ written))))) ++ bytes
 lead_is gap name before after written bytes q =
@@ -140,7 +143,7 @@ lead_line gap name before after written quote line =
     ∙ line_at-append l2 after (q ∷ written)
     ∙ ap (λ l. line_at l written) (quote_line quote l3))
 
-in_quotes : (names : List (List ℕ)) (bytes rest : List ℕ) → IsInValue names bytes rest → (line start : ℕ) (top : Open) (below : List Open) (tag : Tag) (j : Reader) → tag.names ≡ names → InQuotes (tagged (modes.Tag false) line start top below tag j) line rest bytes
+pub in_quotes : (names : List (List ℕ)) (bytes rest : List ℕ) → IsInValue names bytes rest → (line start : ℕ) (top : Open) (below : List Open) (tag : Tag) (j : Reader) → tag.names ≡ names → InQuotes (tagged (modes.Tag false) line start top below tag j) line rest bytes
 unfolding plain before_value
 in_quotes names bytes rest (IsInValue.behind gap name before after written value quote g n d b c v) line start top below tag j e =
     let q = quote_byte quote in
@@ -156,6 +159,8 @@ in_quotes names bytes rest (IsInValue.behind gap name before after written value
     record {
       lead = gap ++ (name ++ (before ++ (61 ∷ after ++ (q ∷ written))));
       split = lead_is gap name before after written bytes q;
+      quote = quote;
+      mode = refl;
       refers = (
         from,
         subst (Referring from) (lead_line gap name before after written quote line) (in_value-refers quote l4 start top below (with_value (naming tag name) value) inside.0),
@@ -170,36 +175,35 @@ in_quotes names bytes rest (IsInValue.behind gap name before after written value
 
 -- ---- the text
 
-white_ends : (gap : List ℕ) → IsGap gap → (more : List ℕ) → EndsAName (gap ++ more)
+pub white_ends : (gap : List ℕ) → IsGap gap → (more : List ℕ) → EndsAName (gap ++ more)
 white_ends [] g more = absurd (g.1 refl)
 white_ends (byte ∷ gap) g more = record { byte = byte; more = gap ++ more; split = refl; ends = white_unnamed byte g.0.0 }
 
-value_ends : (names : List (List ℕ)) (bytes rest : List ℕ) → IsInValue names bytes rest → EndsAName rest
+pub value_ends : (names : List (List ℕ)) (bytes rest : List ℕ) → IsInValue names bytes rest → EndsAName rest
 value_ends names bytes rest (IsInValue.behind gap name before after written value quote g n d b c v) = white_ends gap g (name ++ (before ++ (61 ∷ after ++ (quote_byte quote ∷ written ++ bytes))))
 
-attributes_end : (written rest : List ℕ) (list : List Attribute) → AreAttributes written list → EndsAName rest → EndsAName (written ++ rest)
+pub attributes_end : (written rest : List ℕ) (list : List Attribute) → AreAttributes written list → EndsAName rest → EndsAName (written ++ rest)
 attributes_end written rest list AreAttributes.nothing e = e
 attributes_end written rest list (AreAttributes.more gap first others a more g f r) e =
     subst EndsAName (sym (append_assoc gap (first ++ others) rest)) (white_ends gap g ((first ++ others) ++ rest))
 
 -- the name of a tag begins with a byte other than `?`
-record OwnBegins (bytes : List ℕ) : Type 0 where
-  byte : ℕ
-  more : List ℕ
-  split : bytes ≡ byte ∷ more
-  other : ¬ (byte ≡ 63)
+pub record OwnBegins (bytes : List ℕ) : Type 0 where
+  pub byte : ℕ
+  pub more : List ℕ
+  pub split : bytes ≡ byte ∷ more
+  pub other : ¬ (byte ≡ 63)
 
-own_begins : (name rest : List ℕ) → BeginsTag name → OwnBegins (name ++ rest)
+pub own_begins : (name rest : List ℕ) → BeginsTag name → OwnBegins (name ++ rest)
 own_begins [] rest b = absurd b
 own_begins (byte ∷ name) rest b = record { byte = byte; more = name ++ rest; split = refl; other = b.1 }
 
-in_value_given : (bytes : List ℕ) (line : ℕ) (name : List ℕ) → IsUtf8 bytes → IsNoName name → (around names : List (List ℕ)) (tag own rest : List ℕ) (start : ℕ) (before : List ℕ) (there : TagStandsAt (without_mark bytes) start around tag own names rest)
-    → IsInValue names (38 ∷ name ++ 59 ∷ []) rest → without_mark bytes ≡ before ++ ((38 ∷ name ++ 59 ∷ []) ++ there.stands.after) → line ≡ line_behind 1 before → elements_of bytes ≡ Err (fault kinds.Entity line)
-in_value_given bytes line name u none around names tag own rest start before there v split lines =
+in_value_given : (bytes : List ℕ) (line : ℕ) (kind : ElementKind) (reference : List ℕ) → IsUtf8 bytes → ((from : Reader) (l : ℕ) → Referring from l → run from reference ≡ Err (fault kind l)) → (around names : List (List ℕ)) (tag own rest : List ℕ) (start : ℕ) (before : List ℕ) (there : TagStandsAt (without_mark bytes) start around tag own names rest)
+    → IsInValue names reference rest → without_mark bytes ≡ before ++ (reference ++ there.stands.after) → line ≡ line_behind 1 before → elements_of bytes ≡ Err (fault kind line)
+in_value_given bytes line kind reference u fails around names tag own rest start before there v split lines =
     let s = there.stands in
     let b = there.is_begun in
     let text = without_mark-IsUtf8 bytes u in
-    let reference = 38 ∷ name ++ 59 ∷ [] in
     let inside = own ++ (b.written ++ rest) in
     let front_u = cut_front s.front (inside ++ s.after) 60 (omega arith) (subst IsUtf8 (s.whole ∙ ap (λ (xs : List ℕ). s.front ++ (xs ++ s.after)) b.whole) text) in
     let l = led_tag s.front around front_u s.is_front there.first in
@@ -225,7 +229,7 @@ in_value_given bytes line name u none around names tag own rest start before the
     ∙ line_at-append first own (b.written ++ quotes_at.lead) ∙ line_at-append (line_at first own) b.written quotes_at.lead)
     in
     let begins = own_begins own (b.written ++ rest) b.begins in
-    given_by bytes (s.front ++ tag) s.after (fault kinds.Entity line) u
+    given_by bytes (s.front ++ tag) s.after (fault kind line) u
     (s.whole ∙ sym (append_assoc s.front tag s.after)) (clean_append s.front tag (front_clean s.front around s.is_front) s.clean)
     (ap (λ (xs : List ℕ). run nothing_read (s.front ++ xs)) b.whole
     ∙ ap (λ (xs : List ℕ). run nothing_read (s.front ++ 60 ∷ xs)) begins.split
@@ -233,28 +237,31 @@ in_value_given bytes line name u none around names tag own rest start before the
     ∙ ap (λ (xs : List ℕ). run (at modes.Content first l.top l.below l.like) (60 ∷ xs)) (sym begins.split)
     ∙ tag_run.1
     ∙ quotes_at.refers.2
-    ∙ ended_reference quotes_at.refers.0 (line_at l2 quotes_at.lead) name (fault kinds.Entity (line_at l2 quotes_at.lead)) quotes_at.refers.1 none.are (no_character_of (line_at l2 quotes_at.lead) name none)
-    ∙ ap (λ n. Err (fault kinds.Entity n)) at_line)
+    ∙ fails quotes_at.refers.0 (line_at l2 quotes_at.lead) quotes_at.refers.1
+    ∙ ap (λ n. Err (fault kind n)) at_line)
 
-text_fails : (name opened : List ℕ) (names : List (List ℕ)) → IsNoName name → (line : ℕ) (top : Open) (below : List Open) (j : Reader) → open_names top below ≡ opened ∷ names → run (at modes.Content line top below j) (38 ∷ name ++ 59 ∷ []) ≡ Err (fault kinds.Entity line)
-text_fails name opened names none line top [] j e = absurd cc
-text_fails name opened names none line top (around ∷ outer) j e = ended_reference (at modes.Content line top (around ∷ outer) j) line name (fault kinds.Entity line) (in_text-refers line top around outer j) none.are (no_character_of line name none)
+text_fails : (kind : ElementKind) (part opened : List ℕ) (names : List (List ℕ)) → ((from : Reader) (l : ℕ) → Referring from l → run from (38 ∷ part) ≡ Err (fault kind l)) → (line : ℕ) (top : Open) (below : List Open) (j : Reader) → open_names top below ≡ opened ∷ names → run (at modes.Content line top below j) (38 ∷ part) ≡ Err (fault kind line)
+text_fails kind part opened names fails line top [] j e = absurd cc
+text_fails kind part opened names fails line top (around ∷ outer) j e = fails (at modes.Content line top (around ∷ outer) j) line (in_text-refers line top around outer j)
 
-in_text_given : (bytes : List ℕ) (line : ℕ) (name opened : List ℕ) (names : List (List ℕ)) → IsUtf8 bytes → IsNoName name → StandsAt (without_mark bytes) line (opened ∷ names) (38 ∷ name ++ 59 ∷ []) → elements_of bytes ≡ Err (fault kinds.Entity line)
-in_text_given bytes line name opened names u none s =
-    let reference = 38 ∷ name ++ 59 ∷ [] in
-    let front_u = cut_front s.front ((name ++ 59 ∷ []) ++ s.after) 38 (omega arith) (subst IsUtf8 s.whole (without_mark-IsUtf8 bytes u)) in
+in_text_given : (bytes : List ℕ) (line : ℕ) (kind : ElementKind) (part opened : List ℕ) (names : List (List ℕ)) → IsUtf8 bytes → ((from : Reader) (l : ℕ) → Referring from l → run from (38 ∷ part) ≡ Err (fault kind l)) → StandsAt (without_mark bytes) line (opened ∷ names) (38 ∷ part) → elements_of bytes ≡ Err (fault kind line)
+in_text_given bytes line kind part opened names u fails s =
+    let reference = 38 ∷ part in
+    let front_u = cut_front s.front (part ++ s.after) 38 (omega arith) (subst IsUtf8 s.whole (without_mark-IsUtf8 bytes u)) in
     let k = from_known s.front opened names (opened ∷ names) refl s.is_front in
     let r = k.reader in
     let reached = reached_by s.front r front_u (front_clean s.front (opened ∷ names) s.is_front) k.runs in
     let content = open_is_content s.front opened names k reached in
-    given_by bytes (s.front ++ reference) s.after (fault kinds.Entity line) u
+    given_by bytes (s.front ++ reference) s.after (fault kind line) u
     (s.whole ∙ sym (append_assoc s.front reference s.after)) (clean_append s.front reference (front_clean s.front (opened ∷ names) s.is_front) s.clean)
-    (on_from s.front reference r kinds.Entity k.runs reached content (text_fails name opened names none r.line r.top r.below r (k.opened content)) ∙ ap (λ n. Err (fault kinds.Entity n)) (sym s.is_line))
+    (on_from s.front reference r kind k.runs reached content (text_fails kind part opened names fails r.line r.top r.below r (k.opened content)) ∙ ap (λ n. Err (fault kind n)) (sym s.is_line))
+
+refers_given : (bytes : List ℕ) (line : ℕ) (kind : ElementKind) (part : List ℕ) → IsUtf8 bytes → ((from : Reader) (l : ℕ) → Referring from l → run from (38 ∷ part) ≡ Err (fault kind l)) → RefersAt (without_mark bytes) line (38 ∷ part) → elements_of bytes ≡ Err (fault kind line)
+refers_given bytes line kind part u fails (RefersAt.in_text opened names s) = in_text_given bytes line kind part opened names u fails s
+refers_given bytes line kind part u fails (RefersAt.in_value around names tag own rest start before there v split lines) = in_value_given bytes line kind (38 ∷ part) u fails around names tag own rest start before there v split lines
 
 pub entity_given : (bytes : List ℕ) (line : ℕ) → IsUtf8 bytes → HasEntity (without_mark bytes) line → elements_of bytes ≡ Err (fault kinds.Entity line)
-entity_given bytes line u h = by h.2
-  where
-    by : RefersAt (without_mark bytes) line (38 ∷ h.0 ++ 59 ∷ []) → elements_of bytes ≡ Err (fault kinds.Entity line)
-    by (RefersAt.in_text opened names s) = in_text_given bytes line h.0 opened names u h.1 s
-    by (RefersAt.in_value around names tag own rest start before there v split lines) = in_value_given bytes line h.0 u h.1 around names tag own rest start before there v split lines
+entity_given bytes line u h = refers_given bytes line kinds.Entity (h.0 ++ 59 ∷ []) u (λ from l r. ended_reference from l h.0 (fault kinds.Entity l) r h.1.are (no_character_of l h.0 h.1)) h.2
+
+pub reference_given : (bytes : List ℕ) (line : ℕ) (part : List ℕ) → IsUtf8 bytes → IsBadReference part → RefersAt (without_mark bytes) line (38 ∷ part) → elements_of bytes ≡ Err (fault kinds.BadMarkup line)
+reference_given bytes line part u bad h = refers_given bytes line kinds.BadMarkup part u (λ from l r. bad_reference from l part bad r) h

@@ -3,6 +3,7 @@ pub mod ChildLemmas
 pub mod NumberLemmas
 pub mod DepthLemmas
 pub mod TextLemmas
+pub mod TreeLemmas
 pub mod LawLemmas
 pub mod ListedLemmas
 pub mod PlainReader
@@ -35,4 +36,10 @@ pub mod GivenFaults
 pub mod GivenForm
 pub mod GivenReferences
 pub mod GivenTags
+pub mod GivenFronts
+pub mod GivenMarkup
+pub mod GivenRests
+pub mod GivenStuck
+pub mod GivenCuts
+pub mod GivenOutside
 pub mod GivenLaw

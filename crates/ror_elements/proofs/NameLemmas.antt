@@ -121,7 +121,7 @@ some_digits base (digit ∷ digits) code e = tested (are_digits base (digit ∷ 
     tested true all e = ((all refl, λ no. absurd cc), cc)
     tested false all e = absurd cc
 
-character_code : (code there : ℕ) → character_at code ≡ Some there → IsCharacter code × (code ≡ there)
+pub character_code : (code there : ℕ) → character_at code ≡ Some there → IsCharacter code × (code ≡ there)
 character_code code there e = tested (nat_lt 0 code) (nat_lt code 0xD800) (nat_le 0xE000 code && nat_lt code 0x110000) (ltb-true 0 code) (λ x. x) e
   where
     tested : (positive low high : Bool) → (positive ≡ true → 0 < code) → ((if low then true else high) ≡ true → IsScalar code) → (if positive && (low || high) then Some code else None) ≡ Some there → IsCharacter code × (code ≡ there)

@@ -7,6 +7,7 @@ pub mod Mode
 pub mod Faults
 pub mod Open
 pub mod References
+pub mod Short
 pub mod Declarations
 pub mod Reader
 pub mod Tags

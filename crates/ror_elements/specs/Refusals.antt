@@ -324,17 +324,6 @@ HasFault kinds.Entity bytes line = IsUtf8 bytes × HasEntity (without_mark bytes
 abbrev pub FaultsAreWhatTheySay : Type 0
 FaultsAreWhatTheySay = (bytes : List ℕ) (first : ElementFault) → elements_of bytes ≡ Err first → HasFault first.kind bytes first.line
 
--- these kinds of fault are given wherever a text has them, so that it has no other of them
-abbrev pub IsSettled : ElementKind → Type 0
-IsSettled kinds.NotUtf8 = Unit {0}
-IsSettled kinds.Form = Unit {0}
-IsSettled kinds.TooDeep = Unit {0}
-IsSettled kinds.Mismatched = Unit {0}
-IsSettled kinds.Doctype = Unit {0}
-IsSettled kinds.Encoding = Unit {0}
-IsSettled kinds.Entity = Unit {0}
-IsSettled _ = ⊥
-
-abbrev pub SettledFaultsAreGiven : Type 0
-SettledFaultsAreGiven = (bytes : List ℕ) (kind : ElementKind) (line : ℕ) → IsSettled kind → HasFault kind bytes line
-    → elements_of bytes ≡ Err (fault kind line)
+-- wherever a text has a fault it is given, so that it has no other
+abbrev pub FaultsAreGiven : Type 0
+FaultsAreGiven = (bytes : List ℕ) (kind : ElementKind) (line : ℕ) → HasFault kind bytes line → elements_of bytes ≡ Err (fault kind line)

@@ -2,7 +2,9 @@
 use Rattle.std.specs.Prelude.{◌≡◌, ℕ, List, [], ◌∷◌, ◌++◌, Option, Some, None}
 use Rattle.std.specs.Coded.{Coded, code_by, coded_ℕ, coded_list, coded_option, coded×}
 use Rattle.std.proofs.Common.{refl, ap, append_assoc, ◌∙◌}
+use Rattle.std.specs.Global.{Box, Vec}
 use Rattle.ror_elements.specs.declared.element.Element.{Element, fold-Element}
+use Rattle.ror_elements.specs.declared.element.Said.{Said}
 
 mutual
   -- an element with its local name, its id, its text, its line and the elements inside it
@@ -16,13 +18,35 @@ mutual
 abbrev pub name_of : Tree → List ℕ
 name_of (node name id text line inside) = name
 
+abbrev pub id_of : Tree → Option (List ℕ)
+id_of (node name id text line inside) = id
+
+abbrev pub text_of : Tree → List ℕ
+text_of (node name id text line inside) = text
+
+abbrev pub line_of : Tree → ℕ
+line_of (node name id text line inside) = line
+
+abbrev pub list_of : Trees → List Tree
+list_of none = []
+list_of (also t ts) = t ∷ list_of ts
+
+-- the elements directly inside an element, in order
+abbrev pub inside : Tree → List Tree
+inside (node name id text line ts) = list_of ts
+
 abbrev pub trees_of : List Tree → Trees
 trees_of [] = none
 trees_of (t ∷ ts) = also t (trees_of ts)
 
+-- an element with what is said of it and the elements inside, if there is any of these
+abbrev with_more : List ℕ → ℕ → Option (Box (Said × Vec Tree)) → Tree
+with_more name line None = node name None [] line none
+with_more name line (Some more) = node name more.value.0.id more.value.0.text line (trees_of more.value.1.items)
+
 -- the tree of an element
 abbrev pub tree_of : Element → Tree
-tree_of = fold-Element Tree (λ e. node e.name e.id e.text e.line (trees_of e.children.items))
+tree_of = fold-Element Tree (λ e. with_more e.name e.line e.more)
 
 -- ---- that trees can be told apart: a tree as a list that gives it back
 

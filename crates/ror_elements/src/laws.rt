@@ -3,7 +3,7 @@
 ghost use Rattle.ror_elements.specs.Laws.{LinesAreCounted, GivesTheFirstFault, NoneIsTooDeep, LimitsAre};
 ghost use Rattle.ror_elements.specs.Laws.{NothingIsReplaced, DocumentsAreRead, OneRoot};
 ghost use Rattle.ror_elements.specs.Laws.{KeptElementsAreListed};
-ghost use Rattle.ror_elements.specs.Refusals.{FaultsAreWhatTheySay, SettledFaultsAreGiven};
+ghost use Rattle.ror_elements.specs.Refusals.{FaultsAreWhatTheySay, FaultsAreGiven};
 
 /// The line that is known of a byte is one more than the line ends before it.
 pub fn lines_are_counted()
@@ -22,11 +22,10 @@ pub fn faults_are_what_they_say()
     ensures { FaultsAreWhatTheySay }
 {}
 
-/// Where a text has a fault of one of these kinds by the rule, that fault is given, so that it has no other of
-/// them: that it is no UTF-8, a root of another name, an element that is too deep, an end tag of another
-/// name, a document type, another encoding, a reference for no character.
-pub fn settled_faults_are_given()
-    ensures { SettledFaultsAreGiven }
+/// Where a text has a fault by the rule in `specs/Refusals`, of any kind, that fault is given, so that it has no
+/// other.
+pub fn faults_are_given()
+    ensures { FaultsAreGiven }
 {}
 
 /// No element that is read is deeper than [`MOST_DEPTH`](crate::MOST_DEPTH).

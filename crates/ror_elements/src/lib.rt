@@ -18,7 +18,7 @@
 //!
 //! ```
 //! let root = read_elements(alloc, b"<XMCDA><criteria><criterion id='q'/></criteria></XMCDA>")?;
-//! assert_eq!(root.children[0].children[0].id.as_ref().map(Text::as_str), Some("q"));
+//! assert_eq!(root.children()[0].children()[0].id(), Some("q"));
 //! ```
 
 mod bytes;
@@ -34,6 +34,7 @@ mod open;
 mod reader;
 mod reading;
 mod reference;
+mod short;
 mod tag;
 
 pub use element::{Element, ElementError, ElementFault, ElementKind};

@@ -8,8 +8,9 @@ ghost use Rattle.ror_elements.specs.Faults.{element_fault};
 ghost use Rattle.ror_elements.specs.Tree.{tree_of};
 
 use crate::bytes::Bytes;
-use crate::element::{Element, ElementError, ElementFault, ElementKind};
+use crate::element::{Element, ElementError, ElementFault, ElementKind, Said};
 use crate::marks::{local_name, trimmed};
+use crate::short::Short;
 use ror_text::Text;
 use std::alloc::{AllocError, AllocFailed, Global};
 use std::marker::Model;
@@ -54,11 +55,13 @@ impl Children {
         self.elements.push(element)
     }
 
-    /// The elements in a vector.
+    /// The elements in a vector without spare room.
     pub(crate) fn into_vec(self) -> Vec<Element>
         ensures { map tree_of result.items ≡ self }
     {
-        self.elements
+        let mut elements = self.elements;
+        elements.shrink_to_fit();
+        elements
     }
 
     /// The last element, if there is one.
@@ -171,14 +174,9 @@ fn id_of(alloc: Global, id: &Option<Bytes>) -> Result<Option<Text>, AllocError>
 pub(crate) fn finished(alloc: Global, element: Open) -> Result<Element, AllocError>
     ensures { IfOk result (λ closed. tree_of closed ≡ spec.finished element) }
 {
-    let name = text_of(alloc, local_name(element.name.as_slice()))?;
+    let name = Short::new(alloc, text_of(alloc, local_name(element.name.as_slice()))?)?;
     let id = id_of(alloc, &element.id)?;
-    let text = text_of(alloc, trimmed(element.text.as_slice()))?;
-    Ok(Element {
-        name,
-        id,
-        text,
-        line: element.line,
-        children: element.children.into_vec(),
-    })
+    let text = Short::new(alloc, text_of(alloc, trimmed(element.text.as_slice()))?)?;
+    let children = element.children.into_vec();
+    Element::new(alloc, name, element.line, Said { id, text }, children)
 }

@@ -6,16 +6,9 @@ use Rattle.std.proofs.Math.Seq.{drop-cons}
 use Rattle.std.specs.Prelude.{find, filter, option_map, Result, Ok, Err, IfOk}
 use Rattle.std.specs.Global.{Vec}
 use denote.Ref.{Bor}
-use Rattle.ror_elements.specs.declared.element.Element.{Element, out-Element, fold_out-Element}
-use Rattle.ror_elements.specs.Tree.{Tree, trees_of, tree_of}
-use Rattle.ror_xmcda.specs.Nodes.{list_of, inside, named, at_path}
-
-pub list_of-trees_of : (ts : List Tree) → list_of (trees_of ts) ≡ ts
-list_of-trees_of [] = refl
-list_of-trees_of (t ∷ ts) = ap (λ (us : List Tree). t ∷ us) (list_of-trees_of ts)
-
-pub inside-tree_of : (e : Element) → inside (tree_of e) ≡ map tree_of (out-Element e).children.items
-inside-tree_of e = rw (fold_out-Element Tree _ e, list_of-trees_of) refl
+use Rattle.ror_elements.specs.declared.element.Element.{Element}
+use Rattle.ror_elements.specs.Tree.{Tree, tree_of}
+use Rattle.ror_xmcda.specs.Nodes.{named, at_path}
 
 pub find-map : {A B : Type 0} (f : A → B) (test : B → Bool) (xs : List A) → option_map f (find (λ x. test (f x)) xs) ≡ find test (map f xs)
 find-map f test [] = refl

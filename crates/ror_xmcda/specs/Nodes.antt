@@ -2,24 +2,8 @@
 use Rattle.std.specs.Prelude.{ℕ, Bool, List, [], ◌∷◌, Option, None, Some, filter, find}
 use Rattle.std.specs.List.{flat_map}
 use Rattle.std.specs.Str.{bytes_eq}
-use Rattle.ror_elements.specs.Tree.{Tree, node, Trees, none, also, name_of}
-
-abbrev pub id_of : Tree → Option (List ℕ)
-id_of (node name id text line inside) = id
-
-abbrev pub text_of : Tree → List ℕ
-text_of (node name id text line inside) = text
-
-abbrev pub line_of : Tree → ℕ
-line_of (node name id text line inside) = line
-
-abbrev pub list_of : Trees → List Tree
-list_of none = []
-list_of (also t ts) = t ∷ list_of ts
-
--- the elements directly inside an element, in order
-abbrev pub inside : Tree → List Tree
-inside (node name id text line ts) = list_of ts
+use Rattle.ror_elements.specs.Tree.{Tree, name_of}
+pub use Rattle.ror_elements.specs.Tree.{id_of, text_of, line_of, inside}
 
 abbrev pub is_named : List ℕ → Tree → Bool
 is_named name t = bytes_eq (name_of t) name

@@ -29,7 +29,7 @@ fn first_of_either<'a>(element: &'a Element, name: &str, other: &str) -> Option<
         ≡ find (spec.is_either name.now other.now) (inside (tree_of element.now)) }
 {
     element
-        .children
+        .children()
         .iter()
         .find(|child| is_either(child, name, other))
 }

@@ -20,9 +20,9 @@ use ror_text::reading::{need, refuse_if};
 fn valid_id(element: &Element) -> Option<&str>
     ensures { option_map (λ id. id.now) result ≡ spec.valid (nodes.id_of (tree_of element.now)) }
 {
-    match &element.id {
+    match element.id() {
         None => None,
-        Some(id) => id_text(id.as_str().as_bytes()),
+        Some(id) => id_text(id.as_bytes()),
     }
 }
 

@@ -12,28 +12,28 @@ use std::alloc::{AllocError, Global};
 pub(crate) fn is_named(element: &Element, name: &str) -> bool
     ensures { result ≡ spec.is_named name.now (tree_of element.now) }
 {
-    element.name.as_str() == name
+    element.name() == name
 }
 
 /// The text of an element.
 pub(crate) fn text_of(element: &Element) -> &str
     ensures { result.now ≡ spec.text_of (tree_of element.now) }
 {
-    element.text.as_str()
+    element.text()
 }
 
 /// The line of an element.
 pub(crate) fn line_of(element: &Element) -> u32
     ensures { result ≡ spec.line_of (tree_of element.now) }
 {
-    element.line
+    element.line()
 }
 
 /// The elements directly inside an element.
 pub(crate) fn inside(element: &Element) -> &[Element]
     ensures { map tree_of result.now ≡ spec.inside (tree_of element.now) }
 {
-    element.children.as_slice()
+    element.children()
 }
 
 /// The first element of a name directly inside an element.
@@ -41,7 +41,10 @@ pub(crate) fn inside(element: &Element) -> &[Element]
 pub(crate) fn first_named<'a>(element: &'a Element, name: &str) -> Option<&'a Element>
     ensures { option_map (λ e. tree_of e.now) result ≡ spec.first_named name.now (tree_of element.now) }
 {
-    element.children.iter().find(|child| is_named(child, name))
+    element
+        .children()
+        .iter()
+        .find(|child| is_named(child, name))
 }
 
 /// The elements of a name directly inside an element.
@@ -54,7 +57,7 @@ pub(crate) fn named<'a>(
         ≡ spec.named name.now (tree_of element.now)) }
 {
     element
-        .children
+        .children()
         .iter()
         .filter(|child| is_named(child, name))
         .collect(alloc)

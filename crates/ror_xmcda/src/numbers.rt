@@ -78,7 +78,7 @@ pub(crate) fn number_of(element: &Element) -> Result<Amount, TableError>
     ensures exact { Gives (λ p. p) table_fault result (spec.number_of (tree_of element.now)) }
     ensures amount { IfOk result IsAmount }
 {
-    match element.name.as_str() {
+    match element.name() {
         "integer" => need(
             read_whole(text_of(element).as_bytes()),
             fault(TableKind::BadNumber, line_of(element)),
