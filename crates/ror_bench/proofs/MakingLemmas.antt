@@ -17,14 +17,14 @@ use Rattle.ror_bench.specs.Replays.{AreBlocksAt}
 use Rattle.ror_bench.proofs.ReportProofs.{IsAfter, after_nothing, after_block, numbers_after}
 use Rattle.ror_bench.proofs.ReplayLemmas.{block_proved}
 
-each_more : (P : Revisions → Line → Block → Type 0) (bench : Workbench) (before : List (Line × Block)) (xs : List Line) (ys : List Block) (line : Line) (block : Block) → EachHolds P bench before xs ys → P (revisions_then bench (before ++ with_blocks xs ys) line.desk) line block → EachHolds P bench before (xs ++ line ∷ []) (ys ++ block ∷ [])
+pub each_more : (P : Revisions → Line → Block → Type 0) (bench : Workbench) (before : List (Line × Block)) (xs : List Line) (ys : List Block) (line : Line) (block : Block) → EachHolds P bench before xs ys → P (revisions_then bench (before ++ with_blocks xs ys) line.desk) line block → EachHolds P bench before (xs ++ line ∷ []) (ys ++ block ∷ [])
 each_more P bench before [] [] line block all one = (subst (λ (l : List (Line × Block)). P (revisions_then bench l line.desk) line block) (append-nil before) one, tt)
 each_more P bench before [] (y ∷ ys) line block all one = absurd all
 each_more P bench before (x ∷ xs) [] line block all one = absurd all
 each_more P bench before (x ∷ xs) (y ∷ ys) line block all one =
     (all.0, each_more P bench (before ++ (x, y) ∷ []) xs ys line block all.1 (subst (λ (l : List (Line × Block)). P (revisions_then bench l line.desk) line block) (sym (append_assoc before ((x, y) ∷ []) (with_blocks xs ys))) one))
 
-paired_more : (P : Revisions → Line → Block → Type 0) (bench : Workbench) (before : List (Line × Block)) (xs : List Line) (ys : List Block) (line : Line) (block : Block) → EachHolds P bench before xs ys → with_blocks (xs ++ line ∷ []) (ys ++ block ∷ []) ≡ with_blocks xs ys ++ (line, block) ∷ []
+pub paired_more : (P : Revisions → Line → Block → Type 0) (bench : Workbench) (before : List (Line × Block)) (xs : List Line) (ys : List Block) (line : Line) (block : Block) → EachHolds P bench before xs ys → with_blocks (xs ++ line ∷ []) (ys ++ block ∷ []) ≡ with_blocks xs ys ++ (line, block) ∷ []
 paired_more P bench before [] [] line block all = refl
 paired_more P bench before [] (y ∷ ys) line block all = absurd all
 paired_more P bench before (x ∷ xs) [] line block all = absurd all

@@ -211,7 +211,7 @@ after_block start before bench moved line block is within same =
 
 -- ---- the numbers that desks have left
 
-weaker : (more : ℕ) (rs : List Revisions) → AllByRecursion (LeavesNumbers (1 + more)) rs → AllByRecursion (LeavesNumbers more) rs
+pub weaker : (more : ℕ) (rs : List Revisions) → AllByRecursion (LeavesNumbers (1 + more)) rs → AllByRecursion (LeavesNumbers more) rs
 weaker more [] h = tt
 weaker more (r ∷ rs) h = ((let now = h.0 in omega arith), weaker more rs h.1)
 

@@ -36,7 +36,7 @@ module _ (one other : Workbench) (same : HoldTheSame one other) where
         ∙ ap (λ (rs : List Revisions). (with_block (record one { table = other.table; state = rs }) line block).state) same.1,
   )
 
-  then_same : (before : List (Line × Block)) (desk : ℕ) → revisions_then one before desk ≡ revisions_then other before desk
+  pub then_same : (before : List (Line × Block)) (desk : ℕ) → revisions_then one before desk ≡ revisions_then other before desk
   then_same before desk =
       ap (λ (t : DecisionTable). revisions_after t (revisions_at one desk) (at_desk desk before)) same.0
       ∙ ap (λ (r : Revisions). revisions_after other.table r (at_desk desk before)) (desk_same desk)

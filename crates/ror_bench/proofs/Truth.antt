@@ -20,7 +20,7 @@ use Rattle.ror_bench.proofs.ReportProofs.{number_cases, then_at_own, then_at_oth
 pub blocks_true : ProvedBlocksAreTrue
 blocks_true t r line block lawful proved = block_true t r line block lawful proved
 
-lawful_at : (P : Revisions → Type 0) (rs : List Revisions) (desk : ℕ) (none : Revisions) → P none → AllByRecursion P rs → P (slice_index_or rs desk none)
+pub lawful_at : (P : Revisions → Type 0) (rs : List Revisions) (desk : ℕ) (none : Revisions) → P none → AllByRecursion P rs → P (slice_index_or rs desk none)
 lawful_at P [] desk none h all = h
 lawful_at P (r ∷ rs) zero none h all = all.0
 lawful_at P (r ∷ rs) (suc desk) none h all = lawful_at P rs desk none h all.1

@@ -52,7 +52,7 @@ one_count bench lines bytes x y table first second =
 
 -- ---- an answer has one first fault
 
-one_some : {A : Type 0} (r : Option A) (x y : A) → r ≡ Some x → r ≡ Some y → x ≡ y
+pub one_some : {A : Type 0} (r : Option A) (x y : A) → r ≡ Some x → r ≡ Some y → x ≡ y
 one_some r x y e f = (let both = sym e ∙ f in cc)
 
 one_part : (systems : List LinearSystem) (parts : List Part) (k : ℕ) (q r : Reject) → FailsPart systems parts k q → FailsPart systems parts k r → q ≡ r
@@ -90,7 +90,7 @@ one_verdict_fault t list q (verdicts.No proof) f g concludes first second stage 
 one_verdict_fault t list q (verdicts.Contradiction proof) f g concludes first second stage place = one_proof_fault t list q conclusions.Contradiction proof f g first second stage place
 one_verdict_fault t list q (verdicts.Wide system note) f g concludes first second stage place = absurd (let no = concludes in cc)
 
-one_answer_fault : (t : DecisionTable) (list : List Statement) (q : Question) (x : Answer) (f g : CheckFault) → is_wide x.verdict ≡ false → FailsAnswer t list q x f → FailsAnswer t list q x g → fault_stage f ≡ fault_stage g → fault_place f ≡ fault_place g → f ≡ g
+pub one_answer_fault : (t : DecisionTable) (list : List Statement) (q : Question) (x : Answer) (f g : CheckFault) → is_wide x.verdict ≡ false → FailsAnswer t list q x f → FailsAnswer t list q x g → fault_stage f ≡ fault_stage g → fault_place f ≡ fault_place g → f ≡ g
 one_answer_fault t list q x checks.WrongQuestion checks.WrongQuestion concludes first second stage place = refl
 one_answer_fault t list q x checks.WrongQuestion g concludes first second stage place = absurd (omega arith)
 one_answer_fault t list q x f checks.WrongQuestion concludes first second stage place = absurd (omega arith)

@@ -17,7 +17,7 @@ some_of_either m n = grind arith
 one_wide : (x : Answer) → is_wide x.verdict ≡ nat_lt 0 (cond (beq (is_wide x.verdict) true) 1 0)
 one_wide x = grind arith
 
-wide_answers : (xs : List Answer) → list_any (λ x. is_wide x.verdict) xs ≡ nat_lt 0 (count_by (λ x. beq (is_wide x.verdict) true) xs)
+pub wide_answers : (xs : List Answer) → list_any (λ x. is_wide x.verdict) xs ≡ nat_lt 0 (count_by (λ x. beq (is_wide x.verdict) true) xs)
 wide_answers [] = refl
 wide_answers (x ∷ xs) =
     let f : Answer → ℕ = λ x. cond (beq (is_wide x.verdict) true) 1 0 in

@@ -1,14 +1,16 @@
 //! The desks of a session over one table: a line and its block, and the check of a block.
 
-ghost use Rattle.std.specs.Prelude.{◌≡◌, ◌≢◌, ◌<◌, ◌≤◌, ◌^◌, ◌-◌, length, map, [], replicate, ℕ, IsOk, OnOk, IfOk, IfErr};
+ghost use Rattle.std.specs.Prelude.{◌≡◌, ◌≢◌, ◌<◌, ◌≤◌, ◌^◌, ◌-◌, length, map, [], replicate, ℕ, count_by, IsOk, OnOk, IfOk, IfErr};
 ghost use Rattle.ror_text.specs.FirstFault.{IsRefusedBy};
 ghost use Rattle.ror_statement.specs.RowNumbers.{row_count};
 ghost use Rattle.ror_value.specs.Over.{IsLawfulIn};
 ghost use Rattle.ror_pivot.specs.Answers.{most_of};
-ghost use Rattle.ror_history.specs.History.{next_number};
+ghost use Rattle.ror_history.specs.History.{next_number, standing, statements_of};
 ghost use Rattle.ror_bench.specs.Allowed.{given_at};
 ghost use Rattle.ror_bench.specs.Bench.{Workbench, revisions_at, spare_at, bench_of, HoldTheSame, IsLawfulBench};
-ghost use Rattle.ror_bench.specs.Blocks.{IsBlockOf, HasText, IsProvedBlock, passed_of, IsTrueBlock, with_block, NeedsNoSearch, LeavesRoom};
+ghost use Rattle.std.specs.Bool.{beq};
+ghost use Rattle.ror_check.specs.Proof.{is_wide};
+ghost use Rattle.ror_bench.specs.Blocks.{answers_passed, IsBlockOf, HasText, IsProvedBlock, passed_of, IsTrueBlock, with_block, NeedsNoSearch, LeavesRoom};
 ghost use Rattle.ror_bench.specs.Faults.{FailsBlock, IsEarlierBlockFault};
 ghost use Rattle.ror_bench.specs.Rooms.{revisions_of, HasRoomBelow};
 ghost use Rattle.ror_bench.specs.Steps as steps;
@@ -18,9 +20,10 @@ use crate::desk::{check, perform};
 use ror_check::{AnswersFault, CheckFault, RepairCheckFault};
 use ror_history::History;
 use ror_pivot::Bits;
+use ror_proof::{Answer, Verdict};
 use ror_report::Block;
 use ror_session::{Command, Line};
-use ror_statement::{MOST_ROWS, MOST_STATEMENTS, Statement};
+use ror_statement::{MOST_ROWS, MOST_STATEMENTS, Numbered, Statement};
 use ror_table::Table;
 use ror_value::Input;
 use ror_warm::Engine;
@@ -34,6 +37,30 @@ use thiserror::Error;
 pub struct Passed {
     pub answers: u32,
     pub wide: u32,
+}
+
+impl Passed {
+    /// How many of the answers are not too wide, and how many are. There are 20,000 at most.
+    pub fn of(answers: &[Answer]) -> Passed
+        requires { length answers.now ≤ 20000 }
+        ensures { result ≡ answers_passed answers.now }
+    {
+        Passed {
+            answers: count(answers, false),
+            wide: count(answers, true),
+        }
+    }
+}
+
+/// How many of the answers are too wide, or are not.
+fn count(answers: &[Answer], wide: bool) -> u32
+    requires { length answers.now ≤ 20000 }
+    ensures { result ≡ count_by (λ x. beq (is_wide x.verdict) wide) answers.now }
+{
+    answers
+        .iter()
+        .filter(|x| matches!(x.verdict, Verdict::Wide { .. }) == wide)
+        .count() as u32
 }
 
 /// Why a block is not the one of its line.
@@ -152,6 +179,19 @@ impl Bench {
         ensures { result ≡ self.now.pivots }
     {
         self.engine.pivots().saturating_add(self.repair_pivots)
+    }
+
+    /// What stands at a desk, with its numbers, in increasing order of number: what may stand over the table.
+    ///
+    /// # Errors
+    ///
+    /// Only want of memory.
+    pub fn standing(&self, desk: u32) -> Result<Vec<Numbered>, AllocError>
+        requires { desk < length self.now.state }
+        ensures listed { IfOk result (λ list. list.items ≡ standing (revisions_at self.now desk)) }
+        ensures lawful { IsLawfulIn self.now.table (statements_of (revisions_at self.now desk)) }
+    {
+        self.desks[desk as usize].standing()
     }
 
     /// Makes room at a desk for so many more revisions. All else stays as it is.

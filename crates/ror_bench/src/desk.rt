@@ -1,11 +1,9 @@
 //! What comes of a command at a desk: what it changes there, and whether a block says so.
 
-ghost use Rattle.std.specs.Prelude.{◌≡◌, ◌≢◌, ◌↔◌, ◌+◌, ◌-◌, ◌^◌, ◌<◌, ◌≤◌, length, map, count_by, IsTrue, IsOk, OnOk, IfOk, IfErr, Err};
-ghost use Rattle.std.specs.Bool.{beq};
+ghost use Rattle.std.specs.Prelude.{◌≡◌, ◌≢◌, ◌↔◌, ◌+◌, ◌-◌, ◌^◌, ◌<◌, ◌≤◌, length, map, IsTrue, IsOk, OnOk, IfOk, IfErr, Err};
 ghost use Rattle.std.specs.List.{AllByRecursion, AllZip};
 ghost use Rattle.ror_pivot.specs.Answers.{most_of};
 ghost use Rattle.ror_value.specs.Over.{IsAskedIn};
-ghost use Rattle.ror_check.specs.Proof.{is_wide};
 ghost use Rattle.ror_check.specs.Repair.{AreNumbersIn, numbers_of};
 ghost use Rattle.ror_history.specs.History.{next_number, standing, statements_of, withdrawal, with_revision};
 ghost use Rattle.ror_session.specs.declared.session.Command.TheVariants.{State, Withdraw, Replace, Repair, Undo, Ask};
@@ -21,7 +19,7 @@ use crate::stop::LineStop;
 use ror_check::{check_answers, check_repair};
 use ror_history::{History, HistoryFault};
 use ror_pivot::Bits;
-use ror_proof::{Answer, Dropped, Verdict};
+use ror_proof::{Answer, Dropped};
 use ror_relation::decide_each_warm;
 use ror_repair::{RepairFault, repair_counted};
 use ror_report::{Body, LineFault};
@@ -477,10 +475,7 @@ fn check_each(
     }
     let list = statements_at(alloc, history)?;
     check_answers(alloc, table, list.as_slice(), answers)?;
-    Ok(Passed {
-        answers: count(answers, false),
-        wide: count(answers, true),
-    })
+    Ok(Passed::of(answers))
 }
 
 /// Whether the answers are to these questions, in order.
@@ -496,15 +491,4 @@ fn are_to(questions: &[Question], answers: &[Answer]) -> bool
         }
     }
     true
-}
-
-/// How many of the answers are too wide, or are not.
-fn count(answers: &[Answer], wide: bool) -> u32
-    requires { length answers.now ≤ 20000 }
-    ensures { result ≡ count_by (λ x. beq (is_wide x.verdict) wide) answers.now }
-{
-    answers
-        .iter()
-        .filter(|x| matches!(x.verdict, Verdict::Wide { .. }) == wide)
-        .count() as u32
 }

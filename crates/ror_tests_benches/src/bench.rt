@@ -33,7 +33,7 @@ fn three_alternatives(alloc: Global) -> Result<Table, TableError> {
 }
 
 /// The bench of the session over the table, at whose desks no statement stands.
-fn bench_for(alloc: Global, session: &Session) -> Option<Bench>
+pub fn bench_for(alloc: Global, session: &Session) -> Option<Bench>
     ensures { IfSome result (λ bench. bench.state
         ≡ replicate (length session.now.desks) (record { opening = []; surviving = [] })) }
 {
@@ -85,7 +85,7 @@ fn a_statement_stands_after_its_block(rt: HostRuntime) -> Result<(), Fail> {
 }
 
 /// The session of a text.
-fn session_of(alloc: Global, text: &[u8]) -> Option<Session>
+pub fn session_of(alloc: Global, text: &[u8]) -> Option<Session>
     ensures { IfSome result IsSound }
 {
     read_session(alloc, text).ok()

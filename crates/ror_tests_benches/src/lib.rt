@@ -3,3 +3,5 @@
 
 #[cfg(test)]
 mod bench;
+#[cfg(test)]
+mod standing;
