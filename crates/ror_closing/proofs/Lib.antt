@@ -1,0 +1,3 @@
+pub mod ClosingLemmas
+pub mod LawLemmas
+pub mod LawfulLists

@@ -1,0 +1,36 @@
+-- Laws of closing lists: they are one, and what any report of the session leaves.
+use Rattle.std.specs.Prelude.{◌≡◌, ℕ, List, []}
+use Rattle.ror_statement.specs.declared.statement.Statement.{Statement}
+use Rattle.ror_session.specs.declared.session.Line.{Line}
+use Rattle.ror_report.specs.declared.block.Block.{Block}
+use Rattle.ror_bench.specs.Bench.{Workbench, HoldTheSame}
+use Rattle.ror_bench.specs.Blocks.{IsProvedBlock}
+use Rattle.ror_bench.specs.Desks.{with_blocks}
+use Rattle.ror_bench.specs.Replays.{AreBlocksAt}
+use Rattle.ror_bench.specs.Reports.{EachHolds}
+use Rattle.ror_closing.specs.Closing.{AreSuited, IsFirstUnsuited, AreClosingLists, lists_after}
+
+-- where no line is unsuited, benches that hold the same have the same closing lists: they go by the table, by what stands at
+-- the desks, and by the lines
+abbrev pub OneClosing : Type 0
+OneClosing = (one other : Workbench) (lines : List Line) (xs ys : List (List Statement))
+    → HoldTheSame one other → AreSuited lines → AreClosingLists one lines xs
+    → AreClosingLists other lines ys → xs ≡ ys
+
+-- and they are what stands after all the lines and their blocks, also of those that ask, in any report that is proved
+abbrev pub ClosesReports : Type 0
+ClosesReports = (bench : Workbench) (lines : List Line) (blocks : List Block)
+    (lists : List (List Statement)) → AreSuited lines
+    → EachHolds (IsProvedBlock bench.table) bench [] lines blocks
+    → AreClosingLists bench lines lists → lists ≡ lists_after bench (with_blocks lines blocks)
+
+-- and so in any report that a replay writes, whatever its width
+abbrev pub ClosesReplays : Type 0
+ClosesReplays = (most : ℕ) (bench : Workbench) (lines : List Line) (blocks : List Block)
+    (lists : List (List Statement)) → AreSuited lines → AreBlocksAt most bench lines blocks
+    → AreClosingLists bench lines lists → lists ≡ lists_after bench (with_blocks lines blocks)
+
+-- lines are suited, or have one first number of an unsuited one
+pub record OneFirstUnsuited : Type 0 where
+  pub one : (lines : List Line) (m n : ℕ) → IsFirstUnsuited lines m → IsFirstUnsuited lines n → m ≡ n
+  pub not_suited : (lines : List Line) (n : ℕ) → IsFirstUnsuited lines n → AreSuited lines → ⊥
