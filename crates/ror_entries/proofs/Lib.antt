@@ -1,0 +1,5 @@
+pub mod SameLemmas
+pub mod RestLemmas
+pub mod CheckLemmas
+pub mod WriteLemmas
+pub mod SpellingLemmas

@@ -1,0 +1,5 @@
+pub mod Kind
+pub mod Reports
+pub mod Steps
+pub mod Writing
+pub mod Laws

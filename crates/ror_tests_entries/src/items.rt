@@ -1,0 +1,193 @@
+//! Items: entries of one line `item N`, checked and written.
+
+ghost use Rattle.std.specs.Prelude.{◌≡◌, ◌+◌};
+ghost use Rattle.ror_tests_entries.specs.Items.{item_kind};
+
+use itoa::Buffer;
+use ror_bench::{Accepted, Passed, Reason, Rejection, ReportError};
+use ror_check::CheckFault;
+use ror_entries::{EntriesStop, EntryFault, Judge, Maker, check_entries, write_entries};
+use ror_io::MemorySink;
+use ror_proof::ProofFault;
+use ror_proof::words::{after_word, no_more, small_number_at};
+use ror_text::reading::need;
+use ror_text::spaced::{Words, line_at};
+use std::alloc::{AllocError, Global};
+use std::test::Fail;
+
+/// So many items, numbered from 1.
+#[derive(Clone, Copy)]
+struct Items {
+    count: u32,
+}
+
+impl Judge for Items {
+    type Entry = u32;
+
+    ghost kind = { λ items. item_kind items.count };
+
+    fn count(&self) -> u32 {
+        self.count
+    }
+
+    #[tactic(auto, using(ror_proof::proofs::Places::placed_on), unfolding(ror_report::specs::Reading::number_words, ror_proof::specs::Reading::ended))]
+    fn read(&self, _alloc: Global, bytes: &[u8], from: usize) -> Result<(u32, usize), ProofFault> {
+        let (line, next) = line_at(bytes, from);
+        let words = after_word(from, b"item", Words::of(line))?;
+        let (number, words) = small_number_at(from, words)?;
+        no_more(from, words)?;
+        let next = need(next, ProofFault::BadLine(from))?;
+        Ok((number, next))
+    }
+
+    fn check(&mut self, _alloc: Global, place: u32, entry: &u32) -> Result<Passed, EntryFault> {
+        if *entry != place + 1 {
+            let reason = Reason::Answer(1, CheckFault::WrongVerdict);
+            return Err(EntryFault::Refused(reason));
+        }
+        Ok(Passed {
+            answers: *entry,
+            wide: entry.saturating_sub(2),
+        })
+    }
+}
+
+impl Maker for Items {
+    type Entry = u32;
+
+    ghost kind = { λ items. item_kind items.count };
+
+    ghost given = { λ items place n. n ≡ place + 1 };
+
+    ghost writable = { λ items n. Unit {0} };
+
+    fn count(&self) -> u32 {
+        self.count
+    }
+
+    fn make(&mut self, _alloc: Global, place: u32) -> Result<u32, AllocError> {
+        Ok(place + 1)
+    }
+
+    #[tactic(auto, unfolding(ror_text::specs::SpacedLines::line_text))]
+    fn print(&self, alloc: Global, entry: &u32) -> Result<Vec<u8>, AllocError> {
+        let mut text = Vec::new(alloc);
+        text.extend_from_slice(b"item ")?;
+        text.extend_from_slice(Buffer::new().format(*entry).as_bytes())?;
+        text.push(b'\n')?;
+        Ok(text)
+    }
+
+    fn is_wide(&self, entry: &u32) -> bool {
+        *entry > 2
+    }
+}
+
+/// Checks the text behind its first line, `head`, for so many items.
+fn checked(alloc: Global, count: u32, text: &[u8]) -> Result<Accepted, ReportError> {
+    if text.len() < 5 || text.len() > 100 {
+        return Err(ReportError::Memory);
+    }
+    check_entries(alloc, &mut Items { count }, text, 5)
+}
+
+/// The rejection of such a text.
+fn rejected(alloc: Global, count: u32, text: &[u8]) -> Result<Rejection, Fail> {
+    match checked(alloc, count, text) {
+        Err(ReportError::Rejected(rejection)) => Ok(rejection),
+        _ => Err(Fail::from("this text is rejected")),
+    }
+}
+
+#[test]
+fn accepts_the_items_that_are_due(rt: HostRuntime) -> Result<(), Fail> {
+    let two = checked(rt.alloc(), 2, b"head\nitem 1\nitem 2\nend 2\n");
+    assert!(rt;
+        matches!(
+            two,
+            Ok(Accepted {
+                answers: 3,
+                wide: 0
+            })
+        )
+    );
+    let three = checked(rt.alloc(), 3, b"head\nitem 1\nitem 2\nitem 3\nend 3\n");
+    assert!(rt;
+        matches!(
+            three,
+            Ok(Accepted {
+                answers: 6,
+                wide: 1
+            })
+        )
+    );
+    let none = checked(rt.alloc(), 0, b"head\nend 0\n");
+    assert!(rt;
+        matches!(
+            none,
+            Ok(Accepted {
+                answers: 0,
+                wide: 0
+            })
+        )
+    );
+    Ok(())
+}
+
+#[test]
+fn rejects_another_number_of_items(rt: HostRuntime) -> Result<(), Fail> {
+    let few = rejected(rt.alloc(), 2, b"head\nitem 1\nend 1\n")?;
+    assert!(rt; few.block == 2 && matches!(few.reason, Reason::WrongBlock));
+    let many = rejected(rt.alloc(), 2, b"head\nitem 1\nitem 2\nitem 3\nend 3\n")?;
+    assert!(rt; many.block == 3 && matches!(many.reason, Reason::WrongBlock));
+    let miscounted = rejected(rt.alloc(), 2, b"head\nitem 1\nitem 2\nend 3\n")?;
+    assert!(rt; miscounted.block == 3 && matches!(miscounted.reason, Reason::WrongBlock));
+    Ok(())
+}
+
+#[test]
+fn rejects_lines_by_their_form(rt: HostRuntime) -> Result<(), Fail> {
+    let item = rejected(rt.alloc(), 2, b"head\nitem 1\nline 2\nend 2\n")?;
+    assert!(rt; item.block == 2 && matches!(item.reason, Reason::BadLine(3)));
+    let number = rejected(rt.alloc(), 2, b"head\nitem 01\nitem 2\nend 2\n")?;
+    assert!(rt; number.block == 1 && matches!(number.reason, Reason::BadNumber(2)));
+    let end = rejected(rt.alloc(), 2, b"head\nitem 1\nitem 2\nend 2\nmore\n")?;
+    assert!(rt; end.block == 3 && matches!(end.reason, Reason::BadLine(5)));
+    let early = rejected(rt.alloc(), 2, b"head\nitem 1\nend x\n")?;
+    assert!(rt; early.block == 2 && matches!(early.reason, Reason::BadNumber(3)));
+    Ok(())
+}
+
+#[test]
+fn rejects_for_the_reason_of_an_item(rt: HostRuntime) -> Result<(), Fail> {
+    let refused = rejected(rt.alloc(), 2, b"head\nitem 1\nitem 3\nend 2\n")?;
+    assert!(rt; refused.block == 2);
+    assert!(rt; matches!(refused.reason, Reason::Answer(1, CheckFault::WrongVerdict)));
+    Ok(())
+}
+
+#[test]
+fn writes_items_and_their_number(rt: HostRuntime) -> Result<(), Fail> {
+    let mut out = MemorySink::new(rt.alloc(), 99)?;
+    let two = write_entries(rt.alloc(), &mut Items { count: 2 }, &mut out);
+    assert!(rt; two == Ok(false));
+    let three = write_entries(rt.alloc(), &mut Items { count: 3 }, &mut out);
+    assert!(rt; three == Ok(true));
+    let text = b"item 1\nitem 2\nend 2\nitem 1\nitem 2\nitem 3\nend 3\n".as_slice();
+    assert!(rt; out.written() == text);
+    Ok(())
+}
+
+#[test]
+fn writes_nothing_after_a_write_that_failed(rt: HostRuntime) -> Result<(), Fail> {
+    let mut second = MemorySink::new(rt.alloc(), 99)?;
+    second.fail_at(2)?;
+    let stopped = write_entries(rt.alloc(), &mut Items { count: 2 }, &mut second);
+    assert!(rt; stopped == Err(EntriesStop::Write));
+    assert!(rt; second.written() == b"item 1\n".as_slice());
+    let mut short = MemorySink::new(rt.alloc(), 16)?;
+    let full = write_entries(rt.alloc(), &mut Items { count: 2 }, &mut short);
+    assert!(rt; full == Err(EntriesStop::Write));
+    assert!(rt; short.written() == b"item 1\nitem 2\nen".as_slice());
+    Ok(())
+}
