@@ -1,0 +1,9 @@
+use Rattle.std.proofs.Common.{◌≡◌, ◌++◌, drop}
+use Rattle.std.specs.List.{flat_map}
+use Rattle.ror_group.specs.Head.{desk_text}
+use Rattle.ror_group.proofs.head.write_desks.Given as goal
+
+abbrev pub invariant-names : goal.invariant-names
+invariant-names l = record {
+  printed : l.text.items ++ flat_map desk_text (drop l.name-index l.names) ≡ l.initial.text.items ++ flat_map desk_text l.names;
+}

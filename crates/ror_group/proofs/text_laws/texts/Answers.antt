@@ -1,0 +1,9 @@
+use Rattle.ror_group.proofs.EntryLines.{entry_begins}
+use Rattle.ror_group.proofs.EntryUtf8.{entry_text_is_utf8}
+use Rattle.ror_group.proofs.text_laws.texts.Goals as goal
+
+pub returns-clause-begin : goal.returns-clause-begin
+returns-clause-begin c = entry_begins
+
+pub returns-clause-utf8 : goal.returns-clause-utf8
+returns-clause-utf8 c = entry_text_is_utf8

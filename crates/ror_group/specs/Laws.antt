@@ -1,0 +1,48 @@
+-- The laws of the answers of a group.
+use Rattle.std.specs.Prelude.{◌≡◌, ℕ, ◌<◌, List, [], length}
+use Rattle.std.specs.List.{AllByRecursion}
+use Rattle.ror_statement.specs.declared.statement.Statement.{Statement}
+use Rattle.ror_statement.specs.declared.question.Question.{Question}
+use Rattle.ror_statement.specs.declared.question.Conclusion.{Conclusion}
+use Rattle.ror_statement.specs.declared.question.Conclusion.TheVariants.{Yes, No}
+use Rattle.ror_table.specs.Table.{DecisionTable}
+use Rattle.ror_value.specs.Over.{IsLawfulIn}
+use Rattle.ror_proof.specs.declared.answer.Answer.{Answer}
+use Rattle.ror_check.specs.Proof.{IsWideOrTrue}
+use Rattle.ror_group.specs.declared.fault.GroupFault.{GroupFault}
+use Rattle.ror_group.specs.declared.quartet.Quartet.{Quartet}
+use Rattle.ror_group.specs.Proof.{IsProvedPair}
+use Rattle.ror_group.specs.Faults.{FailsPair}
+use Rattle.ror_group.specs.Group.{Judges, IsGroupAnswer, AreGroupAnswers}
+use Rattle.ror_group.specs.Group.Judges.{every_judge, some_judge}
+use Rattle.ror_group.specs.Combining.{asked_on, InStep, combined}
+
+-- a group has one answer to each question
+abbrev pub OneGroupAnswer : Type 0
+OneGroupAnswer = (t : DecisionTable) (lists : List (List Statement)) (js : Judges) (q : Question)
+    (c d : Conclusion) → IsGroupAnswer t lists js q c → IsGroupAnswer t lists js q d → c ≡ d
+
+-- without judges all is so for every one of them, and nothing for some one
+abbrev pub NoJudges : Type 0
+NoJudges = (t : DecisionTable) (q : Question)
+    → IsGroupAnswer t [] every_judge q Yes × IsGroupAnswer t [] some_judge q No
+
+-- where each answer is true of its judge's list or concludes nothing, the words are the group's answers or conclude
+-- nothing
+abbrev pub CombinedAreTrue : Type 0
+CombinedAreTrue = (t : DecisionTable) (lists : List (List Statement)) (a b : ℕ) (xs : List Answer)
+    → InStep (λ q x. IsWideOrTrue t q.list q.question x.verdict) (asked_on a b lists) xs
+    → AreGroupAnswers t lists a b (combined xs)
+
+-- what the judges' answers prove is true of all functions that are compatible with the judges' lists
+abbrev pub ProvedPairsAreTrue : Type 0
+ProvedPairsAreTrue = (t : DecisionTable) (lists : List (List Statement)) (a b : ℕ)
+    (xs : List Answer) (q : Quartet) → AllByRecursion (IsLawfulIn t) lists
+    → a < length t.alternatives → b < length t.alternatives
+    → IsProvedPair t lists a b xs q → AreGroupAnswers t lists a b q
+
+-- no test fails of what is proved
+abbrev pub ProvedPairPassesEachTest : Type 0
+ProvedPairPassesEachTest = (t : DecisionTable) (lists : List (List Statement)) (a b : ℕ)
+    (xs : List Answer) (q : Quartet) (fault : GroupFault)
+    → IsProvedPair t lists a b xs q → FailsPair t lists a b xs q fault → ⊥

@@ -1,0 +1,10 @@
+pub mod Group
+pub mod Combining
+pub mod Proof
+pub mod Faults
+pub mod Text
+pub mod Reading
+pub mod EntryFaults
+pub mod EntryLaws
+pub mod Head
+pub mod Laws
