@@ -1,4 +1,4 @@
-use Rattle.std.proofs.Common.{◌≡◌, ◌≢◌, ℕ, ◌+◌, ◌<◌, ◌⊎◌, List, [], ◌∷◌, length, Option, Some, Ok, Err, refl, sym, ◌∙◌, ap, subst, inl, inr, arith}
+use Rattle.std.proofs.Common.{◌≡◌, ◌≢◌, ℕ, Bool, ◌+◌, ◌<◌, ◌⊎◌, List, [], ◌∷◌, length, Option, Some, None, Ok, Err, refl, sym, ◌∙◌, ap, subst, inl, inr, arith}
 use Rattle.std.specs.Prelude.{zero, suc}
 use Rattle.ror_io.specs.Files.{Files, file, Lacks}
 use Rattle.ror_io.specs.Counts.{Rose, DidNotRise, next_count, count_after}
@@ -8,7 +8,8 @@ use Rattle.ror_frame.specs.declared.stop.Stop.TheVariants as stops
 use Rattle.ror_frame.specs.States.{ShelfState, SinkState, shelf_state}
 use Rattle.ror_frame.specs.Stops.{Outcome}
 use Rattle.ror_frame.specs.declared.stop.Refusal.{Refusal}
-use Rattle.ror_frame.specs.Courses.{Output, Course, finish, fetch, Ending, missing, refused, done, Leads, Ends, Reaches, Writes, EndsAfter, LacksOne, CountsWrites, IsPure, Fetched, IsFetch, WritesDue, IsWork}
+use Rattle.ror_frame.specs.Inputs.{line_output}
+use Rattle.ror_frame.specs.Courses.{Output, Course, finish, fetch, Ending, missing, refused, done, Leads, Ends, MayRefuse, IsFirstMissing, OfToldFiles, Reaches, Writes, EndsAfter, LacksOne, CountsWrites, IsPure, Fetched, IsFetch, WritesDue, IsWork}
 
 -- bytes are read or refused in one way
 abbrev pub IsDecided : Course → Type 0
@@ -65,6 +66,8 @@ unbegun names course shelf out = record {
   rose = λ rose. absurd (omega (arith, rose));
   lacking = λ lacks. refl;
   first_lacking = λ lacks. inr (refl, refl);
+  ends_at_missing = λ is. absurd cc;
+  refuses = λ r is. absurd cc;
   pure = tt;
   shows = λ files is stayed other. absurd (other refl);
   writes = refl;
@@ -76,6 +79,8 @@ record IsStopped (course : Course) (name : List ℕ) (place : ℕ) (names : List
   after : EndsAfter place (length (name ∷ names)) (Some (Err e)) 1
   cause : e ≡ stops.ReadFault → Rose a.faults b.faults ⊎ LacksOne a.told (name ∷ names)
   rises : a.faults < b.faults → e ≡ stops.ReadFault
+  lacks_it : e ≡ stops.ReadFault → OfToldFiles a.told a.faults b.faults (λ files. file files name ≡ None)
+  refuses : (r : Refusal) → e ≡ stops.At r → MayRefuse r course
   pure : IsPure (Err e)
   shown : (files : Files) → a.told ≡ Some files → DidNotRise a.faults b.faults → e ≢ stops.Memory → (d : Ending) × Leads files course d × Ends d (Some (Err e))
   unwritten : CountsWrites out.faults out.faults (Err e)
@@ -93,6 +98,8 @@ stopped {A} name place names Reads Refuses next a b out e fetched =
       rose = λ rose. let p = had.rises rose in cc;
       lacking = λ lacks. refl;
       first_lacking = λ lacks. inl (let p = fetched.missing lacks in cc, fetched.counted);
+      ends_at_missing = λ fault files is stayed. (1, inl (had.lacks_it (let p = fault in cc) files is stayed, refl), fetched.counted);
+      refuses = λ r refused. had.refuses r (let p = refused in cc);
       pure = had.pure;
       shows = λ files is stayed other. had.shown files is stayed (λ same. other (let p = same in cc));
       writes = had.unwritten;
@@ -104,8 +111,10 @@ stopped {A} name place names Reads Refuses next a b out e fetched =
       after = (had.1, omega arith);
       cause = λ is. absurd cc;
       rises = λ rose. absurd (let same = had.0 in omega (arith, same, rose));
+      lacks_it = λ is. absurd cc;
+      refuses = λ q is. inl (had.3.0, subst (Refuses had.3.0) (let p = is in cc) had.3.1);
       pure = had.2;
-      shown = λ files is stayed other. let found = had.3 files is stayed in (refused r, inr (found.0, found.1, inl (r, found.2, refl)), refl);
+      shown = λ files is stayed other. let found = had.4 files is stayed in (refused r, inr (found.0, found.1, inl (r, found.2, refl)), refl);
       unwritten = refl;
       nothing = refl;
     }
@@ -113,6 +122,8 @@ stopped {A} name place names Reads Refuses next a b out e fetched =
       after = (omega arith, omega arith);
       cause = λ is. elim had [ inl rose ↦ inl rose | inr lacks ↦ inr (inl lacks) ];
       rises = λ rose. refl;
+      lacks_it = λ is files told stayed. elim had [ inl rose ↦ absurd (never_both a.faults b.faults rose stayed) | inr lacks ↦ subst (λ (t : Option Files). Lacks t name) told lacks ];
+      refuses = λ r is. absurd cc;
       pure = tt;
       shown = λ files is stayed other. elim had [ inl rose ↦ absurd (never_both a.faults b.faults rose stayed) | inr lacks ↦ (missing, inl (subst (λ (t : Option Files). Lacks t name) is lacks, refl), refl) ];
       unwritten = refl;
@@ -123,6 +134,8 @@ stopped {A} name place names Reads Refuses next a b out e fetched =
       after = omega arith;
       cause = λ is. absurd cc;
       rises = λ rose. absurd (omega (arith, had, rose));
+      lacks_it = λ is. absurd cc;
+      refuses = λ r is. absurd cc;
       pure = tt;
       shown = λ files is stayed other. absurd (other refl);
       unwritten = refl;
@@ -141,6 +154,8 @@ finished place output shelf old new outcome due =
       rose = λ rose. absurd (omega (arith, rose));
       lacking = λ lacks. absurd lacks;
       first_lacking = λ lacks. absurd lacks;
+      ends_at_missing = λ is. absurd (subst (WritesDue output old new) is due);
+      refuses = λ r is. absurd (subst (WritesDue output old new) is due);
       pure = had.1;
       shows = λ files is stayed other. (done output.tells, refl, had.2 other);
       writes = had.3;
@@ -167,6 +182,10 @@ went_on {A} name place names Reads Refuses next a b c old new x outcome fetched 
       rose = work.rose;
       lacking = λ lacks. elim lacks [ inl here ↦ absurd (let p = fetched.missing here in cc) | inr later ↦ work.lacking later ];
       first_lacking = λ lacks. absurd (let p = fetched.missing lacks in cc);
+      ends_at_missing = λ fault files is stayed.
+          let found = work.ends_at_missing fault files is stayed in
+          (suc found.0, inr (fetched.fetched.1, fetched.fetched.2 files is (fetched.fetched.0, stayed.1), found.0, omega arith, found.1), found.2 ∙ one_more found.0 a.fetches);
+      refuses = λ r is. inr (fetched.fetched.1, x, fetched.fetched.3, work.refuses r is);
       pure = work.pure;
       shows = λ files is stayed other.
           let rest = work.shows files is stayed other in
@@ -192,3 +211,11 @@ went_on {A} name place names Reads Refuses next a b c old new x outcome fetched 
     written (Err stops.WriteFault) had = reached _ had
     written (Err stops.Memory) (inl same) = inl same
     written (Err stops.Memory) (inr had) = inr (reached _ had)
+
+-- what holds besides where a line was written
+pub line_holds : (wide : Bool) (line : List ℕ) (Holds : Type 0) (old new : SinkState) (outcome : Outcome) → Holds → WritesDue (line_output wide line (Unit {0})) old new outcome → WritesDue (line_output wide line Holds) old new outcome
+line_holds wide line Holds old new (Ok w) holds due = (due.0, due.1, due.2, (due.3.0, due.3.1, holds), due.4)
+line_holds wide line Holds old new (Err (stops.At r)) holds due = due
+line_holds wide line Holds old new (Err stops.ReadFault) holds due = due
+line_holds wide line Holds old new (Err stops.WriteFault) holds due = due
+line_holds wide line Holds old new (Err stops.Memory) holds due = due

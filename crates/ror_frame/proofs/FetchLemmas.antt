@@ -1,5 +1,7 @@
 -- Fetching a file and reading its bytes.
-use Rattle.std.proofs.Common.{◌≡◌, ℕ, ◌<◌, ◌≤◌, ◌⊎◌, List, length, Option, Some, None, Result, Ok, Err, refl, sym, ◌∙◌, subst}
+use Rattle.std.proofs.Common.{◌≡◌, ℕ, ◌+◌, ◌<◌, ◌≤◌, ◌⊎◌, List, length, Option, Some, None, Result, Ok, Err, refl, sym, inl, inr, ◌∙◌, subst, arith}
+use Rattle.std.specs.Prelude.{replicate}
+use Rattle.std.proofs.lemmas.List.{length-replicate}
 use Rattle.std.specs.declared.vec.Vec.{Vec}
 use Rattle.ror_io.specs.Files.{Files, file, HasFile, Lacks}
 use Rattle.ror_io.specs.Counts.{Rose, DidNotRise, next_count}
@@ -12,6 +14,10 @@ use Rattle.ror_frame.specs.declared.stop.Stop.TheVariants as stops
 use Rattle.ror_frame.specs.States.{ShelfState}
 use Rattle.ror_frame.specs.Stops.{stop_at_shelf, place_of, HidesNone}
 use Rattle.ror_frame.specs.Courses.{Fetched, IsFetch, IsWhole, IsTooLong, ReadAs}
+use Rattle.ror_frame.specs.declared.stop.Refusal.TheVariants as refusals
+use Rattle.ror_frame.specs.Inputs.{ReadsSession, RefusesSession, ReadsSuited, RefusesSuited}
+use Rattle.ror_session.specs.declared.session.Line.{Line}
+use Rattle.ror_session.specs.declared.session.Session.{Session}
 
 -- what the shelf says of each fetch
 pub record IsCalled (name : List ℕ) (before now : ShelfState) : Type 0 where
@@ -67,6 +73,7 @@ brought_longer {A} name Reads most why a b pure called same kept found = record 
     same,
     refl,
     pure,
+    (replicate (most + 1) 0, (refl, let long = length-replicate {A = ℕ} (most + 1) 0 in omega (arith, long))),
     λ files is stayed.
         let here = there a.told files name is kept in
         (here.0, here.1, (refl, found here.0 here.2 stayed)),
@@ -79,7 +86,7 @@ stopped_there {A} {B} name place Had Refused Reads Refuses a b e weaker fetch =
     record { never_falls = fetch.never_falls; told_stays = fetch.told_stays; counted = fetch.counted; missing = λ lacks. let p = fetch.missing lacks in cc; fetched = by e fetch.fetched }
   where
     by : (e : Stop) → Fetched {A = A} name place Had Refused a.told a.faults b.faults (Err e) → Fetched {A = B} name place Reads Refuses a.told a.faults b.faults (Err e)
-    by (stops.At r) had = (had.0, had.1, had.2, λ files is stayed. let found = had.3 files is stayed in (found.0, found.1, weaker found.0 r found.2))
+    by (stops.At r) had = (had.0, had.1, had.2, (had.3.0, weaker had.3.0 r had.3.1), λ files is stayed. let found = had.4 files is stayed in (found.0, found.1, weaker found.0 r found.2))
     by stops.ReadFault had = had
     by stops.WriteFault had = had
     by stops.Memory had = had
@@ -91,7 +98,35 @@ read_there {A} {Y} name place most Refused Reads Refuses a b got result fetch re
   where
     by : (result : Result A Stop) → ReadAs place Reads Refuses fetch.fetched.1 result → Fetched name place Reads Refuses a.told a.faults b.faults result
     by (Ok x) reads = (fetch.fetched.0, fetch.fetched.1, fetch.fetched.2, reads)
-    by (Err (stops.At r)) reads = (fetch.fetched.0, reads.0, reads.1, λ files is stayed. (fetch.fetched.1, fetch.fetched.2 files is stayed, reads.2))
+    by (Err (stops.At r)) reads = (fetch.fetched.0, reads.0, reads.1, (fetch.fetched.1, reads.2), λ files is stayed. (fetch.fetched.1, fetch.fetched.2 files is stayed, reads.2))
     by (Err stops.ReadFault) reads = absurd reads
     by (Err stops.WriteFault) reads = absurd reads
     by (Err stops.Memory) reads = fetch.fetched.0
+
+-- ---- a session that was read
+
+-- has no unsuited line
+pub suited_there : (IsFirstUnsuited : List Line → ℕ → Type 0) (name : List ℕ) (a b : ShelfState) (s : Session) → ((line : ℕ) → IsFirstUnsuited s.lines line → ⊥) → IsFetch name 2 ReadsSession RefusesSession a b (Ok s) → IsFetch name 2 (ReadsSuited IsFirstUnsuited) (RefusesSuited IsFirstUnsuited) a b (Ok s)
+suited_there IsFirstUnsuited name a b s none fetch = record {
+  never_falls = fetch.never_falls;
+  told_stays = fetch.told_stays;
+  counted = fetch.counted;
+  missing = λ lacks. absurd (let p = fetch.missing lacks in cc);
+  fetched = (fetch.fetched.0, fetch.fetched.1, fetch.fetched.2, (fetch.fetched.3, none));
+}
+
+-- or has one
+pub unsuited_there : (IsFirstUnsuited : List Line → ℕ → Type 0) (name : List ℕ) (a b : ShelfState) (s : Session) (line : ℕ) → IsFirstUnsuited s.lines line → IsFetch name 2 ReadsSession RefusesSession a b (Ok s) → IsFetch {A = Session} name 2 (ReadsSuited IsFirstUnsuited) (RefusesSuited IsFirstUnsuited) a b (Err (stops.At (refusals.Unsuited line)))
+unsuited_there IsFirstUnsuited name a b s line first fetch = record {
+  never_falls = fetch.never_falls;
+  told_stays = fetch.told_stays;
+  counted = fetch.counted;
+  missing = λ lacks. absurd (let p = fetch.missing lacks in cc);
+  fetched = (
+    fetch.fetched.0,
+    refl,
+    tt,
+    (fetch.fetched.1, inr (s, line, fetch.fetched.3, first, refl)),
+    λ files is stayed. (fetch.fetched.1, fetch.fetched.2 files is stayed, inr (s, line, fetch.fetched.3, first, refl)),
+  );
+}

@@ -57,6 +57,12 @@ Ends (done told) (Some (Ok wide)) = Agrees told wide
 Ends (done told) (Some (Err stops.WriteFault)) = Unit {0}
 Ends (done told) _ = ⊥
 
+-- for some bytes of its files the course is refused so
+abbrev pub MayRefuse : Refusal → Course → Type 0
+MayRefuse r (finish output) = ⊥
+MayRefuse r (fetch A name Reads Refuses next) = ((bytes : List ℕ) × Refuses bytes r)
+    ⊎ ((bytes : List ℕ) × (x : A) × Reads bytes x × MayRefuse r (next bytes x))
+
 -- ---- what is written
 
 -- P of the files, where they are told and the count of faults did not rise
@@ -98,6 +104,12 @@ EndsAfter first all (Some (Err stops.ReadFault)) n = (1 ≤ n) × (n ≤ all)
 EndsAfter first all (Some (Err stops.Memory)) n = n ≤ all
 EndsAfter first all outcome n = n ≡ all
 
+-- the file that is named in this place, counted from 1, is missing, and those named before it are there
+abbrev pub IsFirstMissing : Files → List (List ℕ) → ℕ → Type 0
+IsFirstMissing files [] n = ⊥
+IsFirstMissing files (name ∷ names) n = ((file files name ≡ None) × (n ≡ 1))
+    ⊎ ((bytes : List ℕ) × (file files name ≡ Some bytes) × (m : ℕ) × (n ≡ m + 1) × IsFirstMissing files names m)
+
 -- a told map lacks one of the files; lacks the first
 abbrev pub LacksOne : Option Files → List (List ℕ) → Type 0
 LacksOne told [] = ⊥
@@ -120,7 +132,8 @@ abbrev pub Fetched : {A : Type 0} → List ℕ → ℕ → (List ℕ → A → T
 Fetched name place Reads Refuses told before now (Ok x) = (now ≡ before) × (bytes : List ℕ)
     × OfToldFiles told before now (λ files. file files name ≡ Some bytes) × Reads bytes x
 Fetched name place Reads Refuses told before now (Err (stops.At r)) = (now ≡ before) × (place_of r ≡ place)
-    × HidesNone r × OfToldFiles told before now (λ files. (bytes : List ℕ) × (file files name ≡ Some bytes) × Refuses bytes r)
+    × HidesNone r × ((bytes : List ℕ) × Refuses bytes r)
+    × OfToldFiles told before now (λ files. (bytes : List ℕ) × (file files name ≡ Some bytes) × Refuses bytes r)
 Fetched name place Reads Refuses told before now (Err stops.ReadFault) = Rose before now ⊎ Lacks told name
 Fetched name place Reads Refuses told before now (Err stops.WriteFault) = ⊥
 Fetched name place Reads Refuses told before now (Err stops.Memory) = now ≡ before
@@ -173,6 +186,10 @@ pub record IsWork (first : ℕ) (names : List (List ℕ)) (course : Course) (bef
   pub first_lacking : LacksFirst before.told names
       → ((outcome ≡ Err stops.ReadFault) × (now.fetches ≡ next_count before.fetches))
       ⊎ ((outcome ≡ Err stops.Memory) × (now.fetches ≡ before.fetches))
+  -- a file that isn't there is the last that is fetched
+  pub ends_at_missing : outcome ≡ Err stops.ReadFault → OfToldFiles before.told before.faults now.faults
+      (λ files. (n : ℕ) × IsFirstMissing files names n × (now.fetches ≡ count_after n before.fetches))
+  pub refuses : (r : Refusal) → outcome ≡ Err (stops.At r) → MayRefuse r course
   pub pure : IsPure outcome
   pub shows : OfToldFiles before.told before.faults now.faults
       (λ files. outcome ≢ Err stops.Memory → (e : Ending) × Leads files course e × Ends e (Some outcome))

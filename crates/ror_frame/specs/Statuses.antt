@@ -33,6 +33,7 @@ code_of statuses.ReadFault = 6
 code_of statuses.WriteFault = 7
 code_of statuses.Memory = 8
 code_of statuses.DoneWide = 9
+code_of (statuses.Unsuited line) = 10
 
 abbrev pub what_text : What → List ℕ
 what_text whats.Alternatives = codes "Alternatives"
@@ -106,7 +107,7 @@ reason_text reasons.WrongBlock = codes "WrongBlock"
 reason_text (reasons.Answer k f) = codes "answer " ++ decimal k ++ codes " " ++ fault_text f
 reason_text (reasons.Repair f) = codes "repair " ++ repair_fault_text f
 
--- the lines of the three refusals
+-- the lines of the refusals
 abbrev pub table_line : TableFault → List ℕ
 table_line f =
     codes "bad table: " ++ kind_text f.kind ++ codes " line " ++ decimal f.line ++ codes "\n"
@@ -123,6 +124,9 @@ abbrev pub rejection_line : Rejection → List ℕ
 rejection_line r =
     codes "rejected: block " ++ decimal r.block ++ codes " " ++ reason_text r.reason ++ codes "\n"
 
+abbrev pub unsuited_line : ℕ → List ℕ
+unsuited_line n = codes "unsuited session: line " ++ decimal n ++ codes "\n"
+
 -- the line of a status; nothing where the work was done
 unfoldable pub status_text : Status → List ℕ
 status_text statuses.Done = []
@@ -134,6 +138,7 @@ status_text statuses.ReadFault = codes "read fault\n"
 status_text statuses.WriteFault = codes "write fault\n"
 status_text statuses.Memory = codes "memory\n"
 status_text statuses.DoneWide = []
+status_text (statuses.Unsuited line) = unsuited_line line
 
 -- the line of an accepted report: how many answers were accepted, and how many answers and repairs are too wide
 unfoldable pub accepted_text : Accepted → List ℕ

@@ -35,11 +35,12 @@ stop_at_report report_errors.Memory = stops.Memory
 
 -- ---- refusals
 
--- the place of the file whose bytes are refused, in the order in which files are fetched
+-- the place of the file whose bytes are refused, in the order in which files are fetched; an unsuited line is one of the session
 abbrev pub place_of : Refusal → ℕ
 place_of (refusals.BadTable fault) = 1
 place_of (refusals.BadSession fault) = 2
 place_of (refusals.Rejected rejection) = 3
+place_of (refusals.Unsuited line) = 2
 
 -- want of memory is a stop of its own, and no refusal holds it
 abbrev pub HidesNone : Refusal → Type 0
@@ -51,6 +52,7 @@ abbrev pub refused_status : Refusal → Status
 refused_status (refusals.BadTable fault) = statuses.BadTable fault
 refused_status (refusals.BadSession fault) = statuses.BadSession fault
 refused_status (refusals.Rejected rejection) = statuses.Rejected rejection
+refused_status (refusals.Unsuited line) = statuses.Unsuited line
 
 -- ---- outcomes
 
@@ -81,3 +83,4 @@ outcome_of statuses.ReadFault = Some (Err stops.ReadFault)
 outcome_of statuses.WriteFault = Some (Err stops.WriteFault)
 outcome_of statuses.Memory = Some (Err stops.Memory)
 outcome_of statuses.DoneWide = Some (Ok true)
+outcome_of (statuses.Unsuited line) = Some (Err (stops.At (refusals.Unsuited line)))

@@ -6,9 +6,11 @@ ghost use Rattle.ror_session.specs.Sound.{IsSound};
 ghost use Rattle.ror_frame.specs.States.{shelf_state};
 ghost use Rattle.ror_frame.specs.Stops.{place_of, HidesNone};
 ghost use Rattle.ror_frame.specs.Courses.{IsFetch, IsWhole, IsTooLong, ReadAs};
-ghost use Rattle.ror_frame.specs.Inputs.{ReadsTable, RefusesTable, ReadsSession, RefusesSession};
+ghost use Rattle.ror_closing.specs.Closing.{AreSuited, IsFirstUnsuited};
+ghost use Rattle.ror_frame.specs.Inputs.{ReadsTable, RefusesTable, ReadsSession, RefusesSession, ReadsSuited, RefusesSuited};
 
 use crate::stop::{Refusal, Stop};
+use ror_closing::first_unsuited;
 use ror_io::{Fetched, Shelf};
 use ror_session::{Session, SessionFault, read_session};
 use ror_table::{TableFault, TableKind};
@@ -83,6 +85,29 @@ pub fn fetch_session<F: Shelf>(
     let too_long = Refusal::BadSession(SessionFault::TooLong);
     let bytes = fetch_whole(alloc, names.session, MOST_TEXT_BYTES, too_long, shelf)?;
     session_in(alloc, bytes.as_slice())
+}
+
+/// Fetches and reads a session without an unsuited line.
+///
+/// # Errors
+///
+/// The first fault of the bytes is, or the first unsuited line, and what the shelf's fault is.
+pub fn fetch_suited<F: Shelf>(
+    alloc: Global,
+    names: &FileNames<'_>,
+    shelf: &mut F,
+) -> Result<Session, Stop>
+    ensures fetch { IsFetch names.now.session.now 2 (ReadsSuited IsFirstUnsuited) (RefusesSuited IsFirstUnsuited)
+        (shelf_state (F.told shelf.old) (F.faults shelf.old) (F.fetch_count shelf.old))
+        (shelf_state (F.told shelf.new) (F.faults shelf.new) (F.fetch_count shelf.new)) result }
+    ensures sound { IfOk result IsSound }
+    ensures suited { IfOk result (λ session. AreSuited session.lines) }
+{
+    let session = fetch_session(alloc, names, shelf)?;
+    match first_unsuited(session.lines.as_slice()) {
+        None => Ok(session),
+        Some(line) => Err(Stop::At(Refusal::Unsuited(line))),
+    }
 }
 
 /// Reads the bytes of a table.

@@ -17,7 +17,7 @@ mod status;
 mod stop;
 mod texts;
 
-pub use files::{fetch_session, fetch_table, fetch_whole};
+pub use files::{fetch_session, fetch_suited, fetch_table, fetch_whole};
 pub use status::Status;
 pub use stop::{Refusal, Stop};
-pub use texts::{write_accepted, write_status};
+pub use texts::{conclude, write_accepted, write_status};

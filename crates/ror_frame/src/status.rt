@@ -28,6 +28,8 @@ pub enum Status {
     Memory,
     /// The work was done to the last line, and at least one answer or repair is too wide.
     DoneWide,
+    /// The session has a line that the command doesn't take: the first one's number.
+    Unsuited(u32),
 }
 
 impl Status {
@@ -59,6 +61,7 @@ impl Status {
             Status::WriteFault => 7,
             Status::Memory => 8,
             Status::DoneWide => 9,
+            Status::Unsuited(_) => 10,
         }
     }
 }

@@ -18,6 +18,8 @@ pub enum Refusal {
     BadSession(SessionFault),
     /// The report's bytes are no report that is proved for the session but for answers and repairs that are too wide.
     Rejected(Rejection),
+    /// The session is one, and has a line that the command doesn't take: the first one's number.
+    Unsuited(u32),
 }
 
 /// Why the work came to no report, or to none that is accepted.
@@ -115,6 +117,7 @@ impl From<Refusal> for Status {
             Refusal::BadTable(fault) => Status::BadTable(fault),
             Refusal::BadSession(fault) => Status::BadSession(fault),
             Refusal::Rejected(rejection) => Status::Rejected(rejection),
+            Refusal::Unsuited(line) => Status::Unsuited(line),
         }
     }
 }

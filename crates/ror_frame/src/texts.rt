@@ -2,10 +2,14 @@
 
 ghost use Rattle.std.specs.Prelude.{◌≡◌, ◌++◌};
 ghost use Rattle.ror_table.specs.declared.fault.TableKind.TheVariants.{Unsupported};
+ghost use Rattle.ror_frame.specs.Courses.{WritesDue};
+ghost use Rattle.ror_frame.specs.Inputs.{accepted_output};
+ghost use Rattle.ror_frame.specs.States.{sink_state};
 ghost use Rattle.ror_frame.specs.Printing.{Prints};
 ghost use Rattle.ror_frame.specs.Statuses.{kind_text, reject_text, fault_text, repair_fault_text, reason_text, table_line, session_line, rejection_line, status_text, accepted_text};
 
 use crate::status::Status;
+use crate::stop::Stop;
 use itoa::{Buffer, Integer};
 use ror_bench::{Accepted, Reason, Rejection};
 use ror_check::{CheckFault, RepairCheckFault};
@@ -30,6 +34,7 @@ pub fn write_status<S: Sink>(sink: &mut S, status: &Status) -> Result<(), SinkFa
         Status::ReadFault => write_text(sink, b"read fault\n"),
         Status::WriteFault => write_text(sink, b"write fault\n"),
         Status::Memory => write_text(sink, b"memory\n"),
+        Status::Unsuited(line) => { write_numbered(sink, b"unsuited session: line ", *line, b"\n") }
     }
 }
 
@@ -51,6 +56,19 @@ pub fn write_accepted<S: Sink>(sink: &mut S, accepted: Accepted) -> Result<(), S
             b"\n",
         ],
     )
+}
+
+/// Writes the line of an accepted report, and says whether anything is too wide.
+///
+/// # Errors
+///
+/// Only a write that failed.
+pub fn conclude<O: Sink>(out: &mut O, accepted: Accepted) -> Result<bool, Stop>
+    ensures { WritesDue (accepted_output accepted (Unit {0})) (sink_state (O.written out.old) (O.faults out.old))
+        (sink_state (O.written out.new) (O.faults out.new)) result }
+{
+    write_accepted(out, accepted)?;
+    Ok(accepted.wide > 0)
 }
 
 fn write_text<S: Sink>(sink: &mut S, text: &[u8]) -> Result<(), SinkFault>

@@ -30,7 +30,7 @@ use Rattle.ror_frame.specs.Inputs.{bench_for}
 use Rattle.ror_frame.proofs.CourseLemmas.{IsDecided}
 use Rattle.ror_frame.proofs.InputLemmas.{decided_inputs}
 use Rattle.ror_frame.proofs.Desks.{lawful_desks}
-use Rattle.ror_work.specs.Checking.{ProvesReport, IsRejectionOf, too_long, at_fault, RefusesReport, line_output, accepted_output, check_chore}
+use Rattle.ror_work.specs.Checking.{ProvesReport, IsRejectionOf, too_long, at_fault, RefusesReport, proved_output, check_chore}
 use Rattle.ror_pivot.specs.Answers.{most_of}
 use Rattle.ror_work.specs.Replaying.{report_output, replay_chore}
 
@@ -51,7 +51,7 @@ one_refusal i s bytes q r a b =
     a.1 ∙ ap refusals.Rejected (one_rejection_of (bench_for i s) s.lines bytes a.0 b.0 a.2 b.2) ∙ sym b.1
 
 pub decided_check : (names : InputNames) (report : List ℕ) → IsDecided (check_chore names report).course
-decided_check names report = decided_inputs names (λ i s. fetch Accepted report (ProvesReport i s) (RefusesReport i s) (λ bytes x. finish (accepted_output i s bytes x))) (λ table i s read bytes.
+decided_check names report = decided_inputs names (λ i s. fetch Accepted report (ProvesReport i s) (RefusesReport i s) (λ bytes x. finish (proved_output i s bytes x))) (λ table i s read bytes.
     let is_table = input_table table names.best_first i read in
     ((λ x y p q. one_count (bench_for i s) s.lines bytes x y is_table p.1 q.1), (λ q r a b. one_refusal i s bytes q r a b), (λ x r p a. rejection_or_proof (bench_for i s) s.lines bytes a.0 x is_table a.2 p.0 p.1), λ x p. tt))
 
@@ -78,11 +78,3 @@ proves_as i s bench lines bytes x held same short accepted =
 pub accepted_is : (i : Input) (s : Session) (bytes : List ℕ) (x : Accepted) → IsLawfulIn i.table i.opening → ProvesReport i s bytes x → IsAcceptedReport (bench_for i s) s.lines bytes x
 accepted_is i s bytes x lawful proves =
     record { proved = proves.1; blocks_true = report_true (bench_for i s) s.lines bytes x (lawful_desks i (length s.desks) lawful) proves.1 }
-
--- what holds then besides
-pub line_holds : (wide : Bool) (line : List ℕ) (Holds : Type 0) (old new : SinkState) (outcome : Outcome) → Holds → WritesDue (line_output wide line (Unit {0})) old new outcome → WritesDue (line_output wide line Holds) old new outcome
-line_holds wide line Holds old new (Ok w) holds due = (due.0, due.1, due.2, (due.3.0, due.3.1, holds), due.4)
-line_holds wide line Holds old new (Err (stops.At r)) holds due = due
-line_holds wide line Holds old new (Err stops.ReadFault) holds due = due
-line_holds wide line Holds old new (Err stops.WriteFault) holds due = due
-line_holds wide line Holds old new (Err stops.Memory) holds due = due

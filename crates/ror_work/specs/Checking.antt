@@ -12,9 +12,8 @@ use Rattle.ror_bench.specs.Reports.{IsProvedReport, IsAcceptedReport, IsRejected
 use Rattle.ror_words.specs.Words.{InputNames}
 use Rattle.ror_frame.specs.declared.stop.Refusal.{Refusal}
 use Rattle.ror_frame.specs.declared.stop.Refusal.TheVariants as refusals
-use Rattle.ror_frame.specs.Statuses.{accepted_text}
 use Rattle.ror_frame.specs.Courses.{Output, Chore}
-use Rattle.ror_frame.specs.Inputs.{bench_for, judging_chore}
+use Rattle.ror_frame.specs.Inputs.{bench_for, accepted_output, judging_chore}
 
 -- the report's bytes, of which there are at most 268,435,456, are the text of a report that is proved for table and session but
 -- for what is too wide: so many answers have a proof, and so many answers and repairs are too wide
@@ -38,20 +37,10 @@ abbrev pub RefusesReport : Input → Session → List ℕ → Refusal → Type 0
 RefusesReport i s bytes r = (rejection : Rejection) × (r ≡ refusals.Rejected rejection)
     × RejectsReport i s bytes rejection
 
--- One line; the files tell whether anything is too wide. Where all of it is written, this holds.
-abbrev pub line_output : Bool → List ℕ → Type 0 → Output
-line_output wide line Holds = record {
-  tells = Some wide;
-  Whole = λ w text. (w ≡ wide) × (text ≡ line) × Holds;
-  Begun = λ text. text ≡ line;
-  keeps_front = false;
-}
-
 -- The line of the accepted report. Every answer of it that isn't too wide is true of all compatible value functions, and so is
 -- what its repairs drop.
-abbrev pub accepted_output : Input → Session → List ℕ → Accepted → Output
-accepted_output i s bytes accepted = line_output (nat_lt 0 accepted.wide) (accepted_text accepted)
-    (IsAcceptedReport (bench_for i s) s.lines bytes accepted)
+abbrev pub proved_output : Input → Session → List ℕ → Accepted → Output
+proved_output i s bytes accepted = accepted_output accepted (IsAcceptedReport (bench_for i s) s.lines bytes accepted)
 
 abbrev pub check_chore : InputNames → List ℕ → Chore
-check_chore names report = judging_chore names report ProvesReport RejectsReport accepted_output
+check_chore names report = judging_chore names report ProvesReport RejectsReport proved_output

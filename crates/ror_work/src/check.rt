@@ -1,16 +1,15 @@
 //! A check: the three files are fetched in order, and the report is accepted or rejected.
 
-ghost use Rattle.std.specs.Prelude.{◌≤◌, length, nat_lt};
+ghost use Rattle.std.specs.Prelude.{◌≤◌, length};
 ghost use Rattle.ror_value.specs.Over.{IsLawfulIn};
 ghost use Rattle.ror_session.specs.Sound.{IsSound};
 ghost use Rattle.ror_words.specs.Named.{inputs_of};
 ghost use Rattle.ror_frame.specs.States.{shelf_state, sink_state};
-ghost use Rattle.ror_frame.specs.Statuses.{accepted_text};
-ghost use Rattle.ror_frame.specs.Courses.{IsFetch, ReadAs, WritesDue, IsWork};
-ghost use Rattle.ror_work.specs.Checking.{ProvesReport, RefusesReport, line_output, check_chore};
+ghost use Rattle.ror_frame.specs.Courses.{IsFetch, ReadAs, IsWork};
+ghost use Rattle.ror_work.specs.Checking.{ProvesReport, RefusesReport, check_chore};
 
 use ror_bench::{Accepted, Bench, MOST_REPORT_BYTES, Reason, Rejection, check_report};
-use ror_frame::{Refusal, Stop, fetch_session, fetch_table, fetch_whole, write_accepted};
+use ror_frame::{Refusal, Stop, conclude, fetch_session, fetch_table, fetch_whole};
 use ror_io::{Shelf, Sink};
 use ror_session::Session;
 use ror_words::FileNames;
@@ -40,7 +39,7 @@ pub fn check_files<F: Shelf, O: Sink>(
     let input = fetch_table(alloc, names, shelf)?;
     let session = fetch_session(alloc, names, shelf)?;
     let accepted = fetch_report(alloc, report, shelf, input, &session)?;
-    write_line(out, accepted)
+    conclude(out, accepted)
 }
 
 /// Fetches and checks the report, and counts its answers.
@@ -81,14 +80,4 @@ fn answers_in(
     let bench = Bench::new(alloc, input, desks)?;
     let lines = session.lines.as_slice();
     Ok(check_report(alloc, bench, lines, bytes)?)
-}
-
-/// Writes the line of an accepted report, and says whether anything is too wide.
-fn write_line<O: Sink>(out: &mut O, accepted: Accepted) -> Result<bool, Stop>
-    ensures { WritesDue (line_output (nat_lt 0 accepted.wide) (accepted_text accepted) (Unit {0}))
-        (sink_state (O.written out.old) (O.faults out.old))
-        (sink_state (O.written out.new) (O.faults out.new)) result }
-{
-    write_accepted(out, accepted)?;
-    Ok(accepted.wide > 0)
 }

@@ -3,8 +3,8 @@ use Rattle.std.proofs.lemmas.Result.{err_from_is_err_and}
 use Rattle.ror_bench.specs.Reports.{IsAcceptedReport}
 use Rattle.ror_frame.specs.Statuses.{accepted_text}
 use Rattle.ror_frame.specs.Inputs.{bench_for}
-use Rattle.ror_frame.proofs.CourseLemmas.{stopped, went_on, finished}
-use Rattle.ror_work.proofs.Judging.{accepted_is, line_holds}
+use Rattle.ror_frame.proofs.CourseLemmas.{stopped, went_on, finished, line_holds}
+use Rattle.ror_work.proofs.Judging.{accepted_is}
 use Rattle.ror_work.proofs.check.check_files.Goals as goal
 
 pub returns-in_err-input : goal.returns-in_err-input
@@ -30,5 +30,5 @@ returns g c =
     let third = c.in_ok-accepted.ensures in
     let bytes = third.fetched.1 in
     let holds = accepted_is i s bytes x c.in_ok-input.ensures.lawful third.fetched.3 in
-    let due = line_holds (nat_lt 0 x.wide) (accepted_text x) (IsAcceptedReport (bench_for i s) s.lines bytes x) _ _ c.write_line.result holds c.write_line.ensures in
+    let due = line_holds (nat_lt 0 x.wide) (accepted_text x) (IsAcceptedReport (bench_for i s) s.lines bytes x) _ _ c.conclude.result holds c.conclude.ensures in
     went_on _ 0 _ _ _ _ _ _ _ _ _ _ _ c.in_ok-input.ensures.fetch (went_on _ 1 _ _ _ _ _ _ _ _ _ _ _ c.in_ok-session.ensures.fetch (went_on _ 2 _ _ _ _ _ _ _ _ _ _ _ third (finished 3 _ _ _ _ _ due)))
