@@ -1,5 +1,5 @@
 -- When each status comes, and what a run writes.
-use Rattle.std.specs.Prelude.{◌≡◌, ◌≢◌, ℕ, ◌<◌, ◌≤◌, ◌⊎◌, ◌↔◌, true, List, [], length, Option, Some, None}
+use Rattle.std.specs.Prelude.{◌≡◌, ◌≢◌, ℕ, ◌<◌, ◌≤◌, ◌⊎◌, ◌↔◌, Bool, true, List, [], length, Option, Some, None}
 use Rattle.ror_io.specs.Files.{Files}
 use Rattle.ror_io.specs.Counts.{Rose, DidNotRise, next_count, count_after}
 use Rattle.ror_io.specs.Writing.{Grew, GrewShort}
@@ -10,9 +10,9 @@ use Rattle.ror_frame.specs.declared.stop.Refusal.{Refusal}
 use Rattle.ror_frame.specs.States.{ShelfState, SinkState}
 use Rattle.ror_frame.specs.Stops.{Outcome, outcome_of, refused_status, HidesNone}
 use Rattle.ror_frame.specs.Statuses.{status_text}
-use Rattle.ror_frame.specs.Courses.{Ending, Leads, Ends, Writes, EndsAfter, LacksOne, LacksFirst}
+use Rattle.ror_frame.specs.Courses.{Ending, done, Leads, Ends, MayRefuse, IsFirstMissing, OfToldFiles, Writes, EndsAfter, LacksOne, LacksFirst}
 use Rattle.ror_words.specs.Words.{Task, task_of}
-use Rattle.ror_run.specs.Chores.{chore_of, judges}
+use Rattle.ror_run.specs.Chores.{chore_of, judges, wants_suited}
 
 -- the names of the files that a task has
 abbrev pub files_named : Option Task → List (List ℕ)
@@ -39,6 +39,13 @@ DecidesStatus told before now words status =
     (files : Files) (task : Task) → told ≡ Some files → task_of words ≡ Some task
     → DidNotRise before now → status ≢ statuses.Memory
     → (e : Ending) → Leads files (chore_of task).course e → Ends e (outcome_of status)
+
+-- and where they lead to an output, and no write fails, the work is done, want of memory aside
+abbrev pub IsCompleted : Option Files → ℕ → ℕ → ℕ → ℕ → List (List ℕ) → Status → Type 0
+IsCompleted told before now old new words status =
+    (files : Files) (task : Task) (tells : Option Bool) → told ≡ Some files → task_of words ≡ Some task
+    → DidNotRise before now → DidNotRise old new → Leads files (chore_of task).course (done tells)
+    → (status ≡ statuses.Done) ⊎ (status ≡ statuses.DoneWide) ⊎ (status ≡ statuses.Memory)
 
 -- by what the words ask for, where it is told
 abbrev pub WritesBy : Option Files → ℕ → ℕ → Option Task → Option (List ℕ) → Option (List ℕ)
@@ -78,12 +85,21 @@ pub record IsRun (words : List (List ℕ)) (before now : ShelfState) (old new : 
       → ((status ≡ statuses.ReadFault) × (now.fetches ≡ next_count before.fetches))
       ⊎ ((status ≡ statuses.Memory) × (now.fetches ≡ before.fetches))
   pub pure : (refusal : Refusal) → status ≡ refused_status refusal → HidesNone refusal
-  -- only a command that judges a report rejects
+  -- a file that isn't there is the last that is fetched
+  pub ends_at_missing : status ≡ statuses.ReadFault → OfToldFiles before.told before.faults now.faults
+      (λ files. (n : ℕ) × IsFirstMissing files (files_named (task_of words)) n × (now.fetches ≡ count_after n before.fetches))
+  -- The refusal is one of the command's own: only a command that judges a report rejects, and only one that wants suited sessions
+  -- finds a line unsuited.
+  pub refuses : (refusal : Refusal) → status ≡ refused_status refusal
+      → (task : Task) × (task_of words ≡ Some task) × MayRefuse refusal (chore_of task).course
   pub rejects : (rejection : Rejection) → status ≡ statuses.Rejected rejection
       → (task : Task) × (task_of words ≡ Some task) × (judges task.command ≡ true)
+  pub suits : (line : ℕ) → status ≡ statuses.Unsuited line
+      → (task : Task) × (task_of words ≡ Some task) × (wants_suited task.command ≡ true)
   -- what the files lead to, which is one thing, and decides the status
   pub shows : ShowsFiles before.told before.faults now.faults words status
   pub decided : DecidesStatus before.told before.faults now.faults words status
+  pub completes : IsCompleted before.told before.faults now.faults old.faults new.faults words status
   pub one_ending : (files : Files) (task : Task) (d e : Ending) → task_of words ≡ Some task
       → Leads files (chore_of task).course d → Leads files (chore_of task).course e → d ≡ e
   pub output : WritesBy before.told before.faults now.faults (task_of words) old.written new.written

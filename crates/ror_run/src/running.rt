@@ -15,6 +15,7 @@ use ror_generate::generate;
 use ror_io::{Shelf, Sink};
 use ror_words::{Arguments, CommandWord, Row, read_arguments, words_in_table};
 use ror_work::{check_files, replay_files};
+use ror_work_group::{check_group_files, group_files};
 use std::alloc::Global;
 
 /// Runs the command that the words name, over files, standard output and standard error.
@@ -106,5 +107,11 @@ fn work_on<F: Shelf, O: Sink>(
             check_files(alloc, &arguments.inputs(), arguments.name(2), shelf, out)
         }
         CommandWord::Generate => generate(alloc, arguments.number(), out),
+        CommandWord::Group => {
+            group_files(alloc, &arguments.inputs(), arguments.width(), shelf, out)
+        }
+        CommandWord::CheckGroup => {
+            check_group_files(alloc, &arguments.inputs(), arguments.name(2), shelf, out)
+        }
     }
 }

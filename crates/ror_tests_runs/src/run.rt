@@ -261,3 +261,82 @@ fn ends_where_a_block_cannot_be_written(rt: HostRuntime) -> Result<(), Fail> {
     }
     Ok(())
 }
+
+/// The files of a group without desks over two alternatives, and what is written: a piece for each write.
+fn no_desks() -> Case<'static> {
+    Case {
+        table: b"ror-table 1\ncriterion q max\nalternative a 2\nalternative b 1\n",
+        session: b"",
+        report: b"ror-group 1\ndesks 0\npair a b\ngroup yes no yes no\npair b a\ngroup yes no yes no\nend 2\n",
+        code: 0,
+        out: b"ror-group 1\ndesks 0\npair a b\ngroup yes no yes no\npair b a\ngroup yes no yes no\nend 2\n",
+        err: b"",
+    }
+}
+
+#[test]
+fn writes_what_a_group_says(rt: HostRuntime) -> Result<(), Fail> {
+    let case = no_desks();
+    let mut shelf = shelf_of(rt.alloc(), &case)?;
+    let mut out = MemorySink::new(rt.alloc(), 200)?;
+    let mut err = MemorySink::new(rt.alloc(), 0)?;
+    expect(&rt, "group t s", &case, &mut shelf, &mut out, &mut err)?;
+    let checked = Case {
+        out: b"accepted 0 wide 0\n",
+        ..case
+    };
+    let mut line = MemorySink::new(rt.alloc(), 64)?;
+    expect(
+        &rt,
+        "check-group t s r",
+        &checked,
+        &mut shelf,
+        &mut line,
+        &mut err,
+    )
+}
+
+#[test]
+fn writes_no_group_of_a_session_that_repairs(rt: HostRuntime) -> Result<(), Fail> {
+    let repairs = Case {
+        session: b"@x prefer a b\nrepair\n",
+        ..no_desks()
+    };
+    let case = refused(repairs, 10, b"unsuited session: line 2\n");
+    for words in ["group t s", "check-group t s r"] {
+        let mut shelf = shelf_of(rt.alloc(), &case)?;
+        let mut out = MemorySink::new(rt.alloc(), 64)?;
+        let mut err = MemorySink::new(rt.alloc(), 99)?;
+        expect(&rt, words, &case, &mut shelf, &mut out, &mut err)?;
+    }
+    Ok(())
+}
+
+#[test]
+fn ends_where_an_entry_cannot_be_written(rt: HostRuntime) -> Result<(), Fail> {
+    let fault = refused(no_desks(), 7, b"write fault\n");
+    let fronts = [
+        (1u64, b"".as_slice()),
+        (2, b"ror-group 1\ndesks 0\n".as_slice()),
+        (
+            3,
+            b"ror-group 1\ndesks 0\npair a b\ngroup yes no yes no\n".as_slice(),
+        ),
+        (
+            4,
+            b"ror-group 1\ndesks 0\npair a b\ngroup yes no yes no\npair b a\ngroup yes no yes no\n".as_slice(),
+        ),
+    ];
+    for (write, front) in fronts {
+        let case = Case {
+            out: front,
+            ..fault
+        };
+        let mut shelf = shelf_of(rt.alloc(), &case)?;
+        let mut out = MemorySink::new(rt.alloc(), 200)?;
+        out.fail_at(write)?;
+        let mut err = MemorySink::new(rt.alloc(), 99)?;
+        expect(&rt, "group t s", &case, &mut shelf, &mut out, &mut err)?;
+    }
+    Ok(())
+}

@@ -3,7 +3,7 @@ use Rattle.std.specs.Prelude.{ℕ, Bool, true, false, List, [], ◌∷◌, ◌++
 use Rattle.std.specs.List.{find, flat_map}
 use Rattle.std.specs.Str.{bytes_eq}
 use Rattle.ror_words.specs.declared.table.CommandWord.{CommandWord}
-use Rattle.ror_words.specs.declared.table.CommandWord.TheVariants.{Replay, Check, Generate}
+use Rattle.ror_words.specs.declared.table.CommandWord.TheVariants.{Replay, Check, Generate, Group, CheckGroup}
 
 -- A row of it: the command, its word, what the usage line calls the names after it, in order, whether these are numbers and not
 -- names of files, and which options it takes.
@@ -37,6 +37,20 @@ table = record {
   numbers = true;
   bits = false;
   best_first = false;
+} ∷ record {
+  command = Group;
+  word = codes "group";
+  names = codes "TABLE" ∷ codes "SESSION" ∷ [];
+  numbers = false;
+  bits = true;
+  best_first = true;
+} ∷ record {
+  command = CheckGroup;
+  word = codes "check-group";
+  names = codes "TABLE" ∷ codes "SESSION" ∷ codes "REPORT" ∷ [];
+  numbers = false;
+  bits = false;
+  best_first = true;
 } ∷ []
 
 abbrev pub row_for : List ℕ → Option Row

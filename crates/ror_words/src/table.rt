@@ -16,6 +16,10 @@ pub enum CommandWord {
     Check,
     /// The session that is made from a number is replayed, and each block is checked.
     Generate,
+    /// The report of what the desks of a session say together is written.
+    Group,
+    /// Such a report is checked.
+    CheckGroup,
 }
 
 /// A row of the table of commands.
@@ -35,7 +39,7 @@ pub struct Row {
 }
 
 /// The commands. None has more than three names.
-const TABLE: [Row; 3] = [
+const TABLE: [Row; 5] = [
     Row {
         command: CommandWord::Replay,
         word: "replay",
@@ -60,13 +64,29 @@ const TABLE: [Row; 3] = [
         bits: false,
         best_first: false,
     },
+    Row {
+        command: CommandWord::Group,
+        word: "group",
+        names: &["TABLE", "SESSION"],
+        numbers: false,
+        bits: true,
+        best_first: true,
+    },
+    Row {
+        command: CommandWord::CheckGroup,
+        word: "check-group",
+        names: &["TABLE", "SESSION", "REPORT"],
+        numbers: false,
+        bits: false,
+        best_first: true,
+    },
 ];
 
 /// The usage line: the commands of the table, each with its names and options.
 pub fn usage() -> &'static str
     ensures { result.now ≡ usage_text }
 {
-    "usage: ror replay TABLE SESSION [--bits 15|31|63|127] [--best-first] | ror check TABLE SESSION REPORT [--best-first] | ror generate NUMBER\n"
+    "usage: ror replay TABLE SESSION [--bits 15|31|63|127] [--best-first] | ror check TABLE SESSION REPORT [--best-first] | ror generate NUMBER | ror group TABLE SESSION [--bits 15|31|63|127] [--best-first] | ror check-group TABLE SESSION REPORT [--best-first]\n"
 }
 
 /// The row of the command with this word.

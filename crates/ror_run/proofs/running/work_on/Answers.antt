@@ -15,6 +15,18 @@ returns-in-Check g c =
     let work = rw (ap (λ i. i.table) names, ap (λ i. i.session) names, ap (λ i. i.best_first) names, c.name.ensures) at c.check_files.ensures in
     rw c.in-Check.is work
 
+pub returns-in-Group : goal.returns-in-Group
+returns-in-Group g c =
+    let names = c.inputs-in-Group.ensures in
+    let work = rw (ap (λ i. i.table) names, ap (λ i. i.session) names, ap (λ i. i.best_first) names, c.width-in-Group.ensures) at c.group_files.ensures in
+    rw c.in-Group.is work
+
+pub returns-in-CheckGroup : goal.returns-in-CheckGroup
+returns-in-CheckGroup g c =
+    let names = c.inputs-in-CheckGroup.ensures in
+    let work = rw (ap (λ i. i.table) names, ap (λ i. i.session) names, ap (λ i. i.best_first) names, c.name-in-CheckGroup.ensures) at c.check_group_files.ensures in
+    rw c.in-CheckGroup.is work
+
 pub returns-in-Generate : goal.returns-in-Generate
 returns-in-Generate g c =
     rw (c.in-Generate.is, ← c.number.ensures.value) (finished 0 (summary_output c.number.result) _ _ _ _ c.generate.ensures)

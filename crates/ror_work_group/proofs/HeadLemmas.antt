@@ -1,0 +1,156 @@
+-- The head of a group's report ends where its entries, or its last line, begin.
+use Rattle.std.proofs.Common.{◌+◌, ◌<◌, ◌&&◌, true, append_assoc, drop, arith, ◌≡◌, ℕ, false, not, eqb, inl, inr, List, [], ◌∷◌, ◌++◌, length, Ok, Err, refl, sym, ap, ◌∙◌, subst}
+use Rattle.std.specs.Prelude.{codes, decimal, nat_le, ◌^◌}
+use Rattle.std.specs.Str.{IsUtf8, is_utf8}
+use Rattle.std.proofs.lemmas.Bool.{cases_Bool, cond-true, cond-false, and_parts}
+use Rattle.std.proofs.lemmas.Str.{IsUtf8-nil, IsUtf8-append, IsUtf8-from_is_utf8}
+use Rattle.std.specs.List.{AllByRecursion, flat_map}
+use Rattle.ror_text.specs.Cursor.{Cursor, line_words}
+use Rattle.ror_text.specs.Reading.{◌>>=◌, refuse}
+use Rattle.ror_text.proofs.ReadingLemmas.{bind_ok}
+use Rattle.ror_text.specs.Lines.{has_control}
+use Rattle.ror_text.specs.SpacedLines.{line_text}
+use Rattle.ror_session.specs.declared.limits.TheConstants.{MOST_DESK_NAME_BYTES}
+use Rattle.ror_statement.specs.declared.statement.Statement.{Statement}
+use Rattle.ror_table.specs.Table.{DecisionTable, IsTable}
+use Rattle.ror_proof.proofs.Utf8Lemmas.{ascii_is_utf8, line_text_is_utf8, decimal_is_utf8}
+use Rattle.ror_report.specs.Text.{numbered_text, end_text}
+use Rattle.ror_report.proofs.ReportLemmas.{end_reads_back}
+use Rattle.ror_bench.specs.declared.report.Accepted.{Accepted}
+use Rattle.ror_entries.specs.Kind.{IsKind}
+use Rattle.ror_entries.specs.Reports.{entries_text, IsProvedEntries}
+use Rattle.ror_entries.proofs.SpellingLemmas.{entries_are_utf8}
+use Rattle.ror_group.specs.Text.{entry_text, IsPrintableEntry}
+use Rattle.ror_group.proofs.EntryLemmas.{is_read_iff_text}
+use Rattle.ror_work_group.specs.Entries.{group_kind}
+use Rattle.ror_proof.specs.declared.read.ProofFault.TheVariants.{BadLine}
+use Rattle.ror_proof.specs.Questions.{alternative_at}
+use Rattle.ror_proof.specs.Words.{after_word, no_more, small_number_at}
+use Rattle.ror_proof.proofs.WordLemmas.{after_word_sound, done}
+use Rattle.ror_report.specs.Reading.{end_at, numbered_line, number_words}
+use Rattle.ror_report.proofs.LineForms.{line_is_read}
+use Rattle.ror_group.specs.declared.entry.Entry.{Entry}
+use Rattle.ror_group.specs.declared.head.HeadFault.TheVariants as heads
+use Rattle.ror_group.specs.Head.{head_text, header_text, desk_text, is_desk_name, begins_desk, in_line, desk_line, no_desk_at, head_at, whole_head_at, IsHeadText}
+use Rattle.ror_group.specs.Reading.{entry_at, entry_answers, pair_line, pair_words, quartet_line}
+use Rattle.ror_group.proofs.HeadLemmas.{head_again, head_is_text}
+
+-- a line with another first word is no desk's
+of_word : (words more : List (List ℕ)) (word : List ℕ) → words ≡ word ∷ more → begins_desk (word ∷ more) ≡ false → begins_desk words ≡ false
+of_word words more word is other = ap begins_desk is ∙ other
+
+pair_no_desk : (t : DecisionTable) (place : ℕ) (words : List (List ℕ)) (x : ℕ × ℕ) → pair_words t place words ≡ Ok x → begins_desk words ≡ false
+unfolding pair_words
+pair_no_desk t place words x e =
+    let last = λ (m : ℕ) (second : ℕ × List (List ℕ)). no_more place second.1 >>= λ _. done (m, second.0) in
+    let a = bind_ok (after_word place (codes "pair") words) (λ more. alternative_at t place more >>= λ first. alternative_at t place first.1 >>= λ second. last first.0 second) x e in
+    of_word words a.0 (codes "pair") (after_word_sound place (codes "pair") words a.0 a.1) refl
+
+end_words_no_desk : (place : ℕ) (words : List (List ℕ)) (n : ℕ) → number_words (codes "end") place words ≡ Ok n → begins_desk words ≡ false
+unfolding number_words
+end_words_no_desk place words n e =
+    let a = bind_ok (after_word place (codes "end") words) (λ more. small_number_at place more >>= λ number. no_more place number.1 >>= λ _. done number.0) n e in
+    of_word words a.0 (codes "end") (after_word_sound place (codes "end") words a.0 a.1) refl
+
+-- where an entry is read no desk's line stands
+pub entry_no_desk : (t : DecisionTable) (c : Cursor) (x : Entry) (after : Cursor) → entry_at t c ≡ Ok (x, after) → begins_desk (line_words c) ≡ false
+unfolding entry_at
+entry_no_desk t c x after e =
+    let a = bind_ok (pair_line t c) (λ pair. entry_answers t (length pair.1.rest) pair.1 >>= λ answers. quartet_line answers.1 >>= λ quartet. done (record { first = pair.0.0; second = pair.0.1; answers = answers.0; quartet = quartet.0 }, quartet.1)) (x, after) e in
+    pair_no_desk t c.place (line_words c) a.0.0 (line_is_read c (pair_words t c.place (line_words c)) a.0 a.1).0
+
+-- nor where a last line is
+pub end_no_desk : (c : Cursor) (n : ℕ) → end_at c ≡ Ok n → begins_desk (line_words c) ≡ false
+unfolding end_at
+end_no_desk c n e =
+    let a = bind_ok (numbered_line (codes "end") c) (λ end. refuse (BadLine end.1.place) (not (eqb (length end.1.rest) 0)) >>= λ _. done end.0) n e in
+    end_words_no_desk c.place (line_words c) a.0.0 (line_is_read c (number_words (codes "end") c.place (line_words c)) a.0 a.1).0
+
+-- ---- the whole head
+
+none_there : (c : Cursor) → begins_desk (line_words c) ≡ false → no_desk_at c ≡ Ok c
+unfolding no_desk_at
+none_there c none = rw none refl
+
+-- is read where its text stands and no desk's line behind it
+pub whole_again : (names : List (List ℕ)) (bytes : List ℕ) (after : Cursor) → IsHeadText names bytes after → begins_desk (line_words after) ≡ false → whole_head_at names bytes ≡ Ok after
+unfolding whole_head_at
+whole_again names bytes after text none = rw (head_again names bytes after text) (none_there after none)
+
+some_there : (c after : Cursor) → no_desk_at c ≡ Ok after → c ≡ after
+unfolding no_desk_at
+some_there c after e = elim (cases_Bool (begins_desk (line_words c))) [
+  | inl is ↦ absurd (let there = sym (cond-true _ _ _ is) ∙ e in refused c after there)
+  | inr is ↦ let there = sym (cond-false _ _ _ is) ∙ e in cc
+]
+  where
+    refused : (c after : Cursor) → (in_line (desk_line c) >>= λ _. Err heads.WrongBlock) ≡ Ok after → ⊥
+    refused c after e = let a = bind_ok (in_line (desk_line c)) (λ _. Err heads.WrongBlock) after e in let no = a.2 in cc
+
+-- and where it is read its text stands
+pub whole_is_text : (names : List (List ℕ)) (bytes : List ℕ) (after : Cursor) → whole_head_at names bytes ≡ Ok after → IsHeadText names bytes after
+unfolding whole_head_at
+whole_is_text names bytes after e =
+    let a = bind_ok (head_at names bytes) (λ c. no_desk_at c) after e in
+    subst (IsHeadText names bytes) (some_there a.0 after a.2) (head_is_text names bytes a.0 a.1)
+
+-- ---- what stands behind the head of a proved report
+
+proved_entries_no_desk : (t : DecisionTable) (lists : List (List Statement)) (c : Cursor) (xs : List Entry) → IsTable t → length xs < 2 ^ 32 → AllByRecursion (IsPrintableEntry t) xs → c.rest ≡ entries_text (group_kind t lists) xs → begins_desk (line_words c) ≡ false
+proved_entries_no_desk t lists c [] table few printable text =
+    end_no_desk c 0 (ap (λ (r : List ℕ). end_at (record { place = c.place; rest = r })) text ∙ end_reads_back c.place 0 few)
+proved_entries_no_desk t lists c (x ∷ xs) table few printable text =
+    let rest = flat_map (entry_text t) xs ++ end_text (length (x ∷ xs)) in
+    let after : Cursor = record { place = c.place + length (entry_text t x); rest = rest } in
+    entry_no_desk t c x after ((is_read_iff_text t c x after table).1 (record { text = text ∙ append_assoc (entry_text t x) (flat_map (entry_text t) xs) (end_text (length (x ∷ xs))); place = refl; printable = printable.0 }))
+
+pub proved_no_desk : (t : DecisionTable) (lists : List (List Statement)) (c : Cursor) (x : Accepted) → IsKind (group_kind t lists) → IsTable t → IsProvedEntries (group_kind t lists) c.rest x → begins_desk (line_words c) ≡ false
+proved_no_desk t lists c x kind table proved =
+    let due = proved.all_due in
+    let few = kind.few in
+    proved_entries_no_desk t lists c proved.entries table (omega (arith, due, few)) proved.printable proved.text
+
+-- ---- the bytes are UTF-8
+
+name_is_utf8 : (name : List ℕ) → is_desk_name name ≡ true → IsUtf8 name
+name_is_utf8 name is = IsUtf8-from_is_utf8 name (and_parts (nat_le (length name) MOST_DESK_NAME_BYTES && not (has_control (name ∷ []))) (is_utf8 name) is).1
+
+desk_is_utf8 : (name : List ℕ) → is_desk_name name ≡ true → IsUtf8 (desk_text name)
+desk_is_utf8 [] is = line_text_is_utf8 (codes "desk" ∷ []) (ascii_is_utf8 (codes "desk") refl, tt)
+desk_is_utf8 (b ∷ bs) is = line_text_is_utf8 (codes "desk" ∷ (b ∷ bs) ∷ []) (ascii_is_utf8 (codes "desk") refl, (name_is_utf8 (b ∷ bs) is, tt))
+
+desks_are_utf8 : (names : List (List ℕ)) → AllByRecursion (λ name. is_desk_name name ≡ true) names → IsUtf8 (flat_map desk_text names)
+desks_are_utf8 [] all = IsUtf8-nil
+desks_are_utf8 (name ∷ names) all = IsUtf8-append (desk_text name) (flat_map desk_text names) (desk_is_utf8 name all.0) (desks_are_utf8 names all.1)
+
+head_is_utf8 : (names : List (List ℕ)) → length names < 2 ^ 32 → AllByRecursion (λ name. is_desk_name name ≡ true) names → IsUtf8 (head_text names)
+unfolding head_text header_text
+head_is_utf8 names few all =
+    IsUtf8-append (line_text (codes "ror-group" ∷ codes "1" ∷ [])) (numbered_text (codes "desks") (length names) ++ flat_map desk_text names)
+    (line_text_is_utf8 (codes "ror-group" ∷ codes "1" ∷ []) (ascii_is_utf8 (codes "ror-group") refl, (ascii_is_utf8 (codes "1") refl, tt)))
+    (IsUtf8-append (numbered_text (codes "desks") (length names)) (flat_map desk_text names)
+    (line_text_is_utf8 (codes "desks" ∷ decimal (length names) ∷ []) (ascii_is_utf8 (codes "desks") refl, (decimal_is_utf8 (length names) (omega (arith, few)), tt)))
+    (desks_are_utf8 names all))
+
+pub proved_utf8 : (t : DecisionTable) (lists : List (List Statement)) (names : List (List ℕ)) (bytes : List ℕ) (after : Cursor) (x : Accepted) → IsKind (group_kind t lists) → IsHeadText names bytes after → IsProvedEntries (group_kind t lists) after.rest x → IsUtf8 bytes
+proved_utf8 t lists names bytes after x kind head proved =
+    let due = proved.all_due in
+    let few = kind.few in
+    let body = subst IsUtf8 (sym proved.text) (entries_are_utf8 (group_kind t lists) kind proved.entries proved.printable (omega (arith, due, few))) in
+    subst IsUtf8 (sym head.text) (IsUtf8-append (head_text names) after.rest (head_is_utf8 names head.few head.allowed) body)
+
+-- ---- one end of the head
+
+pub behind_head : (names : List (List ℕ)) (bytes : List ℕ) (after : Cursor) → IsHeadText names bytes after → drop after.place bytes ≡ after.rest
+behind_head names bytes after head =
+    ap (λ (n : ℕ). drop n bytes) head.place ∙ ap (drop (length (head_text names))) head.text ∙ dropped (head_text names) after.rest
+  where
+    dropped : (front more : List ℕ) → drop (length front) (front ++ more) ≡ more
+    dropped [] more = refl
+    dropped (b ∷ bs) more = dropped bs more
+
+pub one_head : (names : List (List ℕ)) (bytes : List ℕ) (one other : Cursor) → IsHeadText names bytes one → IsHeadText names bytes other → one ≡ other
+one_head names bytes one other a b =
+    let place : one.place ≡ other.place = a.place ∙ sym b.place in
+    let rest : one.rest ≡ other.rest = sym (behind_head names bytes one a) ∙ ap (λ (n : ℕ). drop n bytes) place ∙ behind_head names bytes other b in
+    ap (λ (n : ℕ). record { place = n; rest = one.rest }) place ∙ ap (λ (r : List ℕ). record { place = other.place; rest = r }) rest

@@ -1,0 +1,107 @@
+-- What a check of a group's report comes to, by its steps.
+use Rattle.std.proofs.Common.{◌≡◌, ℕ, zero, suc, ◌≤◌, ◌<◌, true, false, List, [], ◌∷◌, length, get_or, None, Ok, Err, refl, sym, subst, arith}
+use Rattle.std.specs.Prelude.{IfSome, nat_le}
+use Rattle.std.specs.List.{AllByRecursion, list_any}
+use Rattle.std.specs.Str.{IsUtf8, is_utf8}
+use Rattle.std.proofs.lemmas.Str.{is_utf8-from_IsUtf8}
+use Rattle.ror_text.specs.Cursor.{Cursor}
+use Rattle.ror_text.specs.Lines.{is_control}
+use Rattle.ror_statement.specs.declared.statement.Statement.{Statement}
+use Rattle.ror_table.specs.Table.{DecisionTable, IsTable}
+use Rattle.ror_value.specs.declared.input.Input.{Input}
+use Rattle.ror_value.specs.Over.{IsLawfulIn}
+use Rattle.ror_session.specs.Grammar.{IsClean}
+use Rattle.ror_session.specs.declared.limits.TheConstants.{MOST_DESK_NAME_BYTES}
+use Rattle.ror_session.specs.declared.session.Session.{Session}
+use Rattle.ror_proof.specs.declared.read.ProofFault.TheVariants as lines
+use Rattle.ror_bench.specs.declared.report.Accepted.{Accepted}
+use Rattle.ror_bench.specs.declared.report.Reason.TheVariants as reasons
+use Rattle.ror_bench.specs.declared.report.ReportError.{ReportError}
+use Rattle.ror_bench.specs.declared.report.ReportError.TheVariants as report_errors
+use Rattle.ror_bench.specs.declared.report.TheConstants.{MOST_REPORT_BYTES}
+use Rattle.ror_bench.specs.Reports.{IfRejected, HoldsNoMemory}
+use Rattle.ror_closing.specs.Closing.{AreClosingLists}
+use Rattle.ror_group.specs.declared.entry.Entry.{Entry}
+use Rattle.ror_group.specs.declared.head.HeadFault.{HeadFault}
+use Rattle.ror_group.specs.declared.head.HeadFault.TheVariants as heads
+use Rattle.ror_group.specs.Head.{is_desk_name, head_fault, whole_head_at}
+use Rattle.ror_entries.specs.declared.check.EntryFault.{EntryFault}
+use Rattle.ror_entries.specs.declared.check.EntryFault.TheVariants as entry_faults
+use Rattle.ror_entries.specs.Steps.{IfRefused}
+use Rattle.ror_entries.specs.Reports.{IsProvedEntries, IsRejectedEntries}
+use Rattle.ror_frame.specs.declared.stop.Refusal.{Refusal}
+use Rattle.ror_frame.specs.declared.stop.Refusal.TheVariants as refusals
+use Rattle.ror_frame.specs.declared.stop.Stop.{Stop}
+use Rattle.ror_frame.specs.declared.stop.Stop.TheVariants as stops
+use Rattle.ror_frame.specs.Stops.{stop_at_report}
+use Rattle.ror_frame.specs.Courses.{IsTooLong, ReadAs}
+use Rattle.ror_frame.specs.Inputs.{bench_for}
+use Rattle.ror_work_group.specs.Entries.{group_kind, IsOnPairAt, IsProvedEntry, RefusesEntry, at_fault}
+use Rattle.ror_work_group.specs.Steps.{RefusesPair}
+use Rattle.ror_work_group.specs.Group.{ProvesGroup, IsAcceptedGroup, too_long, not_utf8, in_head, in_entries, RefusesGroup, head_reason}
+use Rattle.ror_work_group.proofs.HeadLemmas.{whole_is_text}
+use Rattle.ror_work_group.proofs.GroupCourses.{kind_of_lists}
+use Rattle.ror_work_group.proofs.Writing.{each_by}
+
+-- ---- an entry
+
+pub refused_on : (t : DecisionTable) (lists : List (List Statement)) (place : ℕ) (x : Entry) (e : EntryFault) → IsOnPairAt t place x → IfRefused (RefusesPair t lists x) e → IfRefused (RefusesEntry t lists place x) e
+refused_on t lists place x (entry_faults.Refused reason) on h = at_fault h.fault on h.first h.is
+refused_on t lists place x entry_faults.Memory on h = tt
+
+-- ---- the bytes
+
+pub long_group : (i : Input) (s : Session) (bytes : List ℕ) (r : Refusal) → IsTooLong MOST_REPORT_BYTES (refusals.Rejected (record { block = 0; reason = reasons.TooLong })) bytes r → RefusesGroup i s bytes r
+long_group i s bytes r long = (record { block = 0; reason = reasons.TooLong }, long.0, too_long long.1 refl)
+
+module _ (i : Input) (s : Session) (bytes : List ℕ) (few : length bytes ≤ MOST_REPORT_BYTES) where
+  pub no_text : ¬ (IsUtf8 bytes) → ReadAs {A = Accepted} 3 (ProvesGroup i s) (RefusesGroup i s) bytes (Err (stops.At (refusals.Rejected (record { block = 0; reason = reasons.NotUtf8 }))))
+  no_text bad = (refl, tt, (record { block = 0; reason = reasons.NotUtf8 }, refl, not_utf8 few bad refl))
+
+  head_refused : (f : HeadFault) (stop : Stop) → IsUtf8 bytes → whole_head_at s.desks bytes ≡ Err f → stop ≡ stops.At (refusals.Rejected (record { block = 0; reason = head_reason bytes f })) → ReadAs {A = Accepted} 3 (ProvesGroup i s) (RefusesGroup i s) bytes (Err (stops.At (refusals.Rejected (record { block = 0; reason = head_reason bytes f })))) → ReadAs {A = Accepted} 3 (ProvesGroup i s) (RefusesGroup i s) bytes (Err stop)
+  head_refused f stop utf8 read is had = subst (λ (x : Stop). ReadAs {A = Accepted} 3 (ProvesGroup i s) (RefusesGroup i s) bytes (Err x)) (sym is) had
+
+  pub refused_head : (fault : HeadFault) (stop : Stop) → IsUtf8 bytes → IfSome (head_fault fault) (λ f. whole_head_at s.desks bytes ≡ Err f) → IfSome (head_fault fault) (λ f. stop ≡ stops.At (refusals.Rejected (record { block = 0; reason = head_reason bytes f }))) → (head_fault fault ≡ None → stop ≡ stops.Memory) → ReadAs {A = Accepted} 3 (ProvesGroup i s) (RefusesGroup i s) bytes (Err stop)
+  refused_head (heads.Line (lines.BadLine p)) stop utf8 read is none = head_refused (heads.Line (lines.BadLine p)) stop utf8 read is (refl, tt, (record { block = 0; reason = head_reason bytes (heads.Line (lines.BadLine p)) }, refl, in_head few utf8 (heads.Line (lines.BadLine p)) read refl))
+  refused_head (heads.Line (lines.BadNumber p)) stop utf8 read is none = head_refused (heads.Line (lines.BadNumber p)) stop utf8 read is (refl, tt, (record { block = 0; reason = head_reason bytes (heads.Line (lines.BadNumber p)) }, refl, in_head few utf8 (heads.Line (lines.BadNumber p)) read refl))
+  refused_head (heads.Line lines.Memory) stop utf8 read is none = subst (λ (x : Stop). ReadAs {A = Accepted} 3 (ProvesGroup i s) (RefusesGroup i s) bytes (Err x)) (sym (none refl)) tt
+  refused_head heads.WrongBlock stop utf8 read is none = head_refused heads.WrongBlock stop utf8 read is (refl, tt, (record { block = 0; reason = reasons.WrongBlock }, refl, in_head few utf8 heads.WrongBlock read refl))
+
+  module _ (after : Cursor) (lists : List (List Statement)) (utf8 : IsUtf8 bytes) (read : whole_head_at s.desks bytes ≡ Ok after) (closing : AreClosingLists (bench_for i s) s.lines lists) where
+    pub entries_refused : (e : ReportError) → IfRejected (IsRejectedEntries (group_kind i.table lists) bytes after.place) e → HoldsNoMemory e → ReadAs {A = Accepted} 3 (ProvesGroup i s) (RefusesGroup i s) bytes (Err (stop_at_report e))
+    entries_refused (report_errors.Rejected r) why pure = (refl, pure, (r, refl, in_entries few utf8 after read lists closing why))
+    entries_refused report_errors.Memory why pure = tt
+
+    pub entries_proved : (x : Accepted) → IsProvedEntries (group_kind i.table lists) after.rest x → ProvesGroup i s bytes x
+    entries_proved x proved = (few, record { after = after; head = whole_is_text s.desks bytes after read; lists = lists; closing = closing; body = proved })
+
+-- what is proved over a lawful input is true
+pub accepted_too : (i : Input) (s : Session) (bytes : List ℕ) (x : Accepted) → IsTable i.table → IsLawfulIn i.table i.opening → ProvesGroup i s bytes x → IsAcceptedGroup i s bytes x
+accepted_too i s bytes x table lawful p =
+    let a = p.1 in
+    let kind = kind_of_lists i s table lawful a.lists a.closing in
+    record {
+      after = a.after;
+      head = a.head;
+      lists = a.lists;
+      closing = a.closing;
+      body = record { proved = a.body; entries_true = each_by (IsProvedEntry i.table a.lists) (λ place e. (group_kind i.table a.lists).IsTrue place e) kind.proved_is_true 0 a.body.entries a.body.proved };
+    }
+
+-- ---- names of desks
+
+clean_control : (name : List ℕ) → IsClean name → list_any is_control name ≡ false
+clean_control [] clean = refl
+clean_control (b ∷ bs) clean = let here = clean.0 in let rest = clean_control bs clean.1 in grind (arith, here, rest)
+
+pub desk_named : (name : List ℕ) → length name ≤ MOST_DESK_NAME_BYTES → IsClean name → IsUtf8 name → is_desk_name name ≡ true
+desk_named name short clean utf8 =
+    let none = clean_control name clean in
+    let text : is_utf8 name ≡ true = is_utf8-from_IsUtf8 name utf8 in
+    let small : nat_le (length name) MOST_DESK_NAME_BYTES ≡ true = grind (arith, short) in
+    rw (small, none, text) refl
+
+pub named_at : (P : List ℕ → Type 0) (names : List (List ℕ)) (i : ℕ) (name : List ℕ) → i < length names → name ≡ get_or names i name → AllByRecursion P names → P name
+named_at P [] i name within is all = absurd (omega arith)
+named_at P (x ∷ xs) zero name within is all = subst P (sym is) all.0
+named_at P (x ∷ xs) (suc i) name within is all = named_at P xs i name (omega arith) is all.1

@@ -1,0 +1,148 @@
+//! The check of a group's report: the three files are fetched in order, and the report is accepted or rejected.
+
+ghost use Rattle.std.specs.Prelude.{◌≡◌, ◌≤◌, min, None, length, IfOk, IfSome};
+ghost use Rattle.ror_text.specs.Lines.{line_of};
+ghost use Rattle.ror_group.specs.Head.{head_fault};
+ghost use Rattle.ror_frame.specs.Inputs.{bench_for};
+ghost use Rattle.ror_session.specs.Sound.{IsSound};
+ghost use Rattle.ror_value.specs.Over.{IsLawfulIn};
+ghost use Rattle.ror_closing.specs.Closing.{AreSuited, AreClosingLists};
+ghost use Rattle.ror_words.specs.Named.{inputs_of};
+ghost use Rattle.ror_frame.specs.States.{shelf_state, sink_state};
+ghost use Rattle.ror_frame.specs.Courses.{IsFetch, ReadAs, IsWork};
+ghost use Rattle.ror_work_group.specs.Group.{ProvesGroup, RefusesGroup, check_group_chore, head_reason};
+
+use crate::judge::GroupJudge;
+use crate::write::suited_lists;
+use ror_bench::{Accepted, Bench, MOST_REPORT_BYTES, Reason, Rejection};
+use ror_entries::check_entries;
+use ror_frame::{Refusal, Stop, conclude, fetch_suited, fetch_table, fetch_whole};
+use ror_group::head::{HeadFault, check_whole_head};
+use ror_io::{Shelf, Sink};
+use ror_proof::ProofFault;
+use ror_session::Session;
+use ror_text::lines::{is_utf8, line_number};
+use ror_words::FileNames;
+use ror_xmcda::Input;
+use std::alloc::{AllocError, Global};
+
+/// Fetches the three files in order, each once those before it were read, and writes the line of a group's report that is
+/// accepted. It says whether anything is too wide.
+///
+/// # Errors
+///
+/// The first file whose bytes are refused is, and what is at fault in it, or the session's first unsuited line; or a fault of the
+/// outside.
+pub fn check_group_files<F: Shelf, O: Sink>(
+    alloc: Global,
+    names: &FileNames<'_>,
+    report: &str,
+    shelf: &mut F,
+    out: &mut O,
+) -> Result<bool, Stop>
+    ensures { IsWork 0 (check_group_chore (inputs_of names.now) report.now).files
+        (check_group_chore (inputs_of names.now) report.now).course
+        (shelf_state (F.told shelf.old) (F.faults shelf.old) (F.fetch_count shelf.old))
+        (shelf_state (F.told shelf.new) (F.faults shelf.new) (F.fetch_count shelf.new))
+        (sink_state (O.written out.old) (O.faults out.old))
+        (sink_state (O.written out.new) (O.faults out.new)) result }
+{
+    let input = fetch_table(alloc, names, shelf)?;
+    let session = fetch_suited(alloc, names, shelf)?;
+    let accepted = fetch_report(alloc, report, shelf, input, &session)?;
+    conclude(out, accepted)
+}
+
+/// Fetches and checks the report, and counts its answers.
+fn fetch_report<F: Shelf>(
+    alloc: Global,
+    report: &str,
+    shelf: &mut F,
+    input: Input,
+    session: &Session,
+) -> Result<Accepted, Stop>
+    requires lawful { IsLawfulIn input.table input.opening }
+    requires sound { IsSound session.now }
+    requires suited { AreSuited session.now.lines }
+    ensures { IsFetch report.now 3 (ProvesGroup input session.now) (RefusesGroup input session.now)
+        (shelf_state (F.told shelf.old) (F.faults shelf.old) (F.fetch_count shelf.old))
+        (shelf_state (F.told shelf.new) (F.faults shelf.new) (F.fetch_count shelf.new)) result }
+{
+    let too_long = Refusal::Rejected(Rejection {
+        block: 0,
+        reason: Reason::TooLong,
+    });
+    let bytes = fetch_whole(alloc, report, MOST_REPORT_BYTES, too_long, shelf)?;
+    answers_in(alloc, input, session, bytes.as_slice())
+}
+
+/// Checks the bytes of a report, and counts its answers.
+fn answers_in(
+    alloc: Global,
+    input: Input,
+    session: &Session,
+    bytes: &[u8],
+) -> Result<Accepted, Stop>
+    requires lawful { IsLawfulIn input.table input.opening }
+    requires sound { IsSound session.now }
+    requires suited { AreSuited session.now.lines }
+    requires within { length bytes.now ≤ MOST_REPORT_BYTES }
+    ensures { ReadAs 3 (ProvesGroup input session.now) (RefusesGroup input session.now) bytes.now result }
+{
+    if !is_utf8(bytes) {
+        return Err(rejected(Reason::NotUtf8));
+    }
+    let start = match check_whole_head(bytes, session.desks.as_slice()) {
+        Ok(start) => start,
+        Err(fault) => return Err(misread(bytes, fault)),
+    };
+    let mut judge = judge_of(alloc, input, session)?;
+    Ok(check_entries(alloc, &mut judge, bytes, start)?)
+}
+
+/// The judge of the entries over the closing lists of the session's desks. Its one error is want of memory.
+fn judge_of(alloc: Global, input: Input, session: &Session) -> Result<GroupJudge, AllocError>
+    requires lawful { IsLawfulIn input.table input.opening }
+    requires sound { IsSound session.now }
+    requires suited { AreSuited session.now.lines }
+    ensures table { IfOk result (λ judge. judge.table ≡ input.table) }
+    ensures lists { IfOk result (λ judge. AreClosingLists (bench_for input session.now) session.now.lines judge.lists) }
+{
+    let desks = session.desks.len() as u32;
+    let mut bench = Bench::new(alloc, input, desks)?;
+    let lists = suited_lists(alloc, &mut bench, desks, session.lines.as_slice())?;
+    GroupJudge::new(alloc, bench, lists.as_slice())
+}
+
+/// The stop at a report that is rejected before its first entry.
+fn rejected(reason: Reason) -> Stop
+    ensures { result ≡ Stop.At (Refusal.Rejected (record { block = 0; reason = reason })) }
+{
+    Stop::At(Refusal::Rejected(Rejection { block: 0, reason }))
+}
+
+/// The stop at a head with this fault.
+fn misread(bytes: &[u8], fault: HeadFault) -> Stop
+    requires { length bytes.now ≤ MOST_REPORT_BYTES }
+    ensures fault { IfSome (head_fault fault) (λ f. result ≡ Stop.At (Refusal.Rejected (record { block = 0; reason = head_reason bytes.now f }))) }
+    ensures memory { head_fault fault ≡ None → result ≡ Stop.Memory }
+{
+    match fault {
+        HeadFault::Line(ProofFault::BadLine(place)) => rejected(Reason::BadLine(line_at(
+            bytes, place,
+        ))),
+        HeadFault::Line(ProofFault::BadNumber(place)) => rejected(Reason::BadNumber(line_at(
+            bytes, place,
+        ))),
+        HeadFault::Line(ProofFault::Memory) => Stop::Memory,
+        HeadFault::WrongBlock => rejected(Reason::WrongBlock),
+    }
+}
+
+/// The number of the line of the byte at a place, or of the bytes' end.
+fn line_at(bytes: &[u8], place: usize) -> u32
+    requires { length bytes.now ≤ MOST_REPORT_BYTES }
+    ensures { result ≡ line_of bytes.now (min place (length bytes.now)) }
+{
+    line_number(bytes, place.min(bytes.len()))
+}

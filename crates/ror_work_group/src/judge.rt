@@ -1,0 +1,169 @@
+//! The check of the entries of a group's report.
+
+ghost use Rattle.std.specs.Prelude.{◌≡◌, ◌≤◌, ◌<◌, length, slice_get, Some, IfOk, IfErr, OnOk};
+ghost use Rattle.std.specs.List.{AllByRecursion};
+ghost use Rattle.ror_value.specs.Over.{IsLawfulIn};
+ghost use Rattle.ror_bench.specs.Blocks.{answers_passed};
+ghost use Rattle.ror_bench.specs.Reports.{IsFreeOfMemory};
+ghost use Rattle.ror_group.specs.Proof.{IsJudgeIn, IsProvedPair, lists_of};
+ghost use Rattle.ror_entries.specs.Steps.{IfRefused};
+ghost use Rattle.ror_work_group.specs.Steps.{RefusesPair};
+ghost use Rattle.ror_work_group.specs.Steps as steps;
+
+use ror_bench::{Bench, Passed, Reason};
+use ror_entries::EntryFault;
+use ror_group::{Entry, GroupFault, Judge, check_pair_by, read_entry};
+use ror_proof::ProofFault;
+use ror_relation::ordered_pairs;
+use ror_statement::Statement;
+use ror_table::Table;
+use ror_text::Items;
+use std::alloc::{AllocError, Global};
+use std::marker::Model;
+
+/// Judges the entries of a group's report over a bench's table, by the lists of its desks.
+#[derive(Drop)]
+pub(crate) struct GroupJudge {
+    bench: Bench,
+    pairs: Vec<(usize, usize)>,
+    judges: Vec<Judge>,
+}
+
+impl Model for GroupJudge {
+    ghost use Rattle.ror_group.specs.Proof.{lists_of};
+    ghost use Rattle.ror_work_group.specs.Steps.{GroupJudging, IsJudging};
+
+    ghost Value = { GroupJudging };
+
+    ghost view = { λ j. record { table = j.bench.table; lists = lists_of j.judges.items } };
+
+    ghost invariant = { λ j. IsJudging j.bench.table j.pairs.items j.judges.items };
+}
+
+impl GroupJudge {
+    /// Makes a checker for each list, which is lawful in the bench's table. Its one error is want of memory.
+    pub(crate) fn new(
+        alloc: Global,
+        bench: Bench,
+        lists: &[Items<Statement>],
+    ) -> Result<GroupJudge, AllocError>
+        requires lawful { AllByRecursion (IsLawfulIn bench.table) lists.now }
+        requires few { length lists.now ≤ 64 }
+        ensures table { IfOk result (λ judge. judge.table ≡ bench.table) }
+        ensures lists { IfOk result (λ judge. judge.lists ≡ lists.now) }
+    {
+        prove!(bench.table().alternatives() > 0);
+        let pairs = ordered_pairs(alloc, bench.table().alternatives())?;
+        let judges = judges_of(alloc, bench.table(), lists)?;
+        Ok(GroupJudge {
+            bench,
+            pairs,
+            judges,
+        })
+    }
+}
+
+/// A judge for each list.
+fn judges_of(
+    alloc: Global,
+    table: &Table,
+    lists: &[Items<Statement>],
+) -> Result<Vec<Judge>, AllocError>
+    requires lawful { AllByRecursion (IsLawfulIn table.now) lists.now }
+    ensures judges { IfOk result (λ judges. AllByRecursion (IsJudgeIn table.now) judges.items) }
+    ensures lists { IfOk result (λ judges. lists_of judges.items ≡ lists.now) }
+{
+    let mut judges = Vec::with_capacity(alloc, lists.len())?;
+    'lists: for list in lists {
+        judges.push(Judge::new(alloc, table, copied(alloc, list)?)?)?;
+    }
+    Ok(judges)
+}
+
+/// The same statements again.
+pub(crate) fn copied(alloc: Global, list: &Items<Statement>) -> Result<Items<Statement>, AllocError>
+    ensures { IfOk result (λ copy. copy ≡ list.now) }
+{
+    let mut statements = Vec::new(alloc);
+    statements.extend_from_slice(list.as_slice())?;
+    Ok(Items::from(statements))
+}
+
+impl ror_entries::Judge for GroupJudge {
+    type Entry = Entry;
+
+    ghost use Rattle.ror_work_group.specs.Entries.{group_kind};
+
+    ghost kind = { λ j. group_kind j.table j.lists };
+
+    fn count(&self) -> u32 {
+        self.pairs.len() as u32
+    }
+
+    fn read(&self, alloc: Global, bytes: &[u8], from: usize) -> Result<(Entry, usize), ProofFault> {
+        read_entry(alloc, self.bench.table(), bytes, from)
+    }
+
+    fn check(&mut self, alloc: Global, place: u32, entry: &Entry) -> Result<Passed, EntryFault> {
+        let (first, second) = pair_at(self.pairs.as_slice(), place);
+        if entry.first != first || entry.second != second {
+            return Err(EntryFault::Refused(Reason::WrongBlock));
+        }
+        check_on(alloc, self.bench.table(), &mut self.judges, entry)
+    }
+}
+
+/// The pair at a place.
+pub(crate) fn pair_at(pairs: &[(usize, usize)], place: u32) -> (usize, usize)
+    requires { place < length pairs.now }
+    ensures { slice_get pairs.now place ≡ Some result }
+{
+    pairs[place as usize]
+}
+
+/// Judges the answers and the words of an entry for its pair.
+fn check_on(
+    alloc: Global,
+    table: &Table,
+    judges: &mut Vec<Judge>,
+    entry: &Entry,
+) -> Result<Passed, EntryFault>
+    requires few { length judges.old.items ≤ 64 }
+    requires judges { AllByRecursion (IsJudgeIn table.now) judges.old.items }
+    requires first { entry.now.first < length table.now.alternatives }
+    requires second { entry.now.second < length table.now.alternatives }
+    ensures proved { OnOk result (IsProvedPair table.now (lists_of judges.old.items)
+        entry.now.first entry.now.second entry.now.answers entry.now.quartet) }
+    ensures counted { IfOk result (λ passed. passed ≡ answers_passed entry.now.answers) }
+    ensures refused { IfErr result (IfRefused (RefusesPair table.now (lists_of judges.old.items) entry.now)) }
+    ensures pure { IfErr result (IfRefused IsFreeOfMemory) }
+    ensures judges { AllByRecursion (IsJudgeIn table.now) judges.new.items }
+    ensures lists { lists_of judges.new.items ≡ lists_of judges.old.items }
+    ensures length { length judges.new.items ≡ length judges.old.items }
+{
+    let answers = entry.answers.as_slice();
+    let checked = check_pair_by(
+        alloc,
+        table,
+        judges.as_mut_slice(),
+        entry.first,
+        entry.second,
+        answers,
+        &entry.quartet,
+    );
+    match checked {
+        Ok(()) => Ok(Passed::of(answers)),
+        Err(fault) => Err(refused(fault)),
+    }
+}
+
+/// The fault of an entry of which this is refused.
+fn refused(fault: GroupFault) -> EntryFault
+    ensures { result ≡ steps.refused_entry fault }
+{
+    match fault {
+        GroupFault::Count | GroupFault::WrongQuartet => EntryFault::Refused(Reason::WrongBlock),
+        GroupFault::Answer(answer, fault) => { EntryFault::Refused(Reason::Answer(answer, fault)) }
+        GroupFault::Memory => EntryFault::Memory,
+    }
+}

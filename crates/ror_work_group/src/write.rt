@@ -1,0 +1,141 @@
+//! The report of a group: its head, the entry of each pair, each written before the next one is made, and its end.
+
+ghost use Rattle.std.specs.Prelude.{◌≡◌, ◌≤◌, true, length, IfOk};
+ghost use Rattle.std.specs.List.{AllByRecursion};
+ghost use Rattle.ror_pivot.specs.Answers.{most_of};
+ghost use Rattle.ror_session.specs.Sound.{IsSound};
+ghost use Rattle.ror_table.specs.Table.{IsTable};
+ghost use Rattle.ror_value.specs.Over.{IsLawfulIn};
+ghost use Rattle.ror_bench.specs.Bench.{LeavesNumbers};
+ghost use Rattle.ror_bench.specs.Reports.{NamesADesk};
+ghost use Rattle.ror_closing.specs.Closing.{AreSuited, AreClosingLists};
+ghost use Rattle.ror_session.specs.Grammar.{IsClean};
+ghost use Rattle.ror_session.specs.declared.limits.TheConstants.{MOST_DESK_NAME_BYTES};
+ghost use Rattle.ror_group.specs.Head.{is_desk_name};
+ghost use Rattle.ror_words.specs.Named.{inputs_of};
+ghost use Rattle.ror_frame.specs.States.{shelf_state, sink_state};
+ghost use Rattle.ror_frame.specs.Courses.{WritesDue, IsWork};
+ghost use Rattle.ror_work_group.specs.Group.{group_output, group_chore, WritesReport};
+
+use crate::maker::GroupMaker;
+use ror_bench::Bench;
+use ror_closing::{ClosingFault, closing_lists};
+use ror_entries::{EntriesStop, write_entries};
+use ror_frame::{Stop, fetch_suited, fetch_table};
+use ror_group::head::print_head;
+use ror_io::{Shelf, Sink, write_all};
+use ror_pivot::Bits;
+use ror_session::{Line, Session};
+use ror_statement::Statement;
+use ror_text::{Items, Text};
+use ror_words::FileNames;
+use ror_xmcda::Input;
+use std::alloc::{AllocError, Global};
+
+/// Fetches table and session, each once those before it were read, and writes the report of the group at a width. It says whether
+/// anything is too wide.
+///
+/// # Errors
+///
+/// The first file whose bytes are refused is, and what is at fault in it, or the session's first unsuited line; or a fault of the
+/// outside.
+pub fn group_files<F: Shelf, O: Sink>(
+    alloc: Global,
+    names: &FileNames<'_>,
+    bits: Bits,
+    shelf: &mut F,
+    out: &mut O,
+) -> Result<bool, Stop>
+    ensures { IsWork 0 (group_chore (inputs_of names.now) bits).files
+        (group_chore (inputs_of names.now) bits).course
+        (shelf_state (F.told shelf.old) (F.faults shelf.old) (F.fetch_count shelf.old))
+        (shelf_state (F.told shelf.new) (F.faults shelf.new) (F.fetch_count shelf.new))
+        (sink_state (O.written out.old) (O.faults out.old))
+        (sink_state (O.written out.new) (O.faults out.new)) result }
+{
+    let input = fetch_table(alloc, names, shelf)?;
+    let session = fetch_suited(alloc, names, shelf)?;
+    write_group(alloc, input, &session, bits, out)
+}
+
+/// Writes the report of the group of a session over an input at a width, and says whether anything is too wide. The lists of all
+/// desks are closed and their bases decided before the first byte is written.
+fn write_group<O: Sink>(
+    alloc: Global,
+    input: Input,
+    session: &Session,
+    bits: Bits,
+    out: &mut O,
+) -> Result<bool, Stop>
+    requires table { IsTable input.table }
+    requires lawful { IsLawfulIn input.table input.opening }
+    requires sound { IsSound session.now }
+    requires suited { AreSuited session.now.lines }
+    ensures { WritesDue (group_output (most_of bits) input session.now)
+        (sink_state (O.written out.old) (O.faults out.old))
+        (sink_state (O.written out.new) (O.faults out.new)) result }
+{
+    let desks = session.desks.len() as u32;
+    let lines = session.lines.as_slice();
+    let mut bench = Bench::new(alloc, input, desks)?;
+    let lists = suited_lists(alloc, &mut bench, desks, lines)?;
+    let names = session.desks.as_slice();
+    name_each(names);
+    let head = print_head(alloc, names)?;
+    let mut maker = GroupMaker::new(alloc, bench, lists.as_slice(), bits)?;
+    write_report(alloc, head.as_slice(), &mut maker, out)
+}
+
+/// Each name of a desk is one that a session may have. It does nothing: that a text is UTF-8 is known of each one alone.
+fn name_each(names: &[Text])
+    requires short { AllByRecursion (λ name. length name ≤ MOST_DESK_NAME_BYTES) names.now }
+    requires clean { AllByRecursion IsClean names.now }
+    ensures { AllByRecursion (λ name. is_desk_name name ≡ true) names.now }
+{
+    'names: for name in names {
+        let _ = name.as_str();
+    }
+}
+
+/// The closing lists of a session without an unsuited line. Its one error is want of memory.
+pub(crate) fn suited_lists(
+    alloc: Global,
+    bench: &mut Bench,
+    desks: u32,
+    lines: &[Line],
+) -> Result<Vec<Items<Statement>>, AllocError>
+    requires desks { length bench.old.state ≡ desks }
+    requires named { AllByRecursion (NamesADesk (length bench.old.state)) lines.now }
+    requires numbers { AllByRecursion (LeavesNumbers (length lines.now)) bench.old.state }
+    requires suited { AreSuited lines.now }
+    ensures closing { IfOk result (λ lists. AreClosingLists bench.old lines.now lists.items) }
+    ensures count { IfOk result (λ lists. length lists.items ≡ desks) }
+    ensures lawful { IfOk result
+        (λ lists. AllByRecursion (IsLawfulIn bench.old.table) lists.items) }
+    ensures table { bench.new.table ≡ bench.old.table }
+{
+    match closing_lists(alloc, bench, desks, lines) {
+        Ok(lists) => Ok(lists),
+        Err(ClosingFault::Memory) => Err(AllocError),
+        Err(ClosingFault::Unsuited(_)) => unreachable!(),
+    }
+}
+
+/// Writes the head, the entries and the last line.
+fn write_report<O: Sink>(
+    alloc: Global,
+    head: &[u8],
+    maker: &mut GroupMaker,
+    out: &mut O,
+) -> Result<bool, Stop>
+    ensures { WritesReport head.now maker.old.most maker.old.table maker.old.lists
+        (sink_state (O.written out.old) (O.faults out.old))
+        (sink_state (O.written out.new) (O.faults out.new)) result }
+{
+    write_all(out, head)?;
+    match write_entries(alloc, maker, out) {
+        Ok(wide) => Ok(wide),
+        Err(EntriesStop::Write) => Err(Stop::WriteFault),
+        Err(EntriesStop::Memory) => Err(Stop::Memory),
+    }
+}
