@@ -1,4 +1,4 @@
--- Laws of closing lists: they are one, and what any report of the session leaves.
+-- Laws of closing lists: there are no two of a session, and they are what any report of it leaves.
 use Rattle.std.specs.Prelude.{◌≡◌, ℕ, List, []}
 use Rattle.ror_statement.specs.declared.statement.Statement.{Statement}
 use Rattle.ror_session.specs.declared.session.Line.{Line}
@@ -30,7 +30,7 @@ ClosesReplays = (most : ℕ) (bench : Workbench) (lines : List Line) (blocks : L
     (lists : List (List Statement)) → AreSuited lines → AreBlocksAt most bench lines blocks
     → AreClosingLists bench lines lists → lists ≡ lists_after bench (with_blocks lines blocks)
 
--- lines are suited, or have one first number of an unsuited one
+-- lines have at most one first number of an unsuited one, and with one they are not suited
 pub record OneFirstUnsuited : Type 0 where
   pub one : (lines : List Line) (m n : ℕ) → IsFirstUnsuited lines m → IsFirstUnsuited lines n → m ≡ n
   pub not_suited : (lines : List Line) (n : ℕ) → IsFirstUnsuited lines n → AreSuited lines → ⊥

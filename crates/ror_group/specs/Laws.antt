@@ -17,7 +17,7 @@ use Rattle.ror_group.specs.Group.{Judges, IsGroupAnswer, AreGroupAnswers}
 use Rattle.ror_group.specs.Group.Judges.{every_judge, some_judge}
 use Rattle.ror_group.specs.Combining.{asked_on, InStep, combined}
 
--- a group has one answer to each question
+-- a group has no two answers to a question
 abbrev pub OneGroupAnswer : Type 0
 OneGroupAnswer = (t : DecisionTable) (lists : List (List Statement)) (js : Judges) (q : Question)
     (c d : Conclusion) → IsGroupAnswer t lists js q c → IsGroupAnswer t lists js q d → c ≡ d

@@ -8,16 +8,10 @@
 //! system and the note of its path, and concludes nothing. `decide_system` decides one system by itself, for questions and for
 //! repairs alike.
 //!
-//! Let alternative 0 be evaluated 3 and 10, 1 with 2 and 8 and 2 with 1 and 12, where more of the first and less of the
-//! second criterion is better. Over no statements:
-//!
-//! ```text
-//! Necessary(0, 2)   Yes: the system in which 2 is worth more than 0 is refuted by multipliers
-//! Necessary(0, 1)   No: the system in which 1 is worth more than 0 has a solution
-//! Possible(0, 1)    Yes: the system in which 0 is worth at least as much as 1 has a solution
-//! ```
-//!
-//! Over `Prefer(0, 1)` the second is Yes, and over that and `Prefer(1, 0)` each answer is Contradiction.
+//! Let alternative 0 be evaluated 3 and 10, 1 with 2 and 8 and 2 with 1 and 12, where more of the first and less of the second
+//! criterion is better. Over no statements `Necessary(0, 2)` is Yes, as multipliers refute that 2 is worth more than 0,
+//! `Necessary(0, 1)` is No and `Possible(0, 1)` Yes, each by a solution. Over `Prefer(0, 1)` the second is Yes, and over that and
+//! `Prefer(1, 0)` each answer is Contradiction.
 #![tactic(auto)]
 
 mod decided;

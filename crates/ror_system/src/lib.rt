@@ -8,16 +8,9 @@
 //! both certificates (`laws::never_both`). `steps` has the tests of numbers that are to be steps. `Numbers` keeps a
 //! certificate's numbers in 32 bits each, where they fit.
 //!
-//! Over two columns let the strict rows be (1, 1) and (1, -1):
-//!
-//! ```text
-//! accept_solution(&s, &Solution { steps: [2, 1] })                 Ok(()): the rows come to 3 and 1
-//! accept_solution(&s, &Solution { steps: [1, 1] })                 Err(Row(1)): row 1 comes to 0
-//! accept_multipliers(&s, &Multipliers { weak: [], strict: [0, 1] }) Err(Column(0)): it sums to 1
-//! ```
-//!
-//! With (-1, 1) as a third strict row the multipliers 0, 1 and 1 are accepted: the rows so weighed
-//! sum to (0, 0), so no steps make both rows positive.
+//! Over two columns with the strict rows (1, 1) and (1, -1) the steps 2 and 1 are accepted, as the rows come to 3 and 1; 1 and 1
+//! are refused for row 1, which comes to 0; and the multipliers 0 and 1 for column 0, which sums to 1. With (-1, 1) as a third
+//! strict row the multipliers 0, 1 and 1 are accepted: the rows so weighed sum to (0, 0), so no steps make both rows positive.
 #![tactic(auto)]
 
 mod accept;
