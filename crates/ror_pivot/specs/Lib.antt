@@ -8,3 +8,5 @@ pub mod Answers
 pub mod Counts
 pub mod Calls
 pub mod Laws
+pub mod Optimality
+pub mod Climbing

@@ -22,16 +22,20 @@
 //! In 16 bits the second pivot of the first would need 199 times -200 in row 1, column 0.
 
 mod choose;
+mod climb;
 mod fault;
 mod feasible;
 mod infeasible;
 pub mod laws;
 mod note;
+mod optimum;
 mod path;
 mod pivot;
 mod shape;
 mod start;
 mod sums;
 
+pub use climb::climb_bits;
 pub use note::{Bits, Outcome, Place, SolveFault, WideNote};
+pub use optimum::{ClimbFault, ClimbNote, ClimbPlace, Optimum};
 pub use path::{solve, solve_bits, solve_counted};
