@@ -15,6 +15,10 @@
 //! which [`print_entry`] gives and [`read_entry`] reads back. A report begins with the line of [`head::header`].
 
 mod entry;
+pub mod head;
 mod names;
+mod print;
+mod write;
 
 pub use entry::{Entry, EntryBody};
+pub use print::{print_entry, write_entry};
