@@ -17,8 +17,12 @@
 mod entry;
 pub mod head;
 mod names;
+mod notes;
 mod print;
+mod read;
+mod words;
 mod write;
 
 pub use entry::{Entry, EntryBody};
 pub use print::{print_entry, write_entry};
+pub use read::read_entry;

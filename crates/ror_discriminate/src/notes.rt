@@ -1,0 +1,189 @@
+//! The readers of notes of numbers that are too wide.
+
+ghost use Rattle.std.specs.Prelude.{IfErr};
+ghost use Rattle.ror_text.specs.Reading.{Gives};
+ghost use Rattle.ror_proof.specs.Reading as certificates;
+ghost use Rattle.ror_proof.specs.Reading.{proof_fault, IsProofFaultWithin};
+ghost use Rattle.ror_proof.specs.Words as spec;
+ghost use Rattle.ror_discriminate.specs.Reading as reading;
+ghost use Rattle.ror_discriminate.specs.Reading.{noted_at};
+
+use crate::entry::EntryBody;
+use crate::names::{CLIMB_NAMES, ClimbName, PathName};
+use crate::words::path_at;
+use ror_pivot::{ClimbNote, ClimbPlace, Place, WideNote};
+use ror_proof::ProofFault;
+use ror_proof::names::{PLACE_NAMES, PlaceName};
+use ror_proof::words::{name_at, small_number_at};
+use ror_text::Items;
+use ror_text::spaced::Words;
+use std::alloc::Global;
+
+/// The note of this path, whose word is before these words, up to the end of the line.
+pub(crate) fn note_of(
+    alloc: Global,
+    path: PathName,
+    place: usize,
+    words: Words<'_>,
+) -> Result<EntryBody, ProofFault>
+    ensures exact { Gives (λ x. x) proof_fault result (reading.note_of path place words.entry) }
+    ensures placed { IfErr result (IsProofFaultWithin place) }
+{
+    match path {
+        PathName::Base => {
+            let note = base_note_at(alloc, place, words)?;
+            Ok(EntryBody::BaseWide(note))
+        }
+        PathName::Climb => {
+            let note = climb_note_at(alloc, place, words)?;
+            Ok(EntryBody::ClimbWide(note))
+        }
+    }
+}
+
+/// A place on a system's path, `path` and pivots.
+#[tactic(auto, unfolding(crate::specs::Reading::noted_at))]
+fn base_note_at(alloc: Global, place: usize, words: Words<'_>) -> Result<WideNote, ProofFault>
+    ensures exact { Gives (λ note. (note.place, note.path)) proof_fault result
+        (noted_at reading.place_at place words.entry) }
+    ensures placed { IfErr result (IsProofFaultWithin place) }
+{
+    let (number, words) = place_at(place, words)?;
+    let path = Items::from(path_at(alloc, place, words)?);
+    Ok(WideNote {
+        path,
+        place: number,
+    })
+}
+
+/// A place on a climbing path, `path` and pivots.
+#[tactic(auto, unfolding(crate::specs::Reading::noted_at))]
+fn climb_note_at(alloc: Global, place: usize, words: Words<'_>) -> Result<ClimbNote, ProofFault>
+    ensures exact { Gives (λ note. (note.place, note.path)) proof_fault result
+        (noted_at reading.climb_place_at place words.entry) }
+    ensures placed { IfErr result (IsProofFaultWithin place) }
+{
+    let (number, words) = climb_place_at(place, words)?;
+    let path = Items::from(path_at(alloc, place, words)?);
+    Ok(ClimbNote {
+        path,
+        place: number,
+    })
+}
+
+/// The place on a system's path that comes first.
+#[tactic(auto, unfolding(crate::specs::Reading::place_at))]
+fn place_at<'a>(place: usize, words: Words<'a>) -> Result<(Place, Words<'a>), ProofFault>
+    ensures exact { Gives (λ x. (x.0, x.1)) proof_fault result
+        (reading.place_at place words.entry) }
+    ensures placed { IfErr result (IsProofFaultWithin place) }
+{
+    let (name, words) = name_at(&PLACE_NAMES, place, words)?;
+    numbered_at(place, name, words)
+}
+
+/// The place of this name, whose word is before these words.
+fn numbered_at<'a>(
+    place: usize,
+    name: PlaceName,
+    words: Words<'a>,
+) -> Result<(Place, Words<'a>), ProofFault>
+    ensures exact { Gives (λ x. (x.0, x.1)) proof_fault result
+        (reading.numbered_at place name words.entry) }
+    ensures placed { IfErr result (IsProofFaultWithin place) }
+{
+    match name {
+        PlaceName::Start => {
+            let (row, column, words) = two_at(place, words)?;
+            Ok((Place::Start(row, column), words))
+        }
+        PlaceName::Step => {
+            let (row, column, words) = two_at(place, words)?;
+            Ok((Place::Step(row, column), words))
+        }
+        PlaceName::Denominator => {
+            let (row, words) = one_at(place, words)?;
+            Ok((Place::Denominator(row), words))
+        }
+        PlaceName::RowSum => {
+            let (row, words) = one_at(place, words)?;
+            Ok((Place::RowSum(row), words))
+        }
+        PlaceName::ColumnSum => {
+            let (column, words) = one_at(place, words)?;
+            Ok((Place::ColumnSum(column), words))
+        }
+    }
+}
+
+/// The place on a climbing path that comes first.
+#[tactic(auto, unfolding(crate::specs::Reading::climb_place_at))]
+fn climb_place_at<'a>(place: usize, words: Words<'a>) -> Result<(ClimbPlace, Words<'a>), ProofFault>
+    ensures exact { Gives (λ x. (x.0, x.1)) proof_fault result
+        (reading.climb_place_at place words.entry) }
+    ensures placed { IfErr result (IsProofFaultWithin place) }
+{
+    let (name, words) = name_at(&CLIMB_NAMES, place, words)?;
+    climbed_at(place, name, words)
+}
+
+/// The place of this name, whose word is before these words.
+fn climbed_at<'a>(
+    place: usize,
+    name: ClimbName,
+    words: Words<'a>,
+) -> Result<(ClimbPlace, Words<'a>), ProofFault>
+    ensures exact { Gives (λ x. (x.0, x.1)) proof_fault result
+        (reading.climbed_at place name words.entry) }
+    ensures placed { IfErr result (IsProofFaultWithin place) }
+{
+    match name {
+        ClimbName::Start => {
+            let (row, column, words) = two_at(place, words)?;
+            Ok((ClimbPlace::Start(row, column), words))
+        }
+        ClimbName::Step => {
+            let (row, column, words) = two_at(place, words)?;
+            Ok((ClimbPlace::Step(row, column), words))
+        }
+        ClimbName::Denominator => {
+            let (row, words) = one_at(place, words)?;
+            Ok((ClimbPlace::Denominator(row), words))
+        }
+        ClimbName::RowSum => {
+            let (row, words) = one_at(place, words)?;
+            Ok((ClimbPlace::RowSum(row), words))
+        }
+        ClimbName::Total => Ok((ClimbPlace::Total, words)),
+        ClimbName::Scale => {
+            let (column, words) = one_at(place, words)?;
+            Ok((ClimbPlace::Scale(column), words))
+        }
+        ClimbName::ColumnSum => {
+            let (column, words) = one_at(place, words)?;
+            Ok((ClimbPlace::ColumnSum(column), words))
+        }
+    }
+}
+
+/// The row and the column that come first.
+#[tactic(auto, unfolding(ror_proof::specs::Reading::entry_at))]
+fn two_at<'a>(place: usize, words: Words<'a>) -> Result<(usize, usize, Words<'a>), ProofFault>
+    ensures exact { Gives (λ x. ((x.0, x.1), x.2)) proof_fault result
+        (certificates.entry_at place words.entry) }
+    ensures placed { IfErr result (IsProofFaultWithin place) }
+{
+    let (row, words) = one_at(place, words)?;
+    let (column, words) = one_at(place, words)?;
+    Ok((row, column, words))
+}
+
+/// The row or the column that comes first.
+fn one_at<'a>(place: usize, words: Words<'a>) -> Result<(usize, Words<'a>), ProofFault>
+    ensures exact { Gives (λ x. (x.0, x.1)) proof_fault result
+        (spec.small_number_at place words.entry) }
+    ensures placed { IfErr result (IsProofFaultWithin place) }
+{
+    let (number, words) = small_number_at(place, words)?;
+    Ok((number as usize, words))
+}
