@@ -20,6 +20,7 @@ mod names;
 mod notes;
 mod print;
 mod read;
+pub mod text_laws;
 mod words;
 mod write;
 
