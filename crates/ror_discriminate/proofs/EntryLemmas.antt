@@ -74,7 +74,7 @@ body_again place (bodies.Contradiction m) rest printable = one_line_again forms.
 body_again place (bodies.BaseWide note) rest printable = one_line_again forms.Wide wide_words (codes "wide") (bodies.BaseWide note) place rest (base_line note printable.0 printable.1) (λ words. refl) (λ c. refl)
 body_again place (bodies.ClimbWide note) rest printable = one_line_again forms.Wide wide_words (codes "wide") (bodies.ClimbWide note) place rest (climb_line note printable.0 printable.1) (λ words. refl) (λ c. refl)
 
-entry_step : (c d after : Cursor) (x : Entry) → desk_line c ≡ Ok (x.desk, d) → body_at d ≡ Ok (x.body, after) → entry_at c ≡ Ok (x, after)
+pub entry_step : (c d after : Cursor) (x : Entry) → desk_line c ≡ Ok (x.desk, d) → body_at d ≡ Ok (x.body, after) → entry_at c ≡ Ok (x, after)
 unfolding entry_at
 entry_step c d after x desk body = rw (desk, body) refl
 

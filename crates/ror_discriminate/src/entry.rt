@@ -16,8 +16,8 @@ pub struct Entry {
 /// What is said of a list of statements.
 #[derive(Debug, Drop)]
 pub enum EntryBody {
-    /// The solution is of the most discriminating function: over all strict comparisons its least difference is `margin` where
-    /// its ideal value is `total`, and the multipliers show that no compatible function has a greater margin for its ideal value.
+    /// The steps of a most discriminating function, of which `margin` is the least difference over all strict comparisons and
+    /// `total` the ideal value, and multipliers that show that no compatible function has a greater margin for its ideal value.
     Best {
         margin: i128,
         total: i128,

@@ -6,6 +6,7 @@ ghost use Rattle.ror_text.specs.Cursor.{cursor_at, line_words};
 ghost use Rattle.ror_proof.specs.Reading.{ended, proof_fault, IsProofFaultWithin};
 ghost use Rattle.ror_discriminate.specs.Reading as reading;
 ghost use Rattle.ror_discriminate.specs.Reading.{entry_at};
+ghost use Rattle.ror_discriminate.specs.Text.{IsPrintableEntry};
 
 use crate::entry::{Entry, EntryBody};
 use crate::head::desk_line;
@@ -38,6 +39,7 @@ pub fn read_entry(
     requires { from ≤ length bytes.now }
     ensures exact { Gives (λ x. (x.0, cursor_at bytes.now x.1)) proof_fault result
         (entry_at (cursor_at bytes.now from)) }
+    ensures printable { IfOk result (λ x. IsPrintableEntry x.0) }
     ensures onward { IfOk result (λ x. from < x.1) }
     ensures within { IfOk result (λ x. x.1 ≤ length bytes.now) }
     ensures placed { IfErr result (IsProofFaultWithin (length bytes.now)) }
