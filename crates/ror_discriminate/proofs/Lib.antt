@@ -5,3 +5,4 @@ pub mod EntryLemmas
 pub mod EntryUtf8
 pub mod EntryWords
 pub mod EntryErrors
+pub mod FoundBodies

@@ -1,7 +1,7 @@
 //! Laws of entries and of the first line, and of their texts, each the clause of a function that does nothing.
 
 ghost use Rattle.std.specs.Str.{IsUtf8};
-ghost use Rattle.ror_discriminate.specs.EntryLaws.{EntriesAreTheirTexts, EntriesHaveOneText, EntriesBeginWithDesk, EntriesAreUtf8, EntriesFailFirst};
+ghost use Rattle.ror_discriminate.specs.EntryLaws.{EntriesAreTheirTexts, EntriesHaveOneText, EntriesBeginWithDesk, EntriesAreUtf8, EntriesFailFirst, FoundBodiesHaveTexts};
 ghost use Rattle.ror_discriminate.specs.Head.{header_text, HeadersAreTheirTexts};
 
 /// An entry is read exactly where its text stands, whatever follows: what was written is read again, and what is read was so
@@ -30,4 +30,9 @@ pub fn the_first_fault_is_given()
 /// The first line is read exactly where it stands, and other bytes are refused.
 pub fn headers_read_back()
     ensures { HeadersAreTheirTexts }
+{}
+
+/// What is found at a width has a text.
+pub fn what_is_found_has_a_text()
+    ensures { FoundBodiesHaveTexts }
 {}
