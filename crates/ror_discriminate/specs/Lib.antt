@@ -1,0 +1,4 @@
+pub mod Margin
+pub mod Faults
+pub mod Steps
+pub mod Laws

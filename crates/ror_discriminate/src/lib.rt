@@ -1,0 +1,33 @@
+//! The most discriminating value function of a list of statements, with a proof that no other discriminates more.
+//!
+//! A compatible value function meets what a list says strictly (that one alternative is preferred to another, that a preference
+//! is stronger than another, or what the classes of two alternatives say together) by some margin each. The most discriminating
+//! one has the greatest least margin, over the value of the best levels (as UTAMP has it). It is shown by an
+//! [`Optimum`](ror_pivot::Optimum): a solution, and multipliers that show that no compatible function has a greater least margin.
+//! [`check_optimal`] multiplies the two out and never searches; what it accepts is a most discriminating function
+//! (`laws::proved_optima_are_best`), and what it refuses has a first test that fails ([`OptimalFault`]). [`check_best`] says the
+//! margin besides.
+//!
+//! Let `a` be evaluated 3 and 10, `b` with 2 and 8 and `c` with 1 and 12, where more of the first and less of the second criterion
+//! is better; the columns are q1, q2, p1, p2.
+//!
+//! ```text
+//! prefer a b               margin 1 1   solution 0 1 0 0   multipliers | 0 1
+//! prefer a b, prefer b c   margin 1 2   solution 1 1 0 0   multipliers | 0 1 1
+//! ```
+//!
+//! In the second the strict rows but that of ones are (0, 1, 0, -1) and (1, 0, 1, 1), which come to 1 and 1 at the solution, whose
+//! total is 2. With the multipliers they sum to (1, 1, 1, 0), and in each column 2 times this is at most 1 times 2, the sum of the
+//! strict multipliers. The solution 1 2 0 0, of margin 1 and total 3, is refused for column 0: 3 times 1 is above 1 times 2.
+#![tactic(auto)]
+
+mod check;
+mod fault;
+pub mod laws;
+mod margin;
+mod sum;
+mod tops;
+
+pub use check::{check_best, check_optimal};
+pub use fault::OptimalFault;
+pub use margin::Margin;
