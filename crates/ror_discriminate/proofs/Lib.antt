@@ -2,6 +2,8 @@ pub mod Leasts
 pub mod NoGreater
 pub mod Margins
 pub mod OptimalTests
+pub mod Dues
 pub mod Columns
 pub mod Checked
+pub mod Found
 pub mod OneFault

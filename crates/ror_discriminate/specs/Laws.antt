@@ -1,5 +1,5 @@
--- Laws of margins, of most discriminating functions and of the tests of an optimum.
-use Rattle.std.specs.Prelude.{◌≡◌, ◌≢◌, ◌↔◌, ℕ, ◌<◌, List, [], length, ℤ, ◌*ℤ◌, ◌≤ℤ◌}
+-- Laws of margins, of most discriminating functions, of the tests of an optimum and of the answers.
+use Rattle.std.specs.Prelude.{◌≡◌, ◌≢◌, ◌↔◌, ℕ, ◌<◌, List, [], length, Result, Ok, Err, ℤ, ◌*ℤ◌, ◌≤ℤ◌}
 use Rattle.std.specs.List.{AllByRecursion}
 use Rattle.ror_integers.specs.Vectors.{dots, entry}
 use Rattle.ror_statement.specs.declared.statement.Statement.{Statement}
@@ -7,14 +7,19 @@ use Rattle.ror_table.specs.Table.{DecisionTable, IsTable}
 use Rattle.ror_table.specs.Blocks.{tops}
 use Rattle.ror_text.specs.FirstFault.{IsFirst}
 use Rattle.ror_system.specs.System.{LinearSystem}
+use Rattle.ror_system.specs.declared.accept.Multipliers.{Multipliers}
 use Rattle.ror_value.specs.Over.{IsLawfulIn}
 use Rattle.ror_value.specs.Value.{ideal_value}
+use Rattle.ror_value.specs.Meaning.{IsConsistent, IsContradictory}
 use Rattle.ror_check.specs.Proof.{base_system}
 use Rattle.ror_pivot.specs.declared.optimum.Optimum.{Optimum}
 use Rattle.ror_pivot.specs.Optimality.{strict_rows, least_value, total_by, IsAcceptedOptimum}
 use Rattle.ror_discriminate.specs.Margin.{strict_comparisons, margins, least_margin, IsMostDiscriminating}
 use Rattle.ror_discriminate.specs.Faults.{FailsOptimal, IsEarlierOptimalFault}
+use Rattle.ror_discriminate.specs.Discriminating.{IsDiscriminated, HasNoWideNote, HasNoClimbNote}
 use Rattle.ror_discriminate.specs.declared.fault.OptimalFault.{OptimalFault}
+use Rattle.ror_discriminate.specs.declared.fault.DiscriminateFault.{DiscriminateFault}
+use Rattle.ror_discriminate.specs.declared.fault.DiscriminateFault.TheVariants as faults
 
 -- m is one of the numbers, and none is below it
 pub record IsLeast (m : ℤ) (xs : List ℤ) : Type 0 where
@@ -63,3 +68,24 @@ abbrev pub OneFirstFault : Type 0
 OneFirstFault = (s : LinearSystem) (tops : List ℤ) (x : Optimum) (f g : OptimalFault)
     → IsFirst (FailsOptimal s tops x) IsEarlierOptimalFault f
     → IsFirst (FailsOptimal s tops x) IsEarlierOptimalFault g → f ≡ g
+
+-- The answers that a list may have, want of memory apart: where it says nothing strictly, just that. Otherwise, where no number
+-- on the cold path of its system is too wide, a contradiction exactly where it is contradictory; and where it is consistent and
+-- no number on the climbing path is too wide either, an optimum.
+pub record AnswersAreDue : Type 0 where
+  pub nothing_strict : (most : ℕ) (t : DecisionTable) (list : List Statement)
+      (answer : Result Optimum DiscriminateFault)
+      → IsDiscriminated most t list answer → answer ≢ Err faults.Memory
+      → strict_comparisons list ≡ [] → answer ≡ Err faults.NoStrictRow
+  pub contradictory : (most : ℕ) (t : DecisionTable) (list : List Statement)
+      (answer : Result Optimum DiscriminateFault)
+      → IsDiscriminated most t list answer → answer ≢ Err faults.Memory
+      → strict_comparisons list ≢ [] → IsContradictory t list
+      → HasNoWideNote most (base_system t list)
+      → (m : Multipliers) × (answer ≡ Err (faults.Contradictory m))
+  pub consistent : (most : ℕ) (t : DecisionTable) (list : List Statement)
+      (answer : Result Optimum DiscriminateFault)
+      → IsDiscriminated most t list answer → answer ≢ Err faults.Memory
+      → strict_comparisons list ≢ [] → IsConsistent t list
+      → HasNoWideNote most (base_system t list) → HasNoClimbNote most t (base_system t list)
+      → (x : Optimum) × (answer ≡ Ok x)

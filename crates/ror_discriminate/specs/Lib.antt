@@ -1,4 +1,5 @@
 pub mod Margin
 pub mod Faults
 pub mod Steps
+pub mod Discriminating
 pub mod Laws

@@ -1,14 +1,21 @@
 -- What each step of the check of an optimum leaves to the next.
 use Rattle.std.specs.Prelude.{◌≡◌, ◌≢◌, ℕ, ◌<◌, List, ◌++◌, length, ℤ, pos, ◌<ℤ◌, ◌⊎◌}
+use Rattle.std.specs.List.{AllByRecursion}
 use Rattle.ror_integers.specs.Vectors.{entry, NoneNegative, SomePositive}
 use Rattle.ror_text.specs.FirstFault.{IsFirst}
+use Rattle.ror_word.specs.Within.{IsWithin}
 use Rattle.ror_system.specs.declared.reject.Reject.TheVariants as rejects
 use Rattle.ror_system.specs.System.{LinearSystem, IsNarrow}
-use Rattle.ror_system.specs.Acceptance.{IsAcceptedSolution, FailsSolution, FailsMultipliers, IsEarlierTest}
+use Rattle.ror_system.specs.Acceptance.{IsAcceptedSolution, AreAcceptedMultipliers, FailsSolution, FailsMultipliers, IsEarlierTest}
+use Rattle.ror_pivot.specs.declared.note.SolveFault.TheVariants as solving
+use Rattle.ror_pivot.specs.Notes.{IsWideNote}
+use Rattle.ror_pivot.specs.Answers.{IsNoteWithin}
 use Rattle.ror_pivot.specs.Optimality.{least_value, total_by}
 use Rattle.ror_pivot.specs.declared.optimum.Optimum.{Optimum}
 use Rattle.ror_discriminate.specs.declared.fault.OptimalFault.{OptimalFault}
 use Rattle.ror_discriminate.specs.declared.fault.OptimalFault.TheVariants as faults
+use Rattle.ror_discriminate.specs.declared.fault.DiscriminateFault.{DiscriminateFault}
+use Rattle.ror_discriminate.specs.declared.fault.DiscriminateFault.TheVariants as answers
 use Rattle.ror_discriminate.specs.declared.margin.Margin.{Margin}
 use Rattle.ror_discriminate.specs.Faults.{FailsOptimal}
 
@@ -83,3 +90,12 @@ pub record PassesBelow (s : LinearSystem) (tops : List ℤ) (x : Optimum) (j : �
   pub total_within : IsNarrow (total_by tops x.solution.steps)
   pub weights : AreWeights s x.multipliers.weak x.multipliers.strict
   pub columns : (k : ℕ) → k < j → PassesColumn s tops x k
+
+-- the system of a list is refused at a width: it is not solvable, or a number on its cold path is too wide; or memory ran out
+abbrev pub RefusesBase : ℕ → LinearSystem → DiscriminateFault → Type 0
+RefusesBase most s (answers.Contradictory m) = AreAcceptedMultipliers s m.weak m.strict
+    × AllByRecursion (IsWithin most) m.weak × AllByRecursion (IsWithin most) m.strict
+RefusesBase most s (answers.BaseWide note) =
+    IsWideNote most s note.path note.place × IsNoteWithin s (solving.Wide note)
+RefusesBase most s answers.Memory = Unit {0}
+RefusesBase most s _ = ⊥

@@ -1,8 +1,9 @@
-//! Why an optimum is not accepted.
+//! Why an optimum is not accepted, and why none is found.
 
 ghost use Rattle.std.specs.Prelude.{◌≡◌};
 
-use ror_system::Reject;
+use ror_pivot::{ClimbNote, WideNote};
+use ror_system::{Multipliers, Reject};
 use std::alloc::AllocError;
 use thiserror::Error;
 
@@ -51,5 +52,34 @@ impl From<AllocError> for OptimalFault {
 
     fn from(_error: AllocError) -> OptimalFault {
         OptimalFault::Memory
+    }
+}
+
+/// Why a list has no most discriminating function, or none is found.
+#[derive(Debug, Drop, Error)]
+pub enum DiscriminateFault {
+    /// The list says nothing strictly: its system has no strict row but that of ones.
+    #[error("nothing is said strictly")]
+    NoStrictRow,
+    /// The list is contradictory: these multipliers refute its system.
+    #[error("the statements contradict each other")]
+    Contradictory(Multipliers),
+    /// Whether the list is contradictory is not decided: a number on the way is too wide.
+    #[error("a number is too wide to decide the statements")]
+    BaseWide(WideNote),
+    /// The list is not contradictory, and a number on the way to its optimum is too wide.
+    #[error("a number is too wide to find the optimum")]
+    Wide(ClimbNote),
+    #[error("out of memory")]
+    Memory,
+}
+
+impl From<AllocError> for DiscriminateFault {
+    ghost use Rattle.ror_discriminate.specs.declared.fault.DiscriminateFault.TheVariants as discriminate;
+
+    ghost from_gives = { λ _ e. e ≡ discriminate.Memory };
+
+    fn from(_error: AllocError) -> DiscriminateFault {
+        DiscriminateFault::Memory
     }
 }

@@ -1,6 +1,6 @@
 //! Each function here states laws of margins and optima, for all values, and does nothing.
 
-ghost use Rattle.ror_discriminate.specs.Laws.{AcceptedPassesEachTest, LeastMarginIsLeast, OneFirstFault, OneGreatestMargin, ProvedOptimaAreBest, RowsAreMargins};
+ghost use Rattle.ror_discriminate.specs.Laws.{AcceptedPassesEachTest, AnswersAreDue, LeastMarginIsLeast, OneFirstFault, OneGreatestMargin, ProvedOptimaAreBest, RowsAreMargins};
 
 /// Where a list says something strictly, the least margin of a function is one of its margins, and none is below it.
 pub fn least_margin_is_least()
@@ -31,4 +31,11 @@ pub fn accepted_passes_each_test()
 /// Two first faults of one optimum are equal.
 pub fn one_first_fault()
     ensures { OneFirstFault }
+{}
+
+/// What a list is answered, want of memory apart: that it says nothing strictly exactly where it doesn't. Else, where no number on
+/// the path that decides it is too wide, a contradiction where it is contradictory; and where it is consistent and no number on the
+/// climbing path is too wide either, an optimum.
+pub fn answers_are_due()
+    ensures { AnswersAreDue }
 {}

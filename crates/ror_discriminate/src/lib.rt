@@ -2,11 +2,11 @@
 //!
 //! A compatible value function meets what a list says strictly (that one alternative is preferred to another, that a preference
 //! is stronger than another, or what the classes of two alternatives say together) by some margin each. The most discriminating
-//! one has the greatest least margin, over the value of the best levels (as UTAMP has it). It is shown by an
-//! [`Optimum`](ror_pivot::Optimum): a solution, and multipliers that show that no compatible function has a greater least margin.
-//! [`check_optimal`] multiplies the two out and never searches; what it accepts is a most discriminating function
-//! (`laws::proved_optima_are_best`), and what it refuses has a first test that fails ([`OptimalFault`]). [`check_best`] says the
-//! margin besides.
+//! one has the greatest least margin, over the value of the best levels (as UTAMP has it). [`discriminate`] finds it by the
+//! climbing path of the list's system, as an [`Optimum`](ror_pivot::Optimum): a solution, and multipliers that show that no
+//! compatible function has a greater least margin. [`check_optimal`] multiplies the two out and never searches; what it accepts is
+//! a most discriminating function (`laws::proved_optima_are_best`), and what it refuses has a first test that fails
+//! ([`OptimalFault`]). [`find_best`] and [`check_best`] say the margin besides.
 //!
 //! Let `a` be evaluated 3 and 10, `b` with 2 and 8 and `c` with 1 and 12, where more of the first and less of the second criterion
 //! is better; the columns are q1, q2, p1, p2.
@@ -14,6 +14,8 @@
 //! ```text
 //! prefer a b               margin 1 1   solution 0 1 0 0   multipliers | 0 1
 //! prefer a b, prefer b c   margin 1 2   solution 1 1 0 0   multipliers | 0 1 1
+//! at least a b             NoStrictRow
+//! at least a b, prefer a a Contradictory, with the multipliers 0 | 0 1
 //! ```
 //!
 //! In the second the strict rows but that of ones are (0, 1, 0, -1) and (1, 0, 1, 1), which come to 1 and 1 at the solution, whose
@@ -22,6 +24,7 @@
 #![tactic(auto)]
 
 mod check;
+mod decide;
 mod fault;
 pub mod laws;
 mod margin;
@@ -29,5 +32,6 @@ mod sum;
 mod tops;
 
 pub use check::{check_best, check_optimal};
-pub use fault::OptimalFault;
+pub use decide::{Best, discriminate, find_best};
+pub use fault::{DiscriminateFault, OptimalFault};
 pub use margin::Margin;

@@ -33,7 +33,7 @@ pub(crate) fn least_value(s: &System, steps: &Numbers) -> i128
 }
 
 /// What a row comes to at these steps, where the absolute values of its terms sum to at most 2^127 - 1.
-fn value_at(row: &Row, steps: &Numbers) -> i128
+pub(crate) fn value_at(row: &Row, steps: &Numbers) -> i128
     requires width { length row.now ≡ length steps.now }
     requires within { absolute_dot row.now steps.now < sum_limit }
     ensures value { result ≡ dot row.now steps.now }
