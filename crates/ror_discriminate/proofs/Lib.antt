@@ -6,3 +6,12 @@ pub mod EntryUtf8
 pub mod EntryWords
 pub mod EntryErrors
 pub mod FoundBodies
+pub mod Leasts
+pub mod NoGreater
+pub mod Margins
+pub mod OptimalTests
+pub mod Dues
+pub mod Columns
+pub mod Checked
+pub mod Found
+pub mod OneFault

@@ -4,3 +4,8 @@ pub mod Head
 pub mod Reading
 pub mod EntryFaults
 pub mod EntryLaws
+pub mod Margin
+pub mod Faults
+pub mod Steps
+pub mod Discriminating
+pub mod Laws
