@@ -1,3 +1,4 @@
+#![tactic(auto)]
 //! The most discriminating value function of a list of statements, with a proof that no other discriminates more.
 //!
 //! A compatible value function meets what a list says strictly (that one alternative is preferred to another, that a preference
@@ -33,7 +34,6 @@
 //! ```
 //!
 //! which [`print_entry`] gives and [`read_entry`] reads back. A report begins with the line of [`head::header`].
-#![tactic(auto)]
 
 mod check;
 mod decide;
