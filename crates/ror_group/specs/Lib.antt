@@ -4,6 +4,7 @@ pub mod Proof
 pub mod Faults
 pub mod Text
 pub mod Reading
+pub mod Known
 pub mod EntryFaults
 pub mod EntryLaws
 pub mod Head

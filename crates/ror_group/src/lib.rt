@@ -26,7 +26,8 @@
 //! group no yes no yes
 //! ```
 //!
-//! which [`print_entry`] gives and [`read_entry`] reads back. A report begins with the desks ([`head`]).
+//! which [`print_entry`] gives and [`read_entry`] reads back; an [`EntryReader`] reads one after another. A report begins with the
+//! desks ([`head`]).
 
 mod check;
 mod entry;
@@ -37,6 +38,7 @@ pub mod laws;
 mod print;
 mod quartet;
 mod read;
+mod reader;
 pub mod text_laws;
 
 pub use check::{List, check_pair, check_pair_by};
@@ -45,4 +47,4 @@ pub use fault::GroupFault;
 pub use judge::Judge;
 pub use print::print_entry;
 pub use quartet::{Quartet, Word4, combine};
-pub use read::read_entry;
+pub use reader::{EntryReader, read_entry};

@@ -1,60 +1,29 @@
-//! The reader of an entry's text.
+//! The readers of an entry's lines that are not of its answers.
 
-ghost use Rattle.std.specs.Prelude.{◌≡◌, ◌≤◌, ◌<◌, ◌-◌, drop, length, IfErr, IfOk};
+ghost use Rattle.std.specs.Prelude.{◌≡◌, ◌≤◌, ◌<◌, drop, length, IfErr, IfOk};
 ghost use Rattle.ror_text.specs.Reading.{Gives};
 ghost use Rattle.ror_text.specs.Cursor.{cursor_at};
 ghost use Rattle.ror_table.specs.Table.{alternative_named};
 ghost use Rattle.ror_proof.specs.Questions as questions;
 ghost use Rattle.ror_proof.specs.Reading.{proof_fault, IsProofFaultWithin};
 ghost use Rattle.ror_group.specs.Reading as reading;
-ghost use Rattle.ror_group.specs.Reading.{entry_at};
 
-use crate::entry::{Entry, GROUP_WORDS};
+use crate::entry::GROUP_WORDS;
 use crate::quartet::Quartet;
+use ror_proof::ProofFault;
 use ror_proof::words::{after_word, name_at, no_more};
-use ror_proof::{Answer, BaseLine, ProofFault, read_answer_after};
 use ror_table::Table;
-use ror_text::Items;
 use ror_text::ids::id_text;
 use ror_text::reading::need;
 use ror_text::spaced::{Words, line_at};
-use std::alloc::Global;
-
-/// Reads the entry whose text begins at a place, and says where it ends: after the line of its words, whatever follows.
-///
-/// # Errors
-///
-/// The fault of the first faulty word of the first faulty line.
-#[tactic(auto, unfolding(crate::specs::Reading::entry_at))]
-pub fn read_entry(
-    alloc: Global,
-    table: &Table,
-    bytes: &[u8],
-    from: usize,
-) -> Result<(Entry, usize), ProofFault>
-    requires { from ≤ length bytes.now }
-    ensures exact { Gives (λ x. (x.0, cursor_at bytes.now x.1)) proof_fault result
-        (entry_at table.now (cursor_at bytes.now from)) }
-    ensures onward { IfOk result (λ x. from < x.1) }
-    ensures within { IfOk result (λ x. x.1 ≤ length bytes.now) }
-    ensures placed { IfErr result (IsProofFaultWithin (length bytes.now)) }
-{
-    let (first, second, next) = pair_line(table, bytes, from)?;
-    let (answers, next) = entry_answers(alloc, table, bytes, next)?;
-    let (quartet, next) = quartet_line(bytes, next)?;
-    let answers = Items::from(answers);
-    let entry = Entry {
-        first,
-        second,
-        answers,
-        quartet,
-    };
-    Ok((entry, next))
-}
 
 /// The line that names the pair, and where the next line begins.
 #[tactic(auto, using(ror_proof::proofs::Places::placed_on), unfolding(crate::specs::Reading::pair_words, ror_proof::specs::Reading::ended))]
-fn pair_line(table: &Table, bytes: &[u8], from: usize) -> Result<(usize, usize, usize), ProofFault>
+pub(crate) fn pair_line(
+    table: &Table,
+    bytes: &[u8],
+    from: usize,
+) -> Result<(usize, usize, usize), ProofFault>
     requires { from ≤ length bytes.now }
     ensures exact { Gives (λ x. ((x.0, x.1), cursor_at bytes.now x.2)) proof_fault result
         (reading.pair_line table.now (cursor_at bytes.now from)) }
@@ -103,7 +72,7 @@ fn find_alternative(table: &Table, id: &[u8]) -> Option<usize>
 
 /// The line of the four words, and where the next line begins.
 #[tactic(auto, using(ror_proof::proofs::Places::placed_on), unfolding(ror_proof::specs::Reading::ended))]
-fn quartet_line(bytes: &[u8], from: usize) -> Result<(Quartet, usize), ProofFault>
+pub(crate) fn quartet_line(bytes: &[u8], from: usize) -> Result<(Quartet, usize), ProofFault>
     requires { from ≤ length bytes.now }
     ensures exact { Gives (λ x. (x.0, cursor_at bytes.now x.1)) proof_fault result
         (reading.quartet_line (cursor_at bytes.now from)) }
@@ -138,37 +107,10 @@ fn quartet_words(place: usize, words: Words<'_>) -> Result<Quartet, ProofFault>
 }
 
 /// Whether the answers of an entry end at a place.
-fn ends_answers(bytes: &[u8], from: usize) -> bool
+pub(crate) fn ends_answers(bytes: &[u8], from: usize) -> bool
     requires { from ≤ length bytes.now }
     ensures { result ≡ reading.ends_answers (drop from bytes.now) }
 {
     let rest = &bytes[from..];
     rest.is_empty() || rest.starts_with(b"group ")
-}
-
-/// The answers of an entry, and where they end.
-fn entry_answers(
-    alloc: Global,
-    table: &Table,
-    bytes: &[u8],
-    from: usize,
-) -> Result<(Vec<Answer>, usize), ProofFault>
-    requires { from ≤ length bytes.now }
-    ensures exact { Gives (λ x. (x.0.items, cursor_at bytes.now x.1)) proof_fault result
-        (reading.entry_answers table.now (length bytes.now - from) (cursor_at bytes.now from)) }
-    ensures onward { IfOk result (λ x. from ≤ x.1) }
-    ensures within { IfOk result (λ x. x.1 ≤ length bytes.now) }
-    ensures placed { IfErr result (IsProofFaultWithin (length bytes.now)) }
-{
-    let mut answers = Vec::new(alloc);
-    let mut line = BaseLine { from, next: from };
-    let mut next = from;
-    'answers: while !ends_answers(bytes, next) {
-        let last = answers.as_slice().last();
-        let (answer, base, after) = read_answer_after(alloc, table, last, line, bytes, next)?;
-        answers.push(answer)?;
-        line = base;
-        next = after;
-    }
-    Ok((answers, next))
 }

@@ -21,18 +21,31 @@ struct Items {
     count: u32,
 }
 
-impl Judge for Items {
+/// A text that is to have so many items.
+#[derive(Clone, Copy)]
+struct ItemText<'a> {
+    count: u32,
+    bytes: &'a [u8],
+}
+
+impl<'a> Judge for ItemText<'a> {
     type Entry = u32;
 
-    ghost kind = { λ items. item_kind items.count };
+    ghost kind = { λ text. item_kind text.count };
+
+    ghost report = { λ text. text.bytes.now };
 
     fn count(&self) -> u32 {
         self.count
     }
 
+    fn bytes(&self) -> &[u8] {
+        self.bytes
+    }
+
     #[tactic(auto, using(ror_proof::proofs::Places::placed_on), unfolding(ror_report::specs::Reading::number_words, ror_proof::specs::Reading::ended))]
-    fn read(&self, _alloc: Global, bytes: &[u8], from: usize) -> Result<(u32, usize), ProofFault> {
-        let (line, next) = line_at(bytes, from);
+    fn read(&mut self, _alloc: Global, from: usize) -> Result<(u32, usize), ProofFault> {
+        let (line, next) = line_at(self.bytes, from);
         let words = after_word(from, b"item", Words::of(line))?;
         let (number, words) = small_number_at(from, words)?;
         no_more(from, words)?;
@@ -88,7 +101,7 @@ fn checked(alloc: Global, count: u32, text: &[u8]) -> Result<Accepted, ReportErr
     if text.len() < 5 || text.len() > 100 {
         return Err(ReportError::Memory);
     }
-    check_entries(alloc, &mut Items { count }, text, 5)
+    check_entries(alloc, &mut ItemText { count, bytes: text }, 5)
 }
 
 /// The rejection of such a text.

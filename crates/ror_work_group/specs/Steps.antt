@@ -28,10 +28,11 @@ pub record GroupMaking : Type 0 where
   pub lists : List (List Statement)
   pub most : ℕ
 
--- a table and the lists of the desks
+-- a table, the lists of the desks, and the bytes of a report
 pub record GroupJudging : Type 0 where
   pub table : DecisionTable
   pub lists : List (List Statement)
+  pub report : List ℕ
 
 -- the pairs are those of the table, and each list is decided, with an engine for each
 pub record IsMaking (t : DecisionTable) (pairs : List (ℕ × ℕ)) (lists : List DecidedList) (engines most : ℕ) : Type 0 where

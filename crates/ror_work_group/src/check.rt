@@ -96,22 +96,28 @@ fn answers_in(
         Ok(start) => start,
         Err(fault) => return Err(misread(bytes, fault)),
     };
-    let mut judge = judge_of(alloc, input, session)?;
-    Ok(check_entries(alloc, &mut judge, bytes, start)?)
+    let mut judge = judge_of(alloc, input, session, bytes)?;
+    Ok(check_entries(alloc, &mut judge, start)?)
 }
 
-/// The judge of the entries over the closing lists of the session's desks. Its one error is want of memory.
-fn judge_of(alloc: Global, input: Input, session: &Session) -> Result<GroupJudge, AllocError>
+/// The judge of the entries of these bytes over the closing lists of the session's desks. Its one error is want of memory.
+fn judge_of<'a>(
+    alloc: Global,
+    input: Input,
+    session: &Session,
+    bytes: &'a [u8],
+) -> Result<GroupJudge<'a>, AllocError>
     requires lawful { IsLawfulIn input.table input.opening }
     requires sound { IsSound session.now }
     requires suited { AreSuited session.now.lines }
     ensures table { IfOk result (λ judge. judge.table ≡ input.table) }
     ensures lists { IfOk result (λ judge. AreClosingLists (bench_for input session.now) session.now.lines judge.lists) }
+    ensures report { IfOk result (λ judge. judge.report ≡ bytes.now) }
 {
     let desks = session.desks.len() as u32;
     let mut bench = Bench::new(alloc, input, desks)?;
     let lists = suited_lists(alloc, &mut bench, desks, session.lines.as_slice())?;
-    GroupJudge::new(alloc, bench, lists.as_slice())
+    GroupJudge::new(alloc, bench, lists.as_slice(), bytes)
 }
 
 /// The stop at a report that is rejected before its first entry.

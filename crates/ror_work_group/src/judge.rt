@@ -12,7 +12,7 @@ ghost use Rattle.ror_work_group.specs.Steps as steps;
 
 use ror_bench::{Bench, Passed, Reason};
 use ror_entries::EntryFault;
-use ror_group::{Entry, GroupFault, Judge, check_pair_by, read_entry};
+use ror_group::{Entry, EntryReader, GroupFault, Judge, check_pair_by};
 use ror_proof::ProofFault;
 use ror_relation::ordered_pairs;
 use ror_statement::Statement;
@@ -23,34 +23,42 @@ use std::marker::Model;
 
 /// Judges the entries of a group's report over a bench's table, by the lists of its desks.
 #[derive(Drop)]
-pub(crate) struct GroupJudge {
+pub(crate) struct GroupJudge<'a> {
     bench: Bench,
     pairs: Vec<(usize, usize)>,
     judges: Vec<Judge>,
+    reader: EntryReader<'a>,
 }
 
-impl Model for GroupJudge {
+impl<'a> Model for GroupJudge<'a> {
     ghost use Rattle.ror_group.specs.Proof.{lists_of};
     ghost use Rattle.ror_work_group.specs.Steps.{GroupJudging, IsJudging};
 
     ghost Value = { GroupJudging };
 
-    ghost view = { λ j. record { table = j.bench.table; lists = lists_of j.judges.items } };
+    ghost view = { λ j. record {
+      table = j.bench.table;
+      lists = lists_of j.judges.items;
+      report = j.reader;
+    } };
 
     ghost invariant = { λ j. IsJudging j.bench.table j.pairs.items j.judges.items };
 }
 
-impl GroupJudge {
-    /// Makes a checker for each list, which is lawful in the bench's table. Its one error is want of memory.
+impl<'a> GroupJudge<'a> {
+    /// Makes a checker for each list, which is lawful in the bench's table, and a reader of these bytes. Its one error is want of
+    /// memory.
     pub(crate) fn new(
         alloc: Global,
         bench: Bench,
         lists: &[Items<Statement>],
-    ) -> Result<GroupJudge, AllocError>
+        bytes: &'a [u8],
+    ) -> Result<GroupJudge<'a>, AllocError>
         requires lawful { AllByRecursion (IsLawfulIn bench.table) lists.now }
         requires few { length lists.now ≤ 64 }
         ensures table { IfOk result (λ judge. judge.table ≡ bench.table) }
         ensures lists { IfOk result (λ judge. judge.lists ≡ lists.now) }
+        ensures report { IfOk result (λ judge. judge.report ≡ bytes.now) }
     {
         prove!(bench.table().alternatives() > 0);
         let pairs = ordered_pairs(alloc, bench.table().alternatives())?;
@@ -59,6 +67,7 @@ impl GroupJudge {
             bench,
             pairs,
             judges,
+            reader: EntryReader::new(alloc, bytes),
         })
     }
 }
@@ -89,19 +98,25 @@ pub(crate) fn copied(alloc: Global, list: &Items<Statement>) -> Result<Items<Sta
     Ok(Items::from(statements))
 }
 
-impl ror_entries::Judge for GroupJudge {
+impl<'a> ror_entries::Judge for GroupJudge<'a> {
     type Entry = Entry;
 
     ghost use Rattle.ror_work_group.specs.Entries.{group_kind};
 
     ghost kind = { λ j. group_kind j.table j.lists };
 
+    ghost report = { λ j. j.report };
+
     fn count(&self) -> u32 {
         self.pairs.len() as u32
     }
 
-    fn read(&self, alloc: Global, bytes: &[u8], from: usize) -> Result<(Entry, usize), ProofFault> {
-        read_entry(alloc, self.bench.table(), bytes, from)
+    fn bytes(&self) -> &[u8] {
+        self.reader.bytes()
+    }
+
+    fn read(&mut self, alloc: Global, from: usize) -> Result<(Entry, usize), ProofFault> {
+        self.reader.read(alloc, self.bench.table(), from)
     }
 
     fn check(&mut self, alloc: Global, place: u32, entry: &Entry) -> Result<Passed, EntryFault> {

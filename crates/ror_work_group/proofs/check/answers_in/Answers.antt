@@ -39,7 +39,8 @@ returns-in_err-check_entries c =
     let e = c.in_err-check_entries.field-0.0 in
     let utf8 = IsUtf8-from_is_utf8 bytes (sym c.is_utf8.ensures ∙ c.if-not-is_utf8.false) in
     let read = subst (λ (names : List (List ℕ)). whole_head_at names bytes ≡ Ok (cursor_at bytes start)) c.as_slice.ensures c.in-Ok.ensures.exact in
-    let why = subst (λ (t : DecisionTable). IfRejected (IsRejectedEntries (group_kind t judge.lists) bytes start) e) c.in_ok-judge.ensures.table c.in_err-check_entries.ensures.rejected in
+    let there = subst (λ (l : List ℕ). IfRejected (IsRejectedEntries (group_kind judge.table judge.lists) l start) e) c.in_ok-judge.ensures.report c.in_err-check_entries.ensures.rejected in
+    let why = subst (λ (t : DecisionTable). IfRejected (IsRejectedEntries (group_kind t judge.lists) bytes start) e) c.in_ok-judge.ensures.table there in
     let p = err_from_is_err_and c.from_residual-in_err-check_entries.result c.from_residual-in_err-check_entries.ensures.1 in
     rw (p.1, p.2) (entries_refused i s bytes c.requires.within (cursor_at bytes start) judge.lists utf8 read c.in_ok-judge.ensures.lists e why c.in_err-check_entries.ensures.pure)
 
@@ -53,5 +54,6 @@ returns c =
     let utf8 = IsUtf8-from_is_utf8 bytes (sym c.is_utf8.ensures ∙ c.if-not-is_utf8.false) in
     let read = subst (λ (names : List (List ℕ)). whole_head_at names bytes ≡ Ok (cursor_at bytes start)) c.as_slice.ensures c.in-Ok.ensures.exact in
     let x = c.in_ok-check_entries.field-0 in
-    let proved = subst (λ (t : DecisionTable). IsProvedEntries (group_kind t judge.lists) (drop start bytes) x) c.in_ok-judge.ensures.table c.in_ok-check_entries.ensures.accepted.proved in
+    let there = subst (λ (l : List ℕ). IsProvedEntries (group_kind judge.table judge.lists) (drop start l) x) c.in_ok-judge.ensures.report c.in_ok-check_entries.ensures.accepted.proved in
+    let proved = subst (λ (t : DecisionTable). IsProvedEntries (group_kind t judge.lists) (drop start bytes) x) c.in_ok-judge.ensures.table there in
     entries_proved i s bytes c.requires.within (cursor_at bytes start) judge.lists utf8 read c.in_ok-judge.ensures.lists x proved

@@ -1,6 +1,6 @@
 use Rattle.std.proofs.Common.{rules, ◌<◌, ◌^◌}
 use Rattle.ror_tests_entries.proofs.ItemLemmas.{item_is_kind}
-use Rattle.ror_tests_entries.proofs.items.ItemsJudge.count.Goals as goal
+use Rattle.ror_tests_entries.proofs.items.ItemTextJudge.count.Goals as goal
 
 pub returns-clause-lawful : goal.returns-clause-lawful
 returns-clause-lawful c =
