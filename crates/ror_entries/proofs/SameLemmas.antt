@@ -8,7 +8,9 @@ use Rattle.ror_bench.specs.declared.bench.Passed.{Passed}
 use Rattle.ror_bench.specs.declared.report.Reason.{Reason}
 use Rattle.ror_entries.specs.Kind.{Kind, IsKind, IsEntryText, WriteTheSame, IsSameKind}
 use Rattle.ror_entries.specs.Reports.{RejectsNext, RejectsEnd, end_misread, ends_early, entry_misread, refused, miscounted, one_too_many}
-use Rattle.ror_entries.specs.Steps.{IsNextEntry}
+use Rattle.ror_entries.specs.Steps.{IfRefused, IsNextEntry}
+use Rattle.ror_entries.specs.declared.check.EntryFault.{EntryFault}
+use Rattle.ror_entries.specs.declared.check.EntryFault.TheVariants as faults
 
 iff_itself : (A : Type 0) → A ↔ A
 iff_itself A = (λ x. x, λ x. x)
@@ -110,3 +112,7 @@ module _ {E : Type 0} (one other : Kind E) (same : IsSameKind one other) where
   rejects_end_same bytes from reason (miscounted n begins read ne is) = miscounted n begins read (λ e. ne (e ∙ sym same.writes.count)) is
   rejects_end_same bytes from reason (entry_misread fault no_end read is) = entry_misread fault no_end (sym (reads_same (cursor_at bytes from)) ∙ read) is
   rejects_end_same bytes from reason (one_too_many x after no_end read is) = one_too_many x after no_end (sym (reads_same (cursor_at bytes from)) ∙ read) is
+
+  pub refused_same : (place : ℕ) (x : E) (fault : EntryFault) → IfRefused (one.Refuses place x) fault → IfRefused (other.Refuses place x) fault
+  refused_same place x (faults.Refused reason) h = (same.refuses place x reason).0 h
+  refused_same place x faults.Memory h = tt

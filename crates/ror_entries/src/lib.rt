@@ -1,7 +1,7 @@
 //! Reports of entries: what they have in common, whatever an entry is.
 //!
-//! Behind its head such a report has entries, one after another, and the line `end N` with their number. A [`Judge`] reads an
-//! entry and accepts it at its place, or names its fault; [`check_entries`] does so with each entry of a report's bytes. A
+//! Behind its head such a report has entries, one after another, and the line `end N` with their number. A [`Judge`] has the
+//! bytes of a report, reads an entry and accepts it at its place, or names its fault; [`check_entries`] does so with each entry. A
 //! [`Maker`] makes the entry of a place and its text; [`write_entries`] writes each before the next one is made.
 //!
 //! Let an entry be a line `item N`, where N is its place counted from 1. A report of two is, behind its head,
@@ -14,8 +14,10 @@
 #![tactic(auto)]
 
 mod check;
+mod headed;
 pub mod laws;
 mod write;
 
 pub use check::{EntryFault, Judge, check_entries};
+pub use headed::{check_headed, write_headed};
 pub use write::{EntriesStop, Maker, write_entries};

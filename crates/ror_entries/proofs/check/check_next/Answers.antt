@@ -1,21 +1,36 @@
-use Rattle.std.proofs.Common.{◌≡◌, true, false, sym, ◌∙◌}
+use Rattle.std.proofs.Common.{◌≡◌, ℕ, ◌+◌, List, true, false, drop, Ok, Err, sym, ap, ◌∙◌, subst}
+use Rattle.std.specs.Prelude.{IfSome}
+use Rattle.ror_text.specs.Cursor.{cursor_at}
+use Rattle.ror_proof.specs.Reading.{proof_fault}
+use Rattle.ror_report.specs.Reading.{begins_end}
+use Rattle.ror_bench.specs.Reports.{IfRejected}
+use Rattle.ror_entries.specs.Steps.{IsEarlyEnd}
+use Rattle.ror_entries.proofs.SameLemmas.{same_through, refused_same}
 use Rattle.ror_entries.proofs.CheckLemmas.{early_rejects, read_printable, refused_rejects, misread_rejects}
 use Rattle.ror_entries.proofs.check.check_next.Goals as goal
 
 pub returns-then-begins_end-clause-rejected : goal.returns-then-begins_end-clause-rejected
 returns-then-begins_end-clause-rejected g c =
-    let is : c.begins_end.result ≡ true = c.if-begins_end.true in
-    early_rejects (g.J.Judge.kind c.args.judge.now) c.args.bytes.now c.args.place c.args.from _ c.early_end.result (sym c.begins_end.ensures ∙ is) c.early_end.ensures.rejected
+    let bytes = g.J.Judge.report c.args.judge.now in
+    let is : begins_end (drop c.args.from bytes) ≡ true = ap (λ (l : List ℕ). begins_end (drop c.args.from l)) (sym c.bytes.ensures) ∙ sym c.begins_end.ensures ∙ c.if-begins_end.true in
+    let early = subst (λ (l : List ℕ). IfRejected (λ rejection. (rejection.block ≡ c.args.place + 1) × IsEarlyEnd l c.args.from rejection.reason) c.early_end.result) c.bytes-then-begins_end.ensures c.early_end.ensures.rejected in
+    early_rejects (g.J.Judge.kind c.args.judge.now) bytes c.args.place c.args.from _ c.early_end.result is early
 
 pub check-requires-clause-printable : goal.check-requires-clause-printable
-check-requires-clause-printable g c = read_printable (g.J.Judge.kind c.args.judge.now) c.requires.lawful c.args.bytes.now c.args.from c.in-Ok.found c.in-Ok.after c.in-Ok.ensures.exact
+check-requires-clause-printable g c =
+    let printable = read_printable (g.J.Judge.kind c.args.judge.now) c.requires.lawful (g.J.Judge.report c.args.judge.now) c.args.from c.in-Ok.found c.in-Ok.after c.in-Ok.ensures.exact in
+    (c.read.ensures.same.writes.printable c.in-Ok.found).1 printable
 
 pub returns-in-Ok-clause-rejected : goal.returns-in-Ok-clause-rejected
 returns-in-Ok-clause-rejected g c =
-    let is : c.begins_end.result ≡ false = c.if-begins_end.false in
-    rw c.refused_entry.ensures (refused_rejects (g.J.Judge.kind c.args.judge.now) c.args.bytes.now c.args.place c.args.from _ c.in-Ok.after c.in-Ok.found c.in-Err-check.fault (sym c.begins_end.ensures ∙ is) c.in-Ok.ensures.exact c.in-Err-check.ensures.refused)
+    let kind = g.J.Judge.kind c.args.judge.now in
+    let bytes = g.J.Judge.report c.args.judge.now in
+    let is : begins_end (drop c.args.from bytes) ≡ false = ap (λ (l : List ℕ). begins_end (drop c.args.from l)) (sym c.bytes.ensures) ∙ sym c.begins_end.ensures ∙ c.if-begins_end.false in
+    let refused = refused_same (g.J.Judge.kind c.read.new.self) kind c.read.ensures.same c.args.place c.in-Ok.found c.in-Err-check.fault c.in-Err-check.ensures.refused in
+    rw c.refused_entry.ensures (refused_rejects kind bytes c.args.place c.args.from _ c.in-Ok.after c.in-Ok.found c.in-Err-check.fault is c.in-Ok.ensures.exact refused)
 
 pub returns-clause-rejected : goal.returns-clause-rejected
 returns-clause-rejected g c =
-    let is : c.begins_end.result ≡ false = c.if-begins_end.false in
-    rw c.misread.ensures (misread_rejects (g.J.Judge.kind c.args.judge.now) c.args.bytes.now c.args.place c.args.from _ c.in-Err.fault (sym c.begins_end.ensures ∙ is) c.in-Err.ensures.exact)
+    let bytes = g.J.Judge.report c.args.judge.now in
+    let is : begins_end (drop c.args.from bytes) ≡ false = ap (λ (l : List ℕ). begins_end (drop c.args.from l)) (sym c.bytes.ensures) ∙ sym c.begins_end.ensures ∙ c.if-begins_end.false in
+    rw (c.misread.ensures, c.bytes-in-Err.ensures, c.read.ensures.report) (misread_rejects (g.J.Judge.kind c.args.judge.now) bytes c.args.place c.args.from _ c.in-Err.fault is c.in-Err.ensures.exact)
