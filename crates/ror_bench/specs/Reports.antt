@@ -14,6 +14,7 @@ use Rattle.ror_report.specs.Reading.{begins_end, block_at, end_at, header_at}
 use Rattle.ror_report.specs.Text.{report_text, IsPrintableBlock}
 use Rattle.ror_check.specs.declared.fault.CheckFault.TheVariants as checks
 use Rattle.ror_check.specs.declared.fault.RepairCheckFault.TheVariants as repairs
+use Rattle.ror_discriminate.specs.declared.fault.OptimalFault.TheVariants as optima
 use Rattle.ror_history.specs.History.{Revisions}
 use Rattle.ror_bench.specs.Bench.{Workbench, revisions_at}
 use Rattle.ror_bench.specs.Blocks.{IsProvedBlock, passed_of, IsTrueBlock, revisions_with}
@@ -170,9 +171,11 @@ IfRejected P errors.Memory = Unit {0}
 abbrev pub IsFreeOfMemory : Reason → Type 0
 IsFreeOfMemory (reasons.Answer k fault) = fault ≢ checks.Memory
 IsFreeOfMemory (reasons.Repair fault) = fault ≢ repairs.Memory
+IsFreeOfMemory (reasons.Optimal fault) = fault ≢ optima.Memory
 IsFreeOfMemory _ = Unit {0}
 
--- nor is an answer ever refused since its question is another: that is the block of another line, before any answer is tested
+-- In a report of a session's lines no answer is refused since its question is another: that is the block of another line, before
+-- any answer is tested. Among the answers on a pair one may be.
 abbrev pub IsOfItsQuestion : Reason → Type 0
 IsOfItsQuestion (reasons.Answer k fault) = fault ≢ checks.WrongQuestion
 IsOfItsQuestion _ = Unit {0}

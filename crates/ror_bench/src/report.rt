@@ -12,9 +12,11 @@ ghost use Rattle.ror_bench.specs.Steps.{IsEarlyEnd, IsLateBlock, IsNextBlock, mi
 
 use crate::bench::{Bench, BlockFault, Passed};
 use ror_check::{CheckFault, RepairCheckFault};
+use ror_discriminate::OptimalFault;
 use ror_proof::ProofFault;
 use ror_report::{begins_end, read_block, read_end, read_header};
 use ror_session::Line;
+use ror_system::Reject;
 use ror_table::Table;
 use ror_text::lines::{is_utf8, line_number};
 use std::alloc::Global;
@@ -39,6 +41,10 @@ pub enum Reason {
     Answer(u32, CheckFault),
     /// A repair that is not accepted.
     Repair(RepairCheckFault),
+    /// The most discriminating function of a desk that is not accepted.
+    Optimal(OptimalFault),
+    /// Multipliers of a contradictory desk that are not accepted.
+    Contradiction(Reject),
 }
 
 /// The first block at fault, from 1, and why; 0 where the fault is in no block.

@@ -3,3 +3,4 @@ pub mod RestLemmas
 pub mod CheckLemmas
 pub mod WriteLemmas
 pub mod SpellingLemmas
+pub mod HeadedLemmas

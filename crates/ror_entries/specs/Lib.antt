@@ -3,3 +3,4 @@ pub mod Reports
 pub mod Steps
 pub mod Writing
 pub mod Laws
+pub mod Headed

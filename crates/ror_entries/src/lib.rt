@@ -14,8 +14,10 @@
 #![tactic(auto)]
 
 mod check;
+mod headed;
 pub mod laws;
 mod write;
 
 pub use check::{EntryFault, Judge, check_entries};
+pub use headed::{check_headed, write_headed};
 pub use write::{EntriesStop, Maker, write_entries};

@@ -14,6 +14,8 @@ use Rattle.ror_check.specs.declared.fault.CheckFault.{CheckFault}
 use Rattle.ror_check.specs.declared.fault.CheckFault.TheVariants as checks
 use Rattle.ror_check.specs.declared.fault.RepairCheckFault.{RepairCheckFault}
 use Rattle.ror_check.specs.declared.fault.RepairCheckFault.TheVariants as repairs
+use Rattle.ror_discriminate.specs.declared.fault.OptimalFault.{OptimalFault}
+use Rattle.ror_discriminate.specs.declared.fault.OptimalFault.TheVariants as optima
 use Rattle.ror_table.specs.declared.fault.TableFault.{TableFault}
 use Rattle.ror_bench.specs.declared.report.Accepted.{Accepted}
 use Rattle.ror_bench.specs.declared.report.Rejection.{Rejection}
@@ -98,6 +100,19 @@ repair_fault_text (repairs.Dropped n r) =
 repair_fault_text (repairs.Base r) = codes "base " ++ reject_text r
 repair_fault_text repairs.Memory = codes "Memory"
 
+abbrev pub optimal_fault_text : OptimalFault → List ℕ
+optimal_fault_text optima.NoStrictRow = codes "NoStrictRow"
+optimal_fault_text (optima.Solution r) = codes "Solution " ++ reject_text r
+optimal_fault_text optima.Total = codes "Total"
+optimal_fault_text optima.Length = codes "Length"
+optimal_fault_text (optima.Negative k) = codes "Negative " ++ decimal k
+optimal_fault_text optima.OnesRow = codes "OnesRow"
+optimal_fault_text optima.NoStrict = codes "NoStrict"
+optimal_fault_text (optima.ScaleWide k) = codes "ScaleWide " ++ decimal k
+optimal_fault_text (optima.ColumnWide k) = codes "ColumnWide " ++ decimal k
+optimal_fault_text (optima.Column k) = codes "Column " ++ decimal k
+optimal_fault_text optima.Memory = codes "Memory"
+
 abbrev pub reason_text : Reason → List ℕ
 reason_text reasons.TooLong = codes "TooLong"
 reason_text reasons.NotUtf8 = codes "NotUtf8"
@@ -106,6 +121,8 @@ reason_text (reasons.BadNumber n) = codes "BadNumber " ++ decimal n
 reason_text reasons.WrongBlock = codes "WrongBlock"
 reason_text (reasons.Answer k f) = codes "answer " ++ decimal k ++ codes " " ++ fault_text f
 reason_text (reasons.Repair f) = codes "repair " ++ repair_fault_text f
+reason_text (reasons.Optimal f) = codes "optimal " ++ optimal_fault_text f
+reason_text (reasons.Contradiction r) = codes "contradiction " ++ reject_text r
 
 -- the lines of the refusals
 abbrev pub table_line : TableFault → List ℕ

@@ -3,7 +3,7 @@
 //!
 //! A run ends with a [`Status`], which has an exit status and a line for standard error, [`write_status`]. The work of a
 //! command stops at a [`Stop`]: at a file whose bytes are refused, or at a fault of the outside. [`fetch_table`] and
-//! [`fetch_session`] are how most commands begin.
+//! [`fetch_session`] are how most commands begin, and [`closed_desks`] is how those on closing lists go on.
 //!
 //! ```text
 //! fetch_table     of a table whose second line is no line of one   Err(At(BadTable(BadLine, line 2)))
@@ -12,11 +12,13 @@
 //! ```
 #![tactic(auto)]
 
+mod closed;
 mod files;
 mod status;
 mod stop;
 mod texts;
 
+pub use closed::closed_desks;
 pub use files::{fetch_session, fetch_suited, fetch_table, fetch_whole};
 pub use status::Status;
 pub use stop::{Refusal, Stop};

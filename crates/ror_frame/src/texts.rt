@@ -1,18 +1,19 @@
 //! The lines that a run writes. To write them takes no memory.
 
-ghost use Rattle.std.specs.Prelude.{◌≡◌, ◌++◌};
+ghost use Rattle.std.specs.Prelude.{◌≡◌, ◌++◌, codes};
 ghost use Rattle.ror_table.specs.declared.fault.TableKind.TheVariants.{Unsupported};
 ghost use Rattle.ror_frame.specs.Courses.{WritesDue};
 ghost use Rattle.ror_frame.specs.Inputs.{accepted_output};
 ghost use Rattle.ror_frame.specs.States.{sink_state};
 ghost use Rattle.ror_frame.specs.Printing.{Prints};
-ghost use Rattle.ror_frame.specs.Statuses.{kind_text, reject_text, fault_text, repair_fault_text, reason_text, table_line, session_line, rejection_line, status_text, accepted_text};
+ghost use Rattle.ror_frame.specs.Statuses.{kind_text, reject_text, fault_text, repair_fault_text, optimal_fault_text, reason_text, table_line, session_line, rejection_line, status_text, accepted_text};
 
 use crate::status::Status;
 use crate::stop::Stop;
 use itoa::{Buffer, Integer};
 use ror_bench::{Accepted, Reason, Rejection};
 use ror_check::{CheckFault, RepairCheckFault};
+use ror_discriminate::OptimalFault;
 use ror_io::{Sink, SinkFault, write_all, write_pieces};
 use ror_session::SessionFault;
 use ror_system::Reject;
@@ -247,6 +248,8 @@ fn write_reason<S: Sink>(sink: &mut S, reason: &Reason) -> Result<(), SinkFault>
             write_text(sink, b"repair ")?;
             write_repair_fault(sink, fault)
         }
+        Reason::Optimal(fault) => write_optimal_fault(sink, fault),
+        Reason::Contradiction(reject) => write_reject(sink, b"contradiction ", b"", b"", reject),
     }
 }
 
@@ -292,6 +295,28 @@ fn write_repair_fault<S: Sink>(sink: &mut S, fault: &RepairCheckFault) -> Result
         }
         RepairCheckFault::Base(reject) => write_reject(sink, b"base ", b"", b"", reject),
         RepairCheckFault::Memory => write_text(sink, b"Memory"),
+    }
+}
+
+/// Writes why an optimum is refused, after the word `optimal`.
+fn write_optimal_fault<S: Sink>(sink: &mut S, fault: &OptimalFault) -> Result<(), SinkFault>
+    ensures { Prints (S.faults sink.old) (S.faults sink.new)
+        (S.written sink.old) (S.written sink.new) (codes "optimal " ++ optimal_fault_text fault.now) result }
+{
+    match fault {
+        OptimalFault::NoStrictRow => write_text(sink, b"optimal NoStrictRow"),
+        OptimalFault::Solution(reject) => {
+            write_reject(sink, b"optimal Solution ", b"", b"", reject)
+        }
+        OptimalFault::Total => write_text(sink, b"optimal Total"),
+        OptimalFault::Length => write_text(sink, b"optimal Length"),
+        OptimalFault::Negative(place) => write_number(sink, b"optimal Negative ", *place),
+        OptimalFault::OnesRow => write_text(sink, b"optimal OnesRow"),
+        OptimalFault::NoStrict => write_text(sink, b"optimal NoStrict"),
+        OptimalFault::ScaleWide(column) => write_number(sink, b"optimal ScaleWide ", *column),
+        OptimalFault::ColumnWide(column) => write_number(sink, b"optimal ColumnWide ", *column),
+        OptimalFault::Column(column) => write_number(sink, b"optimal Column ", *column),
+        OptimalFault::Memory => write_text(sink, b"optimal Memory"),
     }
 }
 

@@ -15,6 +15,7 @@ use ror_generate::generate;
 use ror_io::{Shelf, Sink};
 use ror_words::{Arguments, CommandWord, Row, read_arguments, words_in_table};
 use ror_work::{check_files, replay_files};
+use ror_work_discriminate::{check_discriminate_files, discriminate_files};
 use ror_work_group::{check_group_files, group_files};
 use std::alloc::Global;
 
@@ -112,6 +113,13 @@ fn work_on<F: Shelf, O: Sink>(
         }
         CommandWord::CheckGroup => {
             check_group_files(alloc, &arguments.inputs(), arguments.name(2), shelf, out)
+        }
+        CommandWord::Discriminate => {
+            discriminate_files(alloc, &arguments.inputs(), arguments.width(), shelf, out)
+        }
+        CommandWord::CheckDiscriminate => {
+            let report = arguments.name(2);
+            check_discriminate_files(alloc, &arguments.inputs(), report, shelf, out)
         }
     }
 }

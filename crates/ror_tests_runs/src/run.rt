@@ -340,3 +340,74 @@ fn ends_where_an_entry_cannot_be_written(rt: HostRuntime) -> Result<(), Fail> {
     }
     Ok(())
 }
+
+/// A judge who prefers a to b and b to c, and the report of the most discriminating function.
+fn discriminated() -> Case<'static> {
+    Case {
+        session: b"prefer a b\nprefer b c\nask relation\n",
+        report: b"ror-discriminate 1\ndesk\nmargin 1 2\nsolution 1 1 0 0\nmultipliers | 0 1 1\nend 1\n",
+        out: b"accepted 1 wide 0\n",
+        ..accepted()
+    }
+}
+
+#[test]
+fn writes_and_accepts_the_most_discriminating_function(rt: HostRuntime) -> Result<(), Fail> {
+    let case = discriminated();
+    let mut shelf = shelf_of(rt.alloc(), &case)?;
+    let mut line = MemorySink::new(rt.alloc(), 64)?;
+    let mut err = MemorySink::new(rt.alloc(), 0)?;
+    expect(
+        &rt,
+        "check-discriminate t s r",
+        &case,
+        &mut shelf,
+        &mut line,
+        &mut err,
+    )?;
+    let written = Case {
+        out: case.report,
+        ..case
+    };
+    let mut out = MemorySink::new(rt.alloc(), 200)?;
+    expect(
+        &rt,
+        "discriminate t s",
+        &written,
+        &mut shelf,
+        &mut out,
+        &mut err,
+    )
+}
+
+#[test]
+fn ends_where_a_desk_cannot_be_written(rt: HostRuntime) -> Result<(), Fail> {
+    let fault = refused(discriminated(), 7, b"write fault\n");
+    let fronts = [
+        (1u64, b"".as_slice()),
+        (2, b"ror-discriminate 1\n".as_slice()),
+        (
+            3,
+            b"ror-discriminate 1\ndesk\nmargin 1 2\nsolution 1 1 0 0\nmultipliers | 0 1 1\n".as_slice(),
+        ),
+    ];
+    for (write, front) in fronts {
+        let case = Case {
+            out: front,
+            ..fault
+        };
+        let mut shelf = shelf_of(rt.alloc(), &case)?;
+        let mut out = MemorySink::new(rt.alloc(), 200)?;
+        out.fail_at(write)?;
+        let mut err = MemorySink::new(rt.alloc(), 99)?;
+        expect(
+            &rt,
+            "discriminate t s",
+            &case,
+            &mut shelf,
+            &mut out,
+            &mut err,
+        )?;
+    }
+    Ok(())
+}

@@ -20,6 +20,10 @@ pub enum CommandWord {
     Group,
     /// Such a report is checked.
     CheckGroup,
+    /// The report of the most discriminating function of each desk of a session is written.
+    Discriminate,
+    /// Such a report is checked.
+    CheckDiscriminate,
 }
 
 /// A row of the table of commands.
@@ -39,7 +43,7 @@ pub struct Row {
 }
 
 /// The commands. None has more than three names.
-const TABLE: [Row; 5] = [
+const TABLE: [Row; 7] = [
     Row {
         command: CommandWord::Replay,
         word: "replay",
@@ -80,13 +84,29 @@ const TABLE: [Row; 5] = [
         bits: false,
         best_first: true,
     },
+    Row {
+        command: CommandWord::Discriminate,
+        word: "discriminate",
+        names: &["TABLE", "SESSION"],
+        numbers: false,
+        bits: true,
+        best_first: true,
+    },
+    Row {
+        command: CommandWord::CheckDiscriminate,
+        word: "check-discriminate",
+        names: &["TABLE", "SESSION", "REPORT"],
+        numbers: false,
+        bits: false,
+        best_first: true,
+    },
 ];
 
 /// The usage line: the commands of the table, each with its names and options.
 pub fn usage() -> &'static str
     ensures { result.now ≡ usage_text }
 {
-    "usage: ror replay TABLE SESSION [--bits 15|31|63|127] [--best-first] | ror check TABLE SESSION REPORT [--best-first] | ror generate NUMBER | ror group TABLE SESSION [--bits 15|31|63|127] [--best-first] | ror check-group TABLE SESSION REPORT [--best-first]\n"
+    "usage: ror replay TABLE SESSION [--bits 15|31|63|127] [--best-first] | ror check TABLE SESSION REPORT [--best-first] | ror generate NUMBER | ror group TABLE SESSION [--bits 15|31|63|127] [--best-first] | ror check-group TABLE SESSION REPORT [--best-first] | ror discriminate TABLE SESSION [--bits 15|31|63|127] [--best-first] | ror check-discriminate TABLE SESSION REPORT [--best-first]\n"
 }
 
 /// The row of the command with this word.

@@ -27,6 +27,18 @@ returns-in-CheckGroup g c =
     let work = rw (ap (λ i. i.table) names, ap (λ i. i.session) names, ap (λ i. i.best_first) names, c.name-in-CheckGroup.ensures) at c.check_group_files.ensures in
     rw c.in-CheckGroup.is work
 
+pub returns-in-Discriminate : goal.returns-in-Discriminate
+returns-in-Discriminate g c =
+    let names = c.inputs-in-Discriminate.ensures in
+    let work = rw (ap (λ i. i.table) names, ap (λ i. i.session) names, ap (λ i. i.best_first) names, c.width-in-Discriminate.ensures) at c.discriminate_files.ensures in
+    rw c.in-Discriminate.is work
+
+pub returns-in-CheckDiscriminate : goal.returns-in-CheckDiscriminate
+returns-in-CheckDiscriminate g c =
+    let names = c.inputs-in-CheckDiscriminate.ensures in
+    let work = rw (ap (λ i. i.table) names, ap (λ i. i.session) names, ap (λ i. i.best_first) names, c.name-in-CheckDiscriminate.ensures) at c.check_discriminate_files.ensures in
+    rw c.in-CheckDiscriminate.is work
+
 pub returns-in-Generate : goal.returns-in-Generate
 returns-in-Generate g c =
     rw (c.in-Generate.is, ← c.number.ensures.value) (finished 0 (summary_output c.number.result) _ _ _ _ c.generate.ensures)

@@ -1,0 +1,161 @@
+-- The entries of a report of most discriminating functions are a kind, of which each is refused for one reason.
+use Rattle.std.proofs.Common.{◌≡◌, ◌≢◌, ℕ, ◌<◌, ◌^◌, ◌++◌, zero, suc, false, List, [], ◌∷◌, length, Some, refl, sym, ap, ◌∙◌, subst, inl, inr, arith}
+use Rattle.std.specs.Prelude.{slice_get, codes}
+use Rattle.std.specs.List.{AllByRecursion}
+use Rattle.std.specs.Str.{IsUtf8}
+use Rattle.ror_text.specs.FirstFault.{IsFirst}
+use Rattle.ror_text.proofs.FirstFaultLemmas.{first_at}
+use Rattle.ror_statement.specs.declared.statement.Statement.{Statement}
+use Rattle.ror_table.specs.Table.{DecisionTable}
+use Rattle.ror_table.specs.Blocks.{tops}
+use Rattle.ror_value.specs.Over.{IsLawfulIn}
+use Rattle.ror_system.specs.System.{LinearSystem}
+use Rattle.ror_system.specs.Acceptance.{FailsMultipliers, FailsSolution, IsEarlierTest, stage, place}
+use Rattle.ror_system.specs.declared.reject.Reject.{Reject}
+use Rattle.ror_check.specs.Proof.{base_system}
+use Rattle.ror_system.proofs.Reasons.{one_solution_reason, one_multiplier_reason}
+use Rattle.ror_system.proofs.MultiplierTests.{none_fails}
+use Rattle.ror_system.proofs.Motzkin.{not_both}
+use Rattle.ror_rows.proofs.Deciding.{base_refuted_is_contradictory}
+use Rattle.ror_proof.proofs.Utf8Lemmas.{ascii_is_utf8, line_text_is_utf8}
+use Rattle.ror_report.specs.Reading.{begins_end}
+use Rattle.ror_discriminate.specs.Head.{header_text}
+use Rattle.ror_bench.specs.declared.report.Reason.{Reason}
+use Rattle.ror_bench.specs.declared.report.Reason.TheVariants as reasons
+use Rattle.ror_bench.proofs.UniqueLemmas.{one_some}
+use Rattle.ror_pivot.specs.declared.optimum.Optimum.{Optimum}
+use Rattle.ror_discriminate.specs.declared.entry.Entry.{Entry}
+use Rattle.ror_discriminate.specs.declared.entry.EntryBody.{EntryBody}
+use Rattle.ror_discriminate.specs.declared.entry.EntryBody.TheVariants as bodies
+use Rattle.ror_discriminate.specs.declared.fault.OptimalFault.{OptimalFault}
+use Rattle.ror_discriminate.specs.declared.fault.OptimalFault.TheVariants as faults
+use Rattle.ror_discriminate.specs.Faults.{FailsOptimal, IsEarlierOptimalFault, optimal_stage, optimal_place}
+use Rattle.ror_entries.specs.Kind.{IsKind, HasOneReason}
+use Rattle.ror_work_discriminate.specs.Entries.{OfDeskAt, IsProvedBody, IsTrueBody, RefusesBody, IsProvedEntry, IsTrueEntry, RefusesEntry, other_desk, at_fault, best_kind}
+use Rattle.ror_work_discriminate.specs.Steps.{AreDesks}
+
+-- ---- one first fault
+
+-- two faults of one stage and place, whatever their rejects
+same_fault : (s : LinearSystem) (ts : List ℤ) (x : Optimum) (f g : OptimalFault) → FailsOptimal s ts x f → FailsOptimal s ts x g → optimal_stage f ≡ optimal_stage g → optimal_place f ≡ optimal_place g → f ≡ g
+same_fault s ts x faults.NoStrictRow faults.NoStrictRow first second stage place = refl
+same_fault s ts x faults.NoStrictRow g first second stage place = absurd (omega arith)
+same_fault s ts x (faults.Solution q) (faults.Solution r) first second stage place = ap faults.Solution (one_solution_reason s x.solution.steps q r first second)
+same_fault s ts x (faults.Solution q) g first second stage place = absurd (omega arith)
+same_fault s ts x faults.Total faults.Total first second stage place = refl
+same_fault s ts x faults.Total g first second stage place = absurd (omega arith)
+same_fault s ts x faults.Length faults.Length first second stage place = refl
+same_fault s ts x faults.Length g first second stage place = absurd (omega arith)
+same_fault s ts x (faults.Negative j) (faults.Negative k) first second stage place = ap faults.Negative place
+same_fault s ts x (faults.Negative j) g first second stage place = absurd (omega arith)
+same_fault s ts x faults.OnesRow faults.OnesRow first second stage place = refl
+same_fault s ts x faults.OnesRow g first second stage place = absurd (omega arith)
+same_fault s ts x faults.NoStrict faults.NoStrict first second stage place = refl
+same_fault s ts x faults.NoStrict g first second stage place = absurd (omega arith)
+same_fault s ts x (faults.ScaleWide j) (faults.ScaleWide k) first second stage place = ap faults.ScaleWide (omega arith)
+same_fault s ts x (faults.ScaleWide j) faults.Memory first second stage place = absurd second
+same_fault s ts x (faults.ScaleWide j) g first second stage place = absurd (omega arith)
+same_fault s ts x (faults.ColumnWide j) (faults.ColumnWide k) first second stage place = ap faults.ColumnWide (omega arith)
+same_fault s ts x (faults.ColumnWide j) faults.Memory first second stage place = absurd second
+same_fault s ts x (faults.ColumnWide j) g first second stage place = absurd (omega arith)
+same_fault s ts x (faults.Column j) (faults.Column k) first second stage place = ap faults.Column (omega arith)
+same_fault s ts x (faults.Column j) faults.Memory first second stage place = absurd second
+same_fault s ts x (faults.Column j) g first second stage place = absurd (omega arith)
+same_fault s ts x faults.Memory g first second stage place = absurd first
+
+one_fault : (s : LinearSystem) (ts : List ℤ) (x : Optimum) (f g : OptimalFault) → IsFirst (FailsOptimal s ts x) IsEarlierOptimalFault f → IsFirst (FailsOptimal s ts x) IsEarlierOptimalFault g → f ≡ g
+one_fault s ts x f g first second =
+    let at = first_at (FailsOptimal s ts x) optimal_stage optimal_place f g first second in
+    same_fault s ts x f g first.fails second.fails at.0 at.1
+
+module _ (t : DecisionTable) (list : List Statement) where
+  one_body_reason : (body : EntryBody) (q r : Reason) → RefusesBody t list body q → RefusesBody t list body r → q ≡ r
+  one_body_reason (bodies.Best margin total x) q r (inl first) (inl second) = first.2 ∙ ap reasons.Optimal (one_fault (base_system t list) (tops t) x first.0 second.0 first.1 second.1) ∙ sym second.2
+  one_body_reason (bodies.Best margin total x) q r (inl first) (inr second) = absurd (accepted_passes_each_test t list x first.0 second.0 first.1.fails)
+  one_body_reason (bodies.Best margin total x) q r (inr first) (inl second) = absurd (accepted_passes_each_test t list x second.0 first.0 second.1.fails)
+  one_body_reason (bodies.Best margin total x) q r (inr first) (inr second) = first.2 ∙ sym second.2
+  one_body_reason bodies.NoStrictRow q r first second = first.1 ∙ sym second.1
+  one_body_reason (bodies.Contradiction m) q r (inl first) (inl second) = first.1 ∙ sym second.1
+  one_body_reason (bodies.Contradiction m) q r (inl first) (inr second) = absurd (second.0 first.0)
+  one_body_reason (bodies.Contradiction m) q r (inr first) (inl second) = absurd (first.0 second.0)
+  one_body_reason (bodies.Contradiction m) q r (inr first) (inr second) = first.3 ∙ ap reasons.Contradiction (one_multiplier_reason (base_system t list) m.weak m.strict first.1 second.1 first.2 second.2) ∙ sym second.3
+  one_body_reason (bodies.BaseWide note) q r first second = absurd first
+  one_body_reason (bodies.ClimbWide note) q r first second = absurd first
+
+  -- what is proved is not refused
+  proved_body_passes : (body : EntryBody) (r : Reason) → IsProvedBody t list body → RefusesBody t list body r → ⊥
+  proved_body_passes (bodies.Best margin total x) r proved (inl fails) = accepted_passes_each_test t list x fails.0 proved.0 fails.1.fails
+  proved_body_passes (bodies.Best margin total x) r proved (inr other) = other.1 proved.1
+  proved_body_passes bodies.NoStrictRow r proved fails = fails.0 proved
+  proved_body_passes (bodies.Contradiction m) r proved (inl nothing) = proved.0 nothing.0
+  proved_body_passes (bodies.Contradiction m) r proved (inr fails) = (none_fails (base_system t list) m.weak m.strict proved.1) fails.1 fails.2.fails
+  proved_body_passes (bodies.BaseWide note) r proved fails = fails
+  proved_body_passes (bodies.ClimbWide note) r proved fails = fails
+
+  -- and is true
+  proved_body_true : IsLawfulIn t list → (body : EntryBody) → IsProvedBody t list body → IsTrueBody t list body
+  proved_body_true lawful (bodies.Best margin total x) proved = (proved_optima_are_best t list x lawful proved.0, proved.1)
+  proved_body_true lawful bodies.NoStrictRow proved = proved
+  proved_body_true lawful (bodies.Contradiction m) proved = base_refuted_is_contradictory t list lawful (not_both (base_system t list) m.weak m.strict proved.1.refute)
+  proved_body_true lawful (bodies.BaseWide note) proved = tt
+  proved_body_true lawful (bodies.ClimbWide note) proved = tt
+
+-- ---- the first line
+
+pub header_is_utf8 : IsUtf8 header_text
+unfolding header_text
+header_is_utf8 = line_text_is_utf8 (codes "ror-discriminate" ∷ codes "1" ∷ []) (ascii_is_utf8 (codes "ror-discriminate") refl, (ascii_is_utf8 (codes "1") refl, tt))
+
+-- ---- entries at their places
+
+one_list : (lists : List (List Statement)) (place : ℕ) (a b : List Statement) → slice_get lists place ≡ Some a → slice_get lists place ≡ Some b → b ≡ a
+one_list lists place a b e f = one_some (slice_get lists place) b a f e
+
+lawful_there : (t : DecisionTable) (lists : List (List Statement)) (place : ℕ) (list : List Statement) → AllByRecursion (IsLawfulIn t) lists → slice_get lists place ≡ Some list → IsLawfulIn t list
+lawful_there t [] place list all there = absurd cc
+lawful_there t (l ∷ ls) zero list all there = let same : l ≡ list = cc in subst (IsLawfulIn t) same all.0
+lawful_there t (l ∷ ls) (suc place) list all there = lawful_there t ls place list all.1 there
+
+module _ (t : DecisionTable) (names : List (List ℕ)) (lists : List (List Statement)) where
+  -- an entry is refused at a place for one reason
+  pub one_reason : HasOneReason (best_kind t names lists)
+  one_reason place x q r (other_desk off is) (other_desk besides and) = is ∙ sym and
+  one_reason place x q r (other_desk off is) (at_fault on) = absurd (off on.name_there)
+  one_reason place x q r (at_fault on) (other_desk off is) = absurd (off on.name_there)
+  one_reason place x q r (at_fault on) (at_fault there) =
+      let same = one_list lists place on.list there.list on.list_there there.list_there in
+      one_body_reason t on.list x.body q r on.holds (subst (λ (l : List Statement). RefusesBody t l x.body r) same there.holds)
+
+  proved_passes : (place : ℕ) (x : Entry) (reason : Reason) → IsProvedEntry t names lists place x → RefusesEntry t names lists place x reason → ⊥
+  proved_passes place x reason proved (other_desk off is) = off proved.name_there
+  proved_passes place x reason proved (at_fault on) =
+      let same = one_list lists place proved.list on.list proved.list_there on.list_there in
+      proved_body_passes t proved.list x.body reason proved.holds (subst (λ (l : List Statement). RefusesBody t l x.body reason) same on.holds)
+
+  module _ (desks : AreDesks t names lists) where
+    proved_true : (place : ℕ) (x : Entry) → IsProvedEntry t names lists place x → IsTrueEntry t names lists place x
+    proved_true place x proved = record {
+      list = proved.list;
+      name_there = proved.name_there;
+      list_there = proved.list_there;
+      holds = proved_body_true t proved.list (lawful_there t lists place proved.list desks.lawful proved.list_there) x.body proved.holds;
+    }
+
+    pub are_kind : IsKind (best_kind t names lists)
+    are_kind = record {
+      few = let few = desks.few in omega (arith, few);
+      read_iff_text = λ c x after.
+          let same = is_read_iff_text c x after in
+          ((λ read. let text = same.0 read in record { text = text.text; place = text.place; printable = text.printable; follows = tt }), λ text. same.1 (record { text = text.text; place = text.place; printable = text.printable }));
+      begins_no_end = λ x rest printable.
+          let begins = entry_begins x in
+          ap (λ (text : List ℕ). begins_end (text ++ rest)) begins.1 ∙ begins_no_end (begins.0 ++ rest);
+      entry_follows = λ x rest printable. tt;
+      end_follows = λ n. tt;
+      utf8 = λ x printable. entry_text_is_utf8 x printable;
+      proved_not_refused = proved_passes;
+      proved_is_true = proved_true;
+    }
+  where
+    begins_no_end : (more : List ℕ) → begins_end (codes "desk" ++ more) ≡ false
+    begins_no_end more = refl

@@ -1,0 +1,4 @@
+pub mod KindLemmas
+pub mod Courses
+pub mod Judging
+pub mod Writing

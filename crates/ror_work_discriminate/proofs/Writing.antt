@@ -1,0 +1,65 @@
+-- What was written of the first line and entries is the report, or how it begins.
+use Rattle.std.proofs.Common.{◌≡◌, ℕ, Bool, List, ◌++◌, length, Option, Ok, Err, refl, sym, subst, inr, arith}
+use Rattle.std.proofs.lemmas.List.{take_all}
+use Rattle.ror_io.specs.Writing.{Grew}
+use Rattle.ror_statement.specs.declared.statement.Statement.{Statement}
+use Rattle.ror_table.specs.Table.{DecisionTable}
+use Rattle.ror_value.specs.declared.input.Input.{Input}
+use Rattle.ror_session.specs.declared.session.Session.{Session}
+use Rattle.ror_closing.specs.Closing.{AreClosingLists}
+use Rattle.ror_discriminate.specs.declared.entry.Entry.{Entry}
+use Rattle.ror_discriminate.specs.declared.entry.EntryBody.{EntryBody}
+use Rattle.ror_discriminate.specs.declared.entry.EntryBody.TheVariants as bodies
+use Rattle.ror_discriminate.specs.Head.{header_text}
+use Rattle.ror_entries.specs.declared.write.EntriesStop.TheVariants as entry_stops
+use Rattle.ror_entries.specs.Kind.{IsKind}
+use Rattle.ror_entries.specs.Reports.{accepted_of, IsAcceptedEntries}
+use Rattle.ror_entries.specs.Writing.{IsWholeText, IsBegunText}
+use Rattle.ror_entries.specs.Headed.{BehindHead, WritesHeaded}
+use Rattle.ror_entries.proofs.WriteLemmas.{given_are_proved}
+use Rattle.ror_entries.proofs.HeadedLemmas.{proved_is_accepted}
+use Rattle.ror_frame.specs.declared.stop.Stop.TheVariants as stops
+use Rattle.ror_frame.specs.States.{SinkState, sink_state}
+use Rattle.ror_frame.specs.Courses.{WritesDue}
+use Rattle.ror_frame.specs.Inputs.{bench_for}
+use Rattle.ror_work_discriminate.specs.Entries.{IsGivenBody, IsProvedBody, IsGivenEntry, IsProvedEntry}
+use Rattle.ror_work_discriminate.specs.Discriminate.{OfClosing, kind_over, IsBegunBest, best_output}
+
+-- ---- given entries are proved
+
+given_body_proved : (most : ℕ) (t : DecisionTable) (list : List Statement) (body : EntryBody) → IsGivenBody most t list body → IsProvedBody t list body
+given_body_proved most t list (bodies.Best margin total x) given = (given.0.accepted, given.1)
+given_body_proved most t list bodies.NoStrictRow given = given
+given_body_proved most t list (bodies.Contradiction m) given = (given.says_strictly, given.accepted)
+given_body_proved most t list (bodies.BaseWide note) given = tt
+given_body_proved most t list (bodies.ClimbWide note) given = tt
+
+given_proved : (most : ℕ) (t : DecisionTable) (names : List (List ℕ)) (lists : List (List Statement)) (place : ℕ) (x : Entry) → IsGivenEntry most t names lists place x → IsProvedEntry t names lists place x
+given_proved most t names lists place x given = record {
+  list = given.list;
+  name_there = given.name_there;
+  list_there = given.list_there;
+  holds = given_body_proved most t given.list x.body given.holds;
+}
+
+module _ (most : ℕ) (i : Input) (s : Session) (lists : List (List Statement)) (closing : AreClosingLists (bench_for i s) s.lines lists) (kind : IsKind (kind_over i s lists)) where
+  accepted_whole : (body : List ℕ) (entries : List Entry) → IsWholeText (kind_over i s lists) (IsGivenEntry most i.table s.desks lists) body entries → IsAcceptedEntries (kind_over i s lists) body (accepted_of (kind_over i s lists) entries)
+  accepted_whole body entries whole =
+      proved_is_accepted (kind_over i s lists) kind body (accepted_of (kind_over i s lists) entries) (given_are_proved (kind_over i s lists) (IsGivenEntry most i.table s.desks lists) (given_proved most i.table s.desks lists) body entries whole)
+
+  begun : (body : List ℕ) → IsBegunText (kind_over i s lists) (IsGivenEntry most i.table s.desks lists) body → IsBegunBest most i s (header_text ++ body)
+  begun body had = record { lists = lists; closing = closing; holds = (body, refl, had) }
+
+  pub all_written : (x y : ℕ) (old new : Option (List ℕ)) (wide : Bool) → WritesHeaded header_text (kind_over i s lists) (IsGivenEntry most i.table s.desks lists) x y old new (Ok wide) → WritesDue (best_output most i s) (sink_state old x) (sink_state new y) (Ok wide)
+  all_written x y old new wide had =
+      let accepted = accepted_of (kind_over i s lists) had.2 in
+      let report = record { lists = lists; closing = closing; holds = (had.1, refl, had.2, had.3, accepted_whole had.1 had.2 had.3) } in
+      (had.0, tt, header_text ++ had.1, (accepted, report, had.4), had.5)
+
+  pub write_failed : (x y : ℕ) (old new : Option (List ℕ)) → WritesHeaded header_text (kind_over i s lists) (IsGivenEntry most i.table s.desks lists) x y old new (Err entry_stops.Write) → WritesDue (best_output most i s) (sink_state old x) (sink_state new y) (Err stops.WriteFault)
+  write_failed x y old new had = (had.0, had.1, header_text ++ had.2, begun had.2 had.3, had.4)
+
+  pub ran_out : (x y : ℕ) (old new : Option (List ℕ)) → WritesHeaded header_text (kind_over i s lists) (IsGivenEntry most i.table s.desks lists) x y old new (Err entry_stops.Memory) → WritesDue (best_output most i s) (sink_state old x) (sink_state new y) (Err stops.Memory)
+  ran_out x y old new had =
+      let text = header_text ++ had.1 in
+      inr (had.0, refl, text, length text, begun had.1 had.2, subst (Grew old new) (sym (take_all (length text) text (omega arith))) had.3)

@@ -1,0 +1,196 @@
+//! The check of the entries of a report of most discriminating functions.
+
+ghost use Rattle.std.specs.Prelude.{◌≡◌, OnOk, IfErr};
+ghost use Rattle.ror_value.specs.Over.{IsLawfulIn};
+ghost use Rattle.ror_bench.specs.Reports.{IsFreeOfMemory};
+ghost use Rattle.ror_entries.specs.Steps.{IfRefused};
+ghost use Rattle.ror_system.specs.declared.accept.Multipliers.{Multipliers};
+ghost use Rattle.ror_discriminate.specs.declared.entry.EntryBody.TheVariants as bodies;
+ghost use Rattle.ror_work_discriminate.specs.Entries.{best_kind, entry_passed, IsProvedBody, RefusesBody};
+ghost use Rattle.ror_work_discriminate.specs.Steps.{AreDesks};
+
+use crate::maker::is_wide;
+use ror_bench::{Bench, Passed, Reason};
+use ror_discriminate::{Entry, EntryBody, OptimalFault, check_best, read_entry};
+use ror_entries::{EntryFault, Judge};
+use ror_pivot::Optimum;
+use ror_proof::ProofFault;
+use ror_rows::system_of;
+use ror_statement::Statement;
+use ror_system::{Multipliers, accept_multipliers};
+use ror_table::Table;
+use ror_text::{Items, Text};
+use std::alloc::Global;
+use std::marker::Model;
+
+/// Judges the entries of a report over a bench's table, by the names and the lists of its desks.
+#[derive(Drop)]
+pub(crate) struct BestJudge<'a> {
+    bench: Bench,
+    names: Items<Text>,
+    lists: Vec<Items<Statement>>,
+    bytes: &'a [u8],
+}
+
+impl<'a> Model for BestJudge<'a> {
+    ghost use Rattle.ror_work_discriminate.specs.Steps.{BestJudging, AreDesks};
+
+    ghost Value = { BestJudging };
+
+    ghost view = { λ j. record {
+      table = j.bench.table;
+      names = j.names;
+      lists = j.lists.items;
+      report = j.bytes.now;
+    } };
+
+    ghost invariant = { λ j. AreDesks j.bench.table j.names j.lists.items };
+}
+
+impl<'a> BestJudge<'a> {
+    /// The judge of a report over the bench's table, of desks with these names and lists.
+    pub(crate) fn new(
+        bench: Bench,
+        names: Items<Text>,
+        lists: Vec<Items<Statement>>,
+        bytes: &'a [u8],
+    ) -> BestJudge<'a>
+        requires { AreDesks bench.table names lists.items }
+        ensures table { result.table ≡ bench.table }
+        ensures names { result.names ≡ names }
+        ensures lists { result.lists ≡ lists.items }
+        ensures report { result.report ≡ bytes.now }
+    {
+        BestJudge {
+            bench,
+            names,
+            lists,
+            bytes,
+        }
+    }
+}
+
+impl<'a> Judge for BestJudge<'a> {
+    type Entry = Entry;
+
+    ghost kind = { λ j. best_kind j.table j.names j.lists };
+
+    ghost report = { λ j. j.report };
+
+    fn count(&self) -> u32 {
+        self.names.len() as u32
+    }
+
+    fn bytes(&self) -> &[u8] {
+        self.bytes
+    }
+
+    fn read(&mut self, alloc: Global, from: usize) -> Result<(Entry, usize), ProofFault> {
+        read_entry(alloc, self.bench.table(), self.bytes, from)
+    }
+
+    fn check(&mut self, alloc: Global, place: u32, entry: &Entry) -> Result<Passed, EntryFault> {
+        if self.names.as_slice()[place as usize] != entry.desk {
+            return Err(EntryFault::Refused(Reason::WrongBlock));
+        }
+        let list = self.lists[place as usize].as_slice();
+        check_body(alloc, self.bench.table(), list, &entry.body)?;
+        Ok(passed_of(entry))
+    }
+}
+
+/// What an entry counts as.
+fn passed_of(entry: &Entry) -> Passed
+    ensures { result ≡ entry_passed entry.now }
+{
+    if is_wide(&entry.body) {
+        Passed { answers: 0, wide: 1 }
+    } else {
+        Passed { answers: 1, wide: 0 }
+    }
+}
+
+/// Whether a body is too wide, or has its proof over the list.
+fn check_body(
+    alloc: Global,
+    table: &Table,
+    list: &[Statement],
+    body: &EntryBody,
+) -> Result<(), EntryFault>
+    requires lawful { IsLawfulIn table.now list.now }
+    ensures proved { OnOk result (IsProvedBody table.now list.now body.now) }
+    ensures refused { IfErr result (IfRefused (RefusesBody table.now list.now body.now)) }
+    ensures pure { IfErr result (IfRefused IsFreeOfMemory) }
+{
+    match body {
+        EntryBody::Best {
+            margin,
+            total,
+            optimum,
+        } => check_function(alloc, table, list, *margin, *total, optimum),
+        EntryBody::NoStrictRow => check_none(alloc, table, list),
+        EntryBody::Contradiction(multipliers) => {
+            check_contradiction(alloc, table, list, multipliers)
+        }
+        EntryBody::BaseWide(_) | EntryBody::ClimbWide(_) => Ok(()),
+    }
+}
+
+/// Whether the optimum is accepted over the list, and its solution has this margin.
+fn check_function(
+    alloc: Global,
+    table: &Table,
+    list: &[Statement],
+    margin: i128,
+    total: i128,
+    optimum: &Optimum,
+) -> Result<(), EntryFault>
+    requires lawful { IsLawfulIn table.now list.now }
+    ensures proved { OnOk result (IsProvedBody table.now list.now (bodies.Best margin total optimum.now)) }
+    ensures refused { IfErr result (IfRefused (RefusesBody table.now list.now (bodies.Best margin total optimum.now))) }
+    ensures pure { IfErr result (IfRefused IsFreeOfMemory) }
+{
+    match check_best(alloc, table, list, optimum) {
+        Ok(found) if found.least == margin && found.total == total => Ok(()),
+        Ok(_) => Err(EntryFault::Refused(Reason::WrongBlock)),
+        Err(OptimalFault::Memory) => Err(EntryFault::Memory),
+        Err(fault) => Err(EntryFault::Refused(Reason::Optimal(fault))),
+    }
+}
+
+/// Whether the list says nothing strictly.
+fn check_none(alloc: Global, table: &Table, list: &[Statement]) -> Result<(), EntryFault>
+    requires lawful { IsLawfulIn table.now list.now }
+    ensures proved { OnOk result (IsProvedBody table.now list.now bodies.NoStrictRow) }
+    ensures refused { IfErr result (IfRefused (RefusesBody table.now list.now bodies.NoStrictRow)) }
+    ensures pure { IfErr result (IfRefused IsFreeOfMemory) }
+{
+    let system = system_of(alloc, table, list)?;
+    // The first strict row is that of ones.
+    if system.strict().len() > 1 {
+        return Err(EntryFault::Refused(Reason::WrongBlock));
+    }
+    Ok(())
+}
+
+/// Whether the list says something strictly, and the multipliers refute its system.
+fn check_contradiction(
+    alloc: Global,
+    table: &Table,
+    list: &[Statement],
+    multipliers: &Multipliers,
+) -> Result<(), EntryFault>
+    requires lawful { IsLawfulIn table.now list.now }
+    ensures proved { OnOk result (IsProvedBody table.now list.now (bodies.Contradiction multipliers.now)) }
+    ensures refused { IfErr result (IfRefused (RefusesBody table.now list.now (bodies.Contradiction multipliers.now))) }
+    ensures pure { IfErr result (IfRefused IsFreeOfMemory) }
+{
+    let system = system_of(alloc, table, list)?;
+    if system.strict().len() == 1 {
+        return Err(EntryFault::Refused(Reason::WrongBlock));
+    }
+    match accept_multipliers(&system, multipliers) {
+        Ok(()) => Ok(()),
+        Err(reject) => Err(EntryFault::Refused(Reason::Contradiction(reject))),
+    }
+}
