@@ -165,7 +165,9 @@ fn check_none(alloc: Global, table: &Table, list: &[Statement]) -> Result<(), En
     ensures refused { IfErr result (IfRefused (RefusesBody table.now list.now bodies.NoStrictRow)) }
     ensures pure { IfErr result (IfRefused IsFreeOfMemory) }
 {
-    let system = system_of(alloc, table, list)?;
+    let Ok(system) = system_of(alloc, table, list) else {
+        return Err(EntryFault::Memory);
+    };
     // The first strict row is that of ones.
     if system.strict().len() > 1 {
         return Err(EntryFault::Refused(Reason::WrongBlock));
@@ -185,7 +187,9 @@ fn check_contradiction(
     ensures refused { IfErr result (IfRefused (RefusesBody table.now list.now (bodies.Contradiction multipliers.now))) }
     ensures pure { IfErr result (IfRefused IsFreeOfMemory) }
 {
-    let system = system_of(alloc, table, list)?;
+    let Ok(system) = system_of(alloc, table, list) else {
+        return Err(EntryFault::Memory);
+    };
     if system.strict().len() == 1 {
         return Err(EntryFault::Refused(Reason::WrongBlock));
     }
