@@ -1,6 +1,7 @@
 pub mod RowPlaces
 pub mod EquationLemmas
 pub mod PivotLemmas
+pub mod CappedSystems
 pub mod StartLemmas
 pub mod ChoiceLemmas
 pub mod PathLemmas

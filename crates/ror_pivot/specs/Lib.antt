@@ -10,3 +10,5 @@ pub mod Calls
 pub mod Laws
 pub mod Optimality
 pub mod Climbing
+pub mod ClimbingLaws
+pub mod ClimbCalls

@@ -60,7 +60,7 @@ pub(crate) fn infeasible_end<W: Word>(
 }
 
 /// So many entries of a row from a column on.
-fn entries_from<W: Word>(
+pub(crate) fn entries_from<W: Word>(
     alloc: Global,
     row: &FracRow<W>,
     first: usize,
@@ -81,7 +81,7 @@ fn entries_from<W: Word>(
 }
 
 /// The sum of a column's absolute terms over the multipliers, or `None` where it passes `MOST`.
-fn column_sum<W: Word>(s: &System, weak: &[W], strict: &[W], j: usize) -> Option<W>
+pub(crate) fn column_sum<W: Word>(s: &System, weak: &[W], strict: &[W], j: usize) -> Option<W>
     requires within { j < s.now.columns }
     requires weak_length { length weak.now ≡ length s.now.weak }
     requires strict_length { length strict.now ≡ length s.now.strict }
@@ -96,7 +96,7 @@ fn column_sum<W: Word>(s: &System, weak: &[W], strict: &[W], j: usize) -> Option
 }
 
 /// The values of these words.
-fn numbers_of<W: Word>(alloc: Global, words: &[W]) -> Result<Numbers, AllocError>
+pub(crate) fn numbers_of<W: Word>(alloc: Global, words: &[W]) -> Result<Numbers, AllocError>
     requires { AllByRecursion (λ word. IsWithin W.most (W.value word)) words.now }
     ensures { IfOk result (λ numbers. numbers ≡ map W.value words.now) }
 {

@@ -2,7 +2,9 @@
 
 ghost use Rattle.std.specs.Prelude.{◌≡◌};
 ghost use Rattle.ror_pivot.specs.declared.optimum.ClimbFault.TheVariants.{Memory};
+ghost use Rattle.ror_pivot.specs.Climbing.{climb_place};
 
+use crate::note::Place;
 use ror_system::{Multipliers, Solution};
 use ror_text::Items;
 use std::alloc::{AllocError, AllocFailed};
@@ -35,6 +37,21 @@ pub enum ClimbPlace {
     Scale(usize),
     /// The sum of a column's absolute terms over the multipliers.
     ColumnSum(usize),
+}
+
+impl ClimbPlace {
+    /// A place on a path from a start, as one of a climbing path.
+    pub(crate) fn of(place: Place) -> ClimbPlace
+        ensures { result ≡ climb_place place }
+    {
+        match place {
+            Place::Start(row, column) => ClimbPlace::Start(row, column),
+            Place::Step(row, column) => ClimbPlace::Step(row, column),
+            Place::Denominator(row) => ClimbPlace::Denominator(row),
+            Place::RowSum(row) => ClimbPlace::RowSum(row),
+            Place::ColumnSum(column) => ClimbPlace::ColumnSum(column),
+        }
+    }
 }
 
 /// The first number of a climbing path that is too wide.

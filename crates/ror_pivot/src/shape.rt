@@ -3,6 +3,7 @@
 ghost use Rattle.std.specs.Prelude.{◌≡◌, ◌<◌, ◌≤◌};
 ghost use Rattle.ror_system.specs.System.{IsWellFormed};
 ghost use Rattle.ror_pivot.specs.Tableau.{shape_of, slack_count, slack_column, objective_column, right_side_column, objective_row, tableau_height, column_count};
+ghost use Rattle.ror_pivot.specs.Climbing.{climbing_shape};
 ghost use Rattle.ror_pivot.specs.Calls.{IsSmall};
 
 use ror_system::System;
@@ -26,6 +27,19 @@ impl Shape {
             steps: s.columns(),
             weak: s.weak().len(),
             strict: s.strict().len(),
+        }
+    }
+
+    /// The shape of a climbing path's tableau: it has no row for the row of ones, which is the first strict one.
+    pub(crate) fn climbing(s: &System) -> Shape
+        ensures value { result ≡ climbing_shape s.now }
+        ensures small { IsSmall result }
+        ensures form { IsWellFormed s.now }
+    {
+        Shape {
+            steps: s.columns(),
+            weak: s.weak().len(),
+            strict: s.strict()[1..].len(),
         }
     }
 
