@@ -26,6 +26,7 @@ use Rattle.ror_check.specs.Proof.{base_system}
 use Rattle.ror_pivot.specs.Optimality.{AreTops, least, strict_rows, least_value, IsBest}
 use Rattle.ror_discriminate.specs.Margin.{is_strict, strict_comparisons, margin_on, margins, least_margin, DiscriminatesAsMuch, IsMostDiscriminating}
 use Rattle.ror_discriminate.proofs.NoGreater.{no_greater}
+use Rattle.ror_discriminate.proofs.OptimalTests.{some_row}
 
 -- ---- rows and margins
 abbrev strict_among : List Comparison → List Comparison
@@ -121,6 +122,7 @@ base_widths t list lawful =
 pub most_discriminating : (t : DecisionTable) (list : List Statement) (steps weak strict : List ℤ) → AreTops (columns t) (tops t) → IsLawfulIn t list
     → IsBest (base_system t list) (tops t) steps weak strict → IsMostDiscriminating t list steps
 most_discriminating t list steps weak strict are lawful best = record {
+  says_strictly = λ none. some_row (base_system t list) (tops t) (record { solution = record { steps = steps }; multipliers = record { weak = weak; strict = strict } }) best ((no_rows t list).1 none);
   compatible = (rows_hold_base t list steps lawful).1 best.solution.solves;
   most = λ v compatible. in_margins v (no_greater (base_system t list) (tops t) steps weak strict (base_widths t list lawful) are best v ((rows_hold_base t list v lawful).0 compatible));
 }

@@ -273,7 +273,7 @@ module _ (s : LinearSystem) (tops : List ℤ) (x : Optimum) where
   }
 
   -- some strict row stands beside that of ones, which a multiplier above 0 can't weigh
-  some_row : IsBest s tops x.solution.steps x.multipliers.weak x.multipliers.strict → strict_rows s ≢ []
+  pub some_row : IsBest s tops x.solution.steps x.multipliers.weak x.multipliers.strict → strict_rows s ≢ []
   some_row best none = no_second s.strict x.multipliers.strict best.one_for_each_strict best.ones_row best.some_strict none
     where
       no_second : (rows : List (List ℤ)) (zs : List ℤ) → length zs ≡ length rows → entry zs 0 ≡ pos 0 → SomePositive zs → drop 1 rows ≡ [] → ⊥

@@ -11,6 +11,9 @@ use Rattle.ror_pivot.specs.declared.note.Bits.{Bits}
 use Rattle.ror_pivot.specs.declared.note.SolveFault.TheVariants.{Wide}
 use Rattle.ror_pivot.specs.declared.note.WideNote.{WideNote}
 use Rattle.ror_pivot.specs.declared.optimum.Optimum.{Optimum}
+use Rattle.ror_pivot.specs.declared.optimum.ClimbNote.{ClimbNote}
+use Rattle.ror_pivot.specs.declared.optimum.ClimbFault.TheVariants as climb_faults
+use Rattle.ror_pivot.specs.Climbing.{IsClimbNoteWithin}
 use Rattle.ror_pivot.specs.Answers.{most_of, IsNoteWithin}
 use Rattle.ror_pivot.specs.Optimality.{IsNarrowOptimum}
 use Rattle.ror_proof.specs.declared.read.ProofFault.{ProofFault}
@@ -57,3 +60,5 @@ pub record FoundBodiesHaveTexts : Type 0 where
       → AllByRecursion (IsWithin (most_of bits)) m.strict → IsPrintableBody (bodies.Contradiction m)
   pub base_wide : (s : LinearSystem) (note : WideNote) → IsWellFormed s → IsNoteWithin s (Wide note)
       → IsPrintableBody (bodies.BaseWide note)
+  pub climb_wide : (s : LinearSystem) (note : ClimbNote) → IsWellFormed s → IsClimbNoteWithin s (climb_faults.Wide note)
+      → IsPrintableBody (bodies.ClimbWide note)

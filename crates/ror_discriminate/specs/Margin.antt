@@ -1,6 +1,6 @@
 -- How much a value function discriminates: by how much it meets what a list says strictly, at least, over the value of the best
 -- levels; and which functions do so most.
-use Rattle.std.specs.Prelude.{◌≡◌, Bool, true, false, List, map, ℤ, ◌-ℤ◌, ◌*ℤ◌, ◌≤ℤ◌}
+use Rattle.std.specs.Prelude.{◌≡◌, ◌≢◌, Bool, true, false, List, [], map, ℤ, ◌-ℤ◌, ◌*ℤ◌, ◌≤ℤ◌}
 use Rattle.std.specs.List.{filter}
 use Rattle.ror_statement.specs.declared.comparison.Relation.{Relation}
 use Rattle.ror_statement.specs.declared.comparison.Relation.TheVariants.{Above}
@@ -41,9 +41,9 @@ abbrev pub DiscriminatesAsMuch : DecisionTable → List Statement → List ℤ �
 DiscriminatesAsMuch t list w v =
     (least_margin t list v *ℤ ideal_value t w) ≤ℤ (least_margin t list w *ℤ ideal_value t v)
 
--- The function is compatible with the list, and no compatible function discriminates more. It is asked of lists that say
--- something strictly and with which some function is compatible.
+-- The list says something strictly, the function is compatible with it, and no compatible function discriminates more.
 pub record IsMostDiscriminating (t : DecisionTable) (list : List Statement) (w : List ℤ) : Type 0 where
+  pub says_strictly : strict_comparisons list ≢ []
   pub compatible : IsCompatible t list w
   pub most : (v : List ℤ) → IsCompatible t list v → DiscriminatesAsMuch t list w v
 

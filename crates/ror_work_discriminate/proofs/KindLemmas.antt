@@ -6,7 +6,7 @@ use Rattle.std.specs.Str.{IsUtf8}
 use Rattle.ror_text.specs.FirstFault.{IsFirst}
 use Rattle.ror_text.proofs.FirstFaultLemmas.{first_at}
 use Rattle.ror_statement.specs.declared.statement.Statement.{Statement}
-use Rattle.ror_table.specs.Table.{DecisionTable}
+use Rattle.ror_table.specs.Table.{DecisionTable, IsTable}
 use Rattle.ror_table.specs.Blocks.{tops}
 use Rattle.ror_value.specs.Over.{IsLawfulIn}
 use Rattle.ror_system.specs.System.{LinearSystem}
@@ -30,49 +30,22 @@ use Rattle.ror_discriminate.specs.declared.entry.EntryBody.TheVariants as bodies
 use Rattle.ror_discriminate.specs.declared.fault.OptimalFault.{OptimalFault}
 use Rattle.ror_discriminate.specs.declared.fault.OptimalFault.TheVariants as faults
 use Rattle.ror_discriminate.specs.Faults.{FailsOptimal, IsEarlierOptimalFault, optimal_stage, optimal_place}
+use Rattle.ror_discriminate.proofs.OneFault.{one_first_fault}
+use Rattle.ror_discriminate.proofs.OptimalTests.{passes}
+use Rattle.ror_discriminate.proofs.Margins.{tops_are, most_discriminating}
+use Rattle.ror_discriminate.proofs.EntryLemmas.{is_read_iff_text, entry_begins}
+use Rattle.ror_discriminate.proofs.EntryUtf8.{entry_text_is_utf8}
 use Rattle.ror_entries.specs.Kind.{IsKind, HasOneReason}
 use Rattle.ror_work_discriminate.specs.Entries.{OfDeskAt, IsProvedBody, IsTrueBody, RefusesBody, IsProvedEntry, IsTrueEntry, RefusesEntry, other_desk, at_fault, best_kind}
 use Rattle.ror_work_discriminate.specs.Steps.{AreDesks}
 
 -- ---- one first fault
 
--- two faults of one stage and place, whatever their rejects
-same_fault : (s : LinearSystem) (ts : List ℤ) (x : Optimum) (f g : OptimalFault) → FailsOptimal s ts x f → FailsOptimal s ts x g → optimal_stage f ≡ optimal_stage g → optimal_place f ≡ optimal_place g → f ≡ g
-same_fault s ts x faults.NoStrictRow faults.NoStrictRow first second stage place = refl
-same_fault s ts x faults.NoStrictRow g first second stage place = absurd (omega arith)
-same_fault s ts x (faults.Solution q) (faults.Solution r) first second stage place = ap faults.Solution (one_solution_reason s x.solution.steps q r first second)
-same_fault s ts x (faults.Solution q) g first second stage place = absurd (omega arith)
-same_fault s ts x faults.Total faults.Total first second stage place = refl
-same_fault s ts x faults.Total g first second stage place = absurd (omega arith)
-same_fault s ts x faults.Length faults.Length first second stage place = refl
-same_fault s ts x faults.Length g first second stage place = absurd (omega arith)
-same_fault s ts x (faults.Negative j) (faults.Negative k) first second stage place = ap faults.Negative place
-same_fault s ts x (faults.Negative j) g first second stage place = absurd (omega arith)
-same_fault s ts x faults.OnesRow faults.OnesRow first second stage place = refl
-same_fault s ts x faults.OnesRow g first second stage place = absurd (omega arith)
-same_fault s ts x faults.NoStrict faults.NoStrict first second stage place = refl
-same_fault s ts x faults.NoStrict g first second stage place = absurd (omega arith)
-same_fault s ts x (faults.ScaleWide j) (faults.ScaleWide k) first second stage place = ap faults.ScaleWide (omega arith)
-same_fault s ts x (faults.ScaleWide j) faults.Memory first second stage place = absurd second
-same_fault s ts x (faults.ScaleWide j) g first second stage place = absurd (omega arith)
-same_fault s ts x (faults.ColumnWide j) (faults.ColumnWide k) first second stage place = ap faults.ColumnWide (omega arith)
-same_fault s ts x (faults.ColumnWide j) faults.Memory first second stage place = absurd second
-same_fault s ts x (faults.ColumnWide j) g first second stage place = absurd (omega arith)
-same_fault s ts x (faults.Column j) (faults.Column k) first second stage place = ap faults.Column (omega arith)
-same_fault s ts x (faults.Column j) faults.Memory first second stage place = absurd second
-same_fault s ts x (faults.Column j) g first second stage place = absurd (omega arith)
-same_fault s ts x faults.Memory g first second stage place = absurd first
-
-one_fault : (s : LinearSystem) (ts : List ℤ) (x : Optimum) (f g : OptimalFault) → IsFirst (FailsOptimal s ts x) IsEarlierOptimalFault f → IsFirst (FailsOptimal s ts x) IsEarlierOptimalFault g → f ≡ g
-one_fault s ts x f g first second =
-    let at = first_at (FailsOptimal s ts x) optimal_stage optimal_place f g first second in
-    same_fault s ts x f g first.fails second.fails at.0 at.1
-
 module _ (t : DecisionTable) (list : List Statement) where
   one_body_reason : (body : EntryBody) (q r : Reason) → RefusesBody t list body q → RefusesBody t list body r → q ≡ r
-  one_body_reason (bodies.Best margin total x) q r (inl first) (inl second) = first.2 ∙ ap reasons.Optimal (one_fault (base_system t list) (tops t) x first.0 second.0 first.1 second.1) ∙ sym second.2
-  one_body_reason (bodies.Best margin total x) q r (inl first) (inr second) = absurd (accepted_passes_each_test t list x first.0 second.0 first.1.fails)
-  one_body_reason (bodies.Best margin total x) q r (inr first) (inl second) = absurd (accepted_passes_each_test t list x second.0 first.0 second.1.fails)
+  one_body_reason (bodies.Best margin total x) q r (inl first) (inl second) = first.2 ∙ ap reasons.Optimal (one_first_fault (base_system t list) (tops t) x first.0 second.0 first.1 second.1) ∙ sym second.2
+  one_body_reason (bodies.Best margin total x) q r (inl first) (inr second) = absurd (passes (base_system t list) (tops t) x second.0 first.0 first.1.fails)
+  one_body_reason (bodies.Best margin total x) q r (inr first) (inl second) = absurd (passes (base_system t list) (tops t) x first.0 second.0 second.1.fails)
   one_body_reason (bodies.Best margin total x) q r (inr first) (inr second) = first.2 ∙ sym second.2
   one_body_reason bodies.NoStrictRow q r first second = first.1 ∙ sym second.1
   one_body_reason (bodies.Contradiction m) q r (inl first) (inl second) = first.1 ∙ sym second.1
@@ -84,7 +57,7 @@ module _ (t : DecisionTable) (list : List Statement) where
 
   -- what is proved is not refused
   proved_body_passes : (body : EntryBody) (r : Reason) → IsProvedBody t list body → RefusesBody t list body r → ⊥
-  proved_body_passes (bodies.Best margin total x) r proved (inl fails) = accepted_passes_each_test t list x fails.0 proved.0 fails.1.fails
+  proved_body_passes (bodies.Best margin total x) r proved (inl fails) = passes (base_system t list) (tops t) x proved.0 fails.0 fails.1.fails
   proved_body_passes (bodies.Best margin total x) r proved (inr other) = other.1 proved.1
   proved_body_passes bodies.NoStrictRow r proved fails = fails.0 proved
   proved_body_passes (bodies.Contradiction m) r proved (inl nothing) = proved.0 nothing.0
@@ -93,12 +66,12 @@ module _ (t : DecisionTable) (list : List Statement) where
   proved_body_passes (bodies.ClimbWide note) r proved fails = fails
 
   -- and is true
-  proved_body_true : IsLawfulIn t list → (body : EntryBody) → IsProvedBody t list body → IsTrueBody t list body
-  proved_body_true lawful (bodies.Best margin total x) proved = (proved_optima_are_best t list x lawful proved.0, proved.1)
-  proved_body_true lawful bodies.NoStrictRow proved = proved
-  proved_body_true lawful (bodies.Contradiction m) proved = base_refuted_is_contradictory t list lawful (not_both (base_system t list) m.weak m.strict proved.1.refute)
-  proved_body_true lawful (bodies.BaseWide note) proved = tt
-  proved_body_true lawful (bodies.ClimbWide note) proved = tt
+  proved_body_true : IsTable t → IsLawfulIn t list → (body : EntryBody) → IsProvedBody t list body → IsTrueBody t list body
+  proved_body_true table lawful (bodies.Best margin total x) proved = (most_discriminating t list x.solution.steps x.multipliers.weak x.multipliers.strict (tops_are t table) lawful proved.0, proved.1)
+  proved_body_true table lawful bodies.NoStrictRow proved = proved
+  proved_body_true table lawful (bodies.Contradiction m) proved = base_refuted_is_contradictory t list lawful (not_both (base_system t list) m.weak m.strict proved.1.refute)
+  proved_body_true table lawful (bodies.BaseWide note) proved = tt
+  proved_body_true table lawful (bodies.ClimbWide note) proved = tt
 
 -- ---- the first line
 
@@ -138,7 +111,7 @@ module _ (t : DecisionTable) (names : List (List ℕ)) (lists : List (List State
       list = proved.list;
       name_there = proved.name_there;
       list_there = proved.list_there;
-      holds = proved_body_true t proved.list (lawful_there t lists place proved.list desks.lawful proved.list_there) x.body proved.holds;
+      holds = proved_body_true t proved.list desks.table (lawful_there t lists place proved.list desks.lawful proved.list_there) x.body proved.holds;
     }
 
     pub are_kind : IsKind (best_kind t names lists)
