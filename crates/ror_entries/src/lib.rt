@@ -17,5 +17,5 @@ mod check;
 pub mod laws;
 mod write;
 
-pub use check::{EntryFault, Judge, check_entries};
+pub use check::{EntryFault, Judge, check_entries, misread};
 pub use write::{EntriesStop, Maker, write_entries};
