@@ -13,14 +13,14 @@ use Rattle.ror_group.specs.declared.fault.GroupFault.{GroupFault}
 use Rattle.ror_group.specs.declared.quartet.Quartet.{Quartet}
 use Rattle.ror_group.specs.Proof.{IsProvedPair}
 use Rattle.ror_group.specs.Faults.{FailsPair}
-use Rattle.ror_group.specs.Group.{Judges, IsGroupAnswer, AreGroupAnswers}
-use Rattle.ror_group.specs.Group.Judges.{every_judge, some_judge}
+use Rattle.ror_group.specs.Group.{Quantifier, IsGroupAnswer, AreGroupAnswers}
+use Rattle.ror_group.specs.Group.Quantifier.{every_judge, some_judge}
 use Rattle.ror_group.specs.Combining.{asked_on, InStep, combined}
 
 -- a group has no two answers to a question
 abbrev pub OneGroupAnswer : Type 0
-OneGroupAnswer = (t : DecisionTable) (lists : List (List Statement)) (js : Judges) (q : Question)
-    (c d : Conclusion) → IsGroupAnswer t lists js q c → IsGroupAnswer t lists js q d → c ≡ d
+OneGroupAnswer = (t : DecisionTable) (lists : List (List Statement)) (quantifier : Quantifier) (q : Question)
+    (c d : Conclusion) → IsGroupAnswer t lists quantifier q c → IsGroupAnswer t lists quantifier q d → c ≡ d
 
 -- without judges all is so for every one of them, and nothing for some one
 abbrev pub NoJudges : Type 0
