@@ -6,3 +6,4 @@ pub mod EntryLemmas
 pub mod EntryUtf8
 pub mod EntryErrors
 pub mod HeadLemmas
+pub mod HeadErrors
