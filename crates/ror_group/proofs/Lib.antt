@@ -1,4 +1,5 @@
 pub mod Groups
+pub mod WideWords
 pub mod Pairs
 pub mod AnswerLoops
 pub mod EntryLines

@@ -58,7 +58,7 @@ module _ (i : Input) (s : Session) (table : IsTable i.table) (lawful : IsLawfulI
         one_count (group_kind i.table a.lists) (kind_of_lists a.lists a.closing) a.after.rest x y a.body same
 
     -- what is rejected is not proved
-    not_both : (r : Rejection) (x : Accepted) → IsGroupRejection i s bytes r → ProvesGroup i s bytes x → ⊥
+    pub not_both : (r : Rejection) (x : Accepted) → IsGroupRejection i s bytes r → ProvesGroup i s bytes x → ⊥
     not_both r x (too_long many is) p = let few = p.0 in omega (arith, many, few)
     not_both r x (not_utf8 few bad is) p =
         let a = p.1 in
