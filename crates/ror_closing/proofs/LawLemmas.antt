@@ -49,7 +49,7 @@ module _ (t : DecisionTable) (r : Revisions) where
   asked_stays asked body (taken passes is) = ap (revisions_with t r (Ask asked)) is.0
 
 -- lines without repairs that don't ask
-plain_lines : (lines : List Line) → AreSuited lines → AllByRecursion (λ (line : Line). NeedsNoSearch line.command) (revision_lines lines)
+pub plain_lines : (lines : List Line) → AreSuited lines → AllByRecursion (λ (line : Line). NeedsNoSearch line.command) (revision_lines lines)
 plain_lines [] suited = tt
 plain_lines (line ∷ lines) suited = by line.command refl (plain_lines lines suited.1)
   where

@@ -1,3 +1,4 @@
 pub mod ClosingLemmas
 pub mod LawLemmas
 pub mod LawfulLists
+pub mod Existence

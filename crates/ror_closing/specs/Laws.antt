@@ -1,4 +1,4 @@
--- Laws of closing lists: there are no two of a session, and they are what any report of it leaves.
+-- Laws of closing lists: suited lines have them, there are no two of a session, and they are what any report of it leaves.
 use Rattle.std.specs.Prelude.{◌≡◌, ℕ, List, []}
 use Rattle.ror_statement.specs.declared.statement.Statement.{Statement}
 use Rattle.ror_session.specs.declared.session.Line.{Line}
@@ -9,6 +9,11 @@ use Rattle.ror_bench.specs.Desks.{with_blocks}
 use Rattle.ror_bench.specs.Replays.{AreBlocksAt}
 use Rattle.ror_bench.specs.Reports.{EachHolds}
 use Rattle.ror_closing.specs.Closing.{AreSuited, IsFirstUnsuited, AreClosingLists, lists_after}
+
+-- where no line is unsuited, there are closing lists
+abbrev pub HaveClosing : Type 0
+HaveClosing = (bench : Workbench) (lines : List Line) → AreSuited lines
+    → (lists : List (List Statement)) × AreClosingLists bench lines lists
 
 -- where no line is unsuited, benches that hold the same have the same closing lists: they go by the table, by what stands at
 -- the desks, and by the lines

@@ -1,10 +1,11 @@
 //! Each function here states laws of closing lists, for all benches and lines, and does nothing.
 
-ghost use Rattle.ror_closing.specs.Laws.{OneClosing, ClosesReports, ClosesReplays, OneFirstUnsuited};
+ghost use Rattle.ror_closing.specs.Laws.{HaveClosing, OneClosing, ClosesReports, ClosesReplays, OneFirstUnsuited};
 
 /// Without unsuited lines there is one closing list of each desk, by the table, the statements that the desks begin with and the
 /// lines; and it is what stands there after all lines in any proved report, and in any that a replay writes.
 pub fn one_closing()
+    ensures some { HaveClosing }
     ensures one { OneClosing }
     ensures reports { ClosesReports }
     ensures replays { ClosesReplays }

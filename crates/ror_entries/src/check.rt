@@ -226,8 +226,9 @@ fn refused_entry(block: u32, fault: EntryFault) -> ReportError
     }
 }
 
-/// The error of an entry or a last line that is not as it is to be, by the number of its line.
-fn misread(bytes: &[u8], block: u32, fault: ProofFault) -> ReportError
+/// The rejection of what is not as it is to be, by the number of its line, in this block of a report of at most
+/// `MOST_REPORT_BYTES`; or that memory ran out.
+pub fn misread(bytes: &[u8], block: u32, fault: ProofFault) -> ReportError
     requires { length bytes.now ≤ MOST_REPORT_BYTES }
     ensures { result ≡ misread_error bytes.now block fault }
 {

@@ -91,7 +91,7 @@ pub fn fetch_session<F: Shelf>(
 ///
 /// # Errors
 ///
-/// The first fault of the bytes is, or the first unsuited line, and what the shelf's fault is.
+/// What is at fault first in the bytes, or else the first unsuited line; and where nothing is fetched, the shelf's fault.
 pub fn fetch_suited<F: Shelf>(
     alloc: Global,
     names: &FileNames<'_>,

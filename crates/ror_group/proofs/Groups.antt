@@ -14,8 +14,8 @@ use Rattle.ror_proof.specs.declared.answer.Verdict.{Verdict}
 use Rattle.ror_proof.specs.declared.answer.Verdict.TheVariants as verdicts
 use Rattle.ror_check.specs.Proof.{IsWideOrTrue}
 use Rattle.ror_group.specs.declared.quartet.Word4.TheVariants as words
-use Rattle.ror_group.specs.Group.{Judges, SomeHas, HoldsFor, IsGroupAnswer, IsWideOrGroupAnswer, AreGroupAnswers}
-use Rattle.ror_group.specs.Group.Judges.{every_judge, some_judge}
+use Rattle.ror_group.specs.Group.{Quantifier, SomeHas, HoldsFor, IsGroupAnswer, IsWideOrGroupAnswer, AreGroupAnswers}
+use Rattle.ror_group.specs.Group.Quantifier.{every_judge, some_judge}
 use Rattle.ror_group.specs.Combining.{asked_on, InStep, every_second, on_necessary, on_possible, says, one_says, for_every, for_some, combined}
 
 -- ---- one answer of a group
@@ -25,16 +25,16 @@ consistent_not_contradictory t [] all none = none
 consistent_not_contradictory t (list ∷ lists) all (inl here) = here all.0.0 all.0.1
 consistent_not_contradictory t (list ∷ lists) all (inr later) = consistent_not_contradictory t lists all.1 later
 
-pub one_group_answer : (t : DecisionTable) (lists : List (List Statement)) (js : Judges) (q : Question) (c d : Conclusion) → IsGroupAnswer t lists js q c → IsGroupAnswer t lists js q d → c ≡ d
-one_group_answer t lists js q conclusions.Yes conclusions.Yes x y = refl
-one_group_answer t lists js q conclusions.Yes conclusions.No x y = absurd (y.1 x.1)
-one_group_answer t lists js q conclusions.Yes conclusions.Contradiction x y = absurd (consistent_not_contradictory t lists x.0 y)
-one_group_answer t lists js q conclusions.No conclusions.Yes x y = absurd (x.1 y.1)
-one_group_answer t lists js q conclusions.No conclusions.No x y = refl
-one_group_answer t lists js q conclusions.No conclusions.Contradiction x y = absurd (consistent_not_contradictory t lists x.0 y)
-one_group_answer t lists js q conclusions.Contradiction conclusions.Yes x y = absurd (consistent_not_contradictory t lists y.0 x)
-one_group_answer t lists js q conclusions.Contradiction conclusions.No x y = absurd (consistent_not_contradictory t lists y.0 x)
-one_group_answer t lists js q conclusions.Contradiction conclusions.Contradiction x y = refl
+pub one_group_answer : (t : DecisionTable) (lists : List (List Statement)) (quantifier : Quantifier) (q : Question) (c d : Conclusion) → IsGroupAnswer t lists quantifier q c → IsGroupAnswer t lists quantifier q d → c ≡ d
+one_group_answer t lists quantifier q conclusions.Yes conclusions.Yes x y = refl
+one_group_answer t lists quantifier q conclusions.Yes conclusions.No x y = absurd (y.1 x.1)
+one_group_answer t lists quantifier q conclusions.Yes conclusions.Contradiction x y = absurd (consistent_not_contradictory t lists x.0 y)
+one_group_answer t lists quantifier q conclusions.No conclusions.Yes x y = absurd (x.1 y.1)
+one_group_answer t lists quantifier q conclusions.No conclusions.No x y = refl
+one_group_answer t lists quantifier q conclusions.No conclusions.Contradiction x y = absurd (consistent_not_contradictory t lists x.0 y)
+one_group_answer t lists quantifier q conclusions.Contradiction conclusions.Yes x y = absurd (consistent_not_contradictory t lists y.0 x)
+one_group_answer t lists quantifier q conclusions.Contradiction conclusions.No x y = absurd (consistent_not_contradictory t lists y.0 x)
+one_group_answer t lists quantifier q conclusions.Contradiction conclusions.Contradiction x y = refl
 
 pub no_judges : (t : DecisionTable) (q : Question) → IsGroupAnswer t [] every_judge q conclusions.Yes × IsGroupAnswer t [] some_judge q conclusions.No
 no_judges t q = ((tt, tt), (tt, λ none. none))

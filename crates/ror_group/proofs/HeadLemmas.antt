@@ -1,17 +1,17 @@
 -- Heads as texts, both ways, and the lines of desks read one after the other.
-use Rattle.std.proofs.Common.{◌≡◌, ℕ, suc, ◌+◌, ◌<◌, ◌≤◌, ◌^◌, Bool, true, false, not, eqb, ltb, ◌||◌, ◌&&◌, List, [], ◌∷◌, ◌++◌, length, drop, get_or, Some, Result, Ok, Err, refl, sym, ap, subst, ◌∙◌, append_assoc, arith, length-append, drop-cons}
+use Rattle.std.proofs.Common.{◌≡◌, ℕ, inl, inr, suc, ◌+◌, ◌<◌, ◌≤◌, ◌^◌, Bool, true, false, not, eqb, ltb, ◌||◌, ◌&&◌, List, [], ◌∷◌, ◌++◌, length, drop, get_or, Result, Ok, Err, refl, sym, ap, subst, ◌∙◌, append_assoc, arith, length-append, drop-cons}
 use Rattle.std.specs.Prelude.{codes, nat_eq, nat_le, IfSome}
 use Rattle.std.specs.List.{flat_map, list_any, starts_with, AllByRecursion}
 use Rattle.std.specs.Str.{bytes_eq, is_utf8}
-use Rattle.std.proofs.lemmas.Bool.{and_from, and_parts, ne_eqb, eqb-true, not-true, not-false, not_from_false, or_from, ltb-false}
+use Rattle.std.proofs.lemmas.Bool.{and_from, and_parts, ne_eqb, eqb-true, not-true, not-false, not_from_false, or_from, ltb-false, cases_Bool, cond-true, cond-false}
 use Rattle.std.proofs.lemmas.Bool.Decides.{Decides-eqb}
 use Rattle.std.proofs.lemmas.List.{drop_all}
 use Rattle.std.proofs.lemmas.Str.{IsUtf8-nil, is_utf8-from_IsUtf8}
 use Rattle.std.proofs.lemmas.Slice.Eq.{starts_is, bytes_eq-Decides}
-use Rattle.ror_text.specs.Cursor.{Cursor, cursor_at, line_words, line_after}
+use Rattle.ror_text.specs.Cursor.{Cursor, cursor_at, line_words}
 use Rattle.ror_text.specs.Lines.{is_control, has_control}
 use Rattle.ror_text.specs.Reading.{◌>>=◌, refuse}
-use Rattle.ror_text.specs.SpacedLines.{is_word, are_words, line_text}
+use Rattle.ror_text.specs.SpacedLines.{is_word, are_words}
 use Rattle.ror_text.proofs.CursorLemmas.{Spans, spans_then, line_again, line_spans}
 use Rattle.ror_text.proofs.ListLemmas.{bytes_same}
 use Rattle.ror_text.proofs.ReadingLemmas.{bind_ok, refuse_ok, gives_exit}
@@ -25,7 +25,7 @@ use Rattle.ror_report.specs.Text.{numbered_text}
 use Rattle.ror_report.proofs.LineForms.{line_reads_back, line_is_read, numbered_again, numbered_sound}
 use Rattle.ror_group.specs.declared.head.HeadFault.{HeadFault}
 use Rattle.ror_group.specs.declared.head.HeadFault.TheVariants as faults
-use Rattle.ror_group.specs.Head.{header_text, desk_words, desk_text, head_text, is_desk_name, head_fault, in_line, name_in, name_words, desk_line, begins_desk, desk_at, desks_at, count_at, head_at, IsHeadText}
+use Rattle.ror_group.specs.Head.{header_text, desk_words, desk_text, head_text, is_desk_name, head_fault, in_line, name_in, name_words, desk_line, begins_desk, desk_at, desks_at, count_at, head_at, no_desk_at, whole_head_at, IsHeadText}
 
 -- ---- the loop
 
@@ -95,7 +95,7 @@ name_in_sound place ((b ∷ bs) ∷ more) name e =
     let none : more ≡ [] = no_more_sound place more f.0 f.1 in
     subst (λ (n : List ℕ). (codes "desk" ∷ word ∷ more ≡ desk_words n) × (is_desk_name n ≡ true)) (ok_is word name f.2) (ap (λ (ws : List (List ℕ)). codes "desk" ∷ word ∷ ws) none, is)
 
-name_words_sound : (place : ℕ) (ws : List (List ℕ)) (name : List ℕ) → name_words place ws ≡ Ok name → (ws ≡ desk_words name) × (is_desk_name name ≡ true)
+pub name_words_sound : (place : ℕ) (ws : List (List ℕ)) (name : List ℕ) → name_words place ws ≡ Ok name → (ws ≡ desk_words name) × (is_desk_name name ≡ true)
 unfolding name_words
 name_words_sound place ws name e =
     let a = bind_ok (after_word place (codes "desk") ws) (λ more. name_in place more) name e in
@@ -104,16 +104,16 @@ name_words_sound place ws name e =
 
 -- ---- the line of a desk
 
-in_line_ok : {A : Type 0} (r : Result A ProofFault) (x : A) → in_line r ≡ Ok x → r ≡ Ok x
+pub in_line_ok : {A : Type 0} (r : Result A ProofFault) (x : A) → in_line r ≡ Ok x → r ≡ Ok x
 in_line_ok (Ok y) x e = let same : y ≡ x = cc in ap (λ z. done z) same
 in_line_ok (Err f) x e = absurd cc
 
 -- what the line of a desk is read as
-record IsReadDesk (place : ℕ) (name rest : List ℕ) : Type 0 where
-  begins : begins_desk (line_words (record { place = place; rest = desk_text name ++ rest })) ≡ true
-  reads : desk_line (record { place = place; rest = desk_text name ++ rest }) ≡ Ok (name, record { place = place + length (desk_text name); rest = rest })
+pub record IsReadDesk (place : ℕ) (name rest : List ℕ) : Type 0 where
+  pub begins : begins_desk (line_words (record { place = place; rest = desk_text name ++ rest })) ≡ true
+  pub reads : desk_line (record { place = place; rest = desk_text name ++ rest }) ≡ Ok (name, record { place = place + length (desk_text name); rest = rest })
 
-desk_is_read : (place : ℕ) (name rest : List ℕ) → is_desk_name name ≡ true → IsReadDesk place name rest
+pub desk_is_read : (place : ℕ) (name rest : List ℕ) → is_desk_name name ≡ true → IsReadDesk place name rest
 desk_is_read place [] rest is = record {
   begins = ap begins_desk (line_again place (codes "desk") [] rest refl).0;
   reads = line_reads_back name_words [] place (codes "desk") [] rest refl (name_words_again place [] is);
@@ -129,14 +129,14 @@ desk_again : (place : ℕ) (name rest : List ℕ) → is_desk_name name ≡ true
 unfolding desk_at
 desk_again place name rest is = let read = desk_is_read place name rest is in rw (read.begins, read.reads, bytes_same name) refl
 
-record IsDeskLine (name : List ℕ) (c after : Cursor) : Type 0 where
-  spans : Spans c (desk_text name) after
-  named : is_desk_name name ≡ true
+pub record SpansDesk (name : List ℕ) (c after : Cursor) : Type 0 where
+  pub spans : Spans c (desk_text name) after
+  pub named : is_desk_name name ≡ true
 
-abbrev matched : List ℕ → List ℕ × Cursor → Result Cursor HeadFault
+abbrev pub matched : List ℕ → List ℕ × Cursor → Result Cursor HeadFault
 matched name said = refuse faults.WrongBlock (not (bytes_eq said.0 name)) >>= λ _. Ok said.1
 
-desk_sound : (name : List ℕ) (c after : Cursor) → desk_at name c ≡ Ok after → IsDeskLine name c after
+pub desk_sound : (name : List ℕ) (c after : Cursor) → desk_at name c ≡ Ok after → SpansDesk name c after
 unfolding desk_at
 desk_sound name c after e =
     let a = bind_ok (refuse faults.WrongBlock (not (begins_desk (line_words c)))) (λ _. in_line (desk_line c) >>= λ said. matched name said) after e in
@@ -146,7 +146,7 @@ desk_sound name c after e =
     let said = name_words_sound c.place (line_words c) b.0.0 line.0 in
     let same : b.0.0 ≡ name = (bytes_eq-Decides b.0.0 name).0 (not-false _ (refuse_ok _ _ d.0 d.1)) in
     let end : b.0.1 ≡ after = let f = d.2 in cc in
-    subst (λ (n : List ℕ). IsDeskLine n c after) same (subst (IsDeskLine b.0.0 c) end (record { spans = line_spans c b.0.1 (desk_words b.0.0) said.0 line.1; named = said.1 }))
+    subst (λ (n : List ℕ). SpansDesk n c after) same (subst (SpansDesk b.0.0 c) end (record { spans = line_spans c b.0.1 (desk_words b.0.0) said.0 line.1; named = said.1 }))
 
 -- ---- the lines of all desks
 
@@ -176,17 +176,17 @@ desks_sound (name ∷ names) c after e =
 
 -- ---- the line of their number
 
-same_number : (n : ℕ) → eqb n n ≡ true
+pub same_number : (n : ℕ) → eqb n n ≡ true
 same_number n = (Decides-eqb n n).1 refl
 
 count_again : (n place : ℕ) (rest : List ℕ) → n < 2 ^ 32 → count_at n (record { place = place; rest = numbered_text (codes "desks") n ++ rest }) ≡ Ok (record { place = place + length (numbered_text (codes "desks") n); rest = rest })
 unfolding count_at
 count_again n place rest small = rw (numbered_again (codes "desks") place n rest refl small, same_number n) refl
 
-abbrev counted : ℕ → ℕ × Cursor → Result Cursor HeadFault
+abbrev pub counted : ℕ → ℕ × Cursor → Result Cursor HeadFault
 counted n said = refuse faults.WrongBlock (not (eqb said.0 n)) >>= λ _. Ok said.1
 
-count_sound : (n : ℕ) (c after : Cursor) → count_at n c ≡ Ok after → Spans c (numbered_text (codes "desks") n) after × (n < 2 ^ 32)
+pub count_sound : (n : ℕ) (c after : Cursor) → count_at n c ≡ Ok after → Spans c (numbered_text (codes "desks") n) after × (n < 2 ^ 32)
 unfolding count_at
 count_sound n c after e =
     let a = bind_ok (in_line (numbered_line (codes "desks") c)) (λ said. counted n said) after e in
@@ -198,11 +198,11 @@ count_sound n c after e =
 
 -- ---- whole heads
 
-dropped : (front more : List ℕ) → drop (length front) (front ++ more) ≡ more
+pub dropped : (front more : List ℕ) → drop (length front) (front ++ more) ≡ more
 dropped [] more = refl
 dropped (b ∷ bs) more = dropped bs more
 
-begun : (front more : List ℕ) → starts_with nat_eq (front ++ more) front ≡ true
+pub begun : (front more : List ℕ) → starts_with nat_eq (front ++ more) front ≡ true
 begun front more = (starts_is Decides-eqb (front ++ more) front (starts_with nat_eq (front ++ more) front) refl).1 more refl
 
 head_step : (names : List (List ℕ)) (bytes : List ℕ) (desks after : Cursor) → starts_with nat_eq bytes header_text ≡ true → count_at (length names) (cursor_at bytes (length header_text)) ≡ Ok desks → desks_at names desks ≡ Ok after → head_at names bytes ≡ Ok after
@@ -238,3 +238,32 @@ head_is_text names bytes after e =
     let lines_of = spans_then (cursor_at bytes (length header_text)) b.0 after (numbered_text (codes "desks") (length names)) (flat_map desk_text names) count.0 desks.spans in
     let spans = spans_then start (cursor_at bytes (length header_text)) after header_text (numbered_text (codes "desks") (length names) ++ flat_map desk_text names) first lines_of in
     record { text = spans.rest; place = omega (arith, spans.place); few = count.1; allowed = desks.named }
+
+-- ---- heads as a whole
+
+none_there : (c : Cursor) → begins_desk (line_words c) ≡ false → no_desk_at c ≡ Ok c
+unfolding no_desk_at
+none_there c none = rw none refl
+
+-- a head is read as a whole where its text stands and no desk's line behind it
+pub whole_again : (names : List (List ℕ)) (bytes : List ℕ) (after : Cursor) → IsHeadText names bytes after → begins_desk (line_words after) ≡ false → whole_head_at names bytes ≡ Ok after
+unfolding whole_head_at
+whole_again names bytes after text none = rw (head_again names bytes after text, none_there after none) refl
+
+extra_refused : (c after : Cursor) → (in_line (desk_line c) >>= λ _. Err faults.WrongBlock) ≡ Ok after → ⊥
+extra_refused c after e = let a = bind_ok (in_line (desk_line c)) (λ _. Err faults.WrongBlock) after e in let no = a.2 in cc
+
+there : (c after : Cursor) → no_desk_at c ≡ Ok after → (c ≡ after) × (begins_desk (line_words c) ≡ false)
+unfolding no_desk_at
+there c after e = elim (cases_Bool (begins_desk (line_words c))) [
+  | inl is ↦ absurd (extra_refused c after (sym (cond-true _ _ _ is) ∙ e))
+  | inr is ↦ let same = sym (cond-false _ _ _ is) ∙ e in (cc, is)
+]
+
+-- and where it is read, so it is
+pub whole_is_text : (names : List (List ℕ)) (bytes : List ℕ) (after : Cursor) → whole_head_at names bytes ≡ Ok after → IsHeadText names bytes after × (begins_desk (line_words after) ≡ false)
+unfolding whole_head_at
+whole_is_text names bytes after e =
+    let a = bind_ok (head_at names bytes) (λ c. no_desk_at c) after e in
+    let last = there a.0 after a.2 in
+    subst (λ (c : Cursor). IsHeadText names bytes c × (begins_desk (line_words c) ≡ false)) last.0 (head_is_text names bytes a.0 a.1, last.1)

@@ -1,4 +1,5 @@
 pub mod Groups
+pub mod WideWords
 pub mod Pairs
 pub mod AnswerLoops
 pub mod EntryLines
@@ -6,3 +7,4 @@ pub mod EntryLemmas
 pub mod EntryUtf8
 pub mod EntryErrors
 pub mod HeadLemmas
+pub mod HeadErrors

@@ -14,9 +14,9 @@ use Rattle.ror_group.specs.declared.quartet.Word4.TheVariants as words
 use Rattle.ror_group.specs.declared.quartet.Quartet.{Quartet}
 
 -- of how many of the judges something is said
-pub data Judges : Type 0 where
-  every_judge : Judges
-  some_judge : Judges
+pub data Quantifier : Type 0 where
+  every_judge : Quantifier
+  some_judge : Quantifier
 
 -- the list of some judge has this
 abbrev pub SomeHas : (List Statement → Type 0) → List (List Statement) → Type 0
@@ -24,7 +24,7 @@ SomeHas P [] = ⊥
 SomeHas P (list ∷ lists) = P list ⊎ SomeHas P lists
 
 -- the list of every judge has this, or that of some judge
-abbrev pub Have : Judges → (List Statement → Type 0) → List (List Statement) → Type 0
+abbrev pub Have : Quantifier → (List Statement → Type 0) → List (List Statement) → Type 0
 Have every_judge P lists = AllByRecursion P lists
 Have some_judge P lists = SomeHas P lists
 
@@ -34,22 +34,22 @@ HoldsFor t q list = HoldsOfCompatible t list (kind_of q) (property_of q)
 
 -- The conclusion of the group on the question. Where some judge contradicts himself it is a contradiction; otherwise it is
 -- yes exactly where the question's answer is yes for every judge, or for some judge.
-abbrev pub IsGroupAnswer : DecisionTable → List (List Statement) → Judges → Question → Conclusion
+abbrev pub IsGroupAnswer : DecisionTable → List (List Statement) → Quantifier → Question → Conclusion
     → Type 0
-IsGroupAnswer t lists js q conclusions.Yes =
-    AllByRecursion (IsConsistent t) lists × Have js (HoldsFor t q) lists
-IsGroupAnswer t lists js q conclusions.No =
-    AllByRecursion (IsConsistent t) lists × (Have js (HoldsFor t q) lists → ⊥)
-IsGroupAnswer t lists js q conclusions.Contradiction = SomeHas (IsContradictory t) lists
+IsGroupAnswer t lists quantifier q conclusions.Yes =
+    AllByRecursion (IsConsistent t) lists × Have quantifier (HoldsFor t q) lists
+IsGroupAnswer t lists quantifier q conclusions.No =
+    AllByRecursion (IsConsistent t) lists × (Have quantifier (HoldsFor t q) lists → ⊥)
+IsGroupAnswer t lists quantifier q conclusions.Contradiction = SomeHas (IsContradictory t) lists
 
 -- the word concludes nothing, or is the conclusion of the group
-abbrev pub IsWideOrGroupAnswer : DecisionTable → List (List Statement) → Judges → Question → Word4
+abbrev pub IsWideOrGroupAnswer : DecisionTable → List (List Statement) → Quantifier → Question → Word4
     → Type 0
-IsWideOrGroupAnswer t lists js q words.Yes = IsGroupAnswer t lists js q conclusions.Yes
-IsWideOrGroupAnswer t lists js q words.No = IsGroupAnswer t lists js q conclusions.No
-IsWideOrGroupAnswer t lists js q words.Contradiction =
-    IsGroupAnswer t lists js q conclusions.Contradiction
-IsWideOrGroupAnswer t lists js q words.Wide = Unit {0}
+IsWideOrGroupAnswer t lists quantifier q words.Yes = IsGroupAnswer t lists quantifier q conclusions.Yes
+IsWideOrGroupAnswer t lists quantifier q words.No = IsGroupAnswer t lists quantifier q conclusions.No
+IsWideOrGroupAnswer t lists quantifier q words.Contradiction =
+    IsGroupAnswer t lists quantifier q conclusions.Contradiction
+IsWideOrGroupAnswer t lists quantifier q words.Wide = Unit {0}
 
 -- the words that are not wide are the four answers of the group on the pair
 pub record AreGroupAnswers (t : DecisionTable) (lists : List (List Statement)) (a b : ℕ)

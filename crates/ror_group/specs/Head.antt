@@ -1,5 +1,5 @@
 -- The head of a group's report: its one text, and reading it against the desks whose report it is to be.
-use Rattle.std.specs.Prelude.{◌≡◌, ℕ, ◌+◌, ◌<◌, ◌^◌, Bool, not, ◌&&◌, true, false, List, [], ◌∷◌, ◌++◌, length, drop, codes, nat_eq, nat_le, ◌==◌, if◌then◌else◌, Option, Some, None, Result, Ok, Err}
+use Rattle.std.specs.Prelude.{◌≡◌, ℕ, ◌<◌, ◌^◌, Bool, not, ◌&&◌, true, false, List, [], ◌∷◌, ◌++◌, length, codes, nat_eq, nat_le, ◌==◌, if◌then◌else◌, Option, Some, None, Result, Ok, Err}
 use Rattle.std.specs.List.{flat_map, starts_with, AllByRecursion}
 use Rattle.std.specs.Str.{bytes_eq, is_utf8}
 use Rattle.ror_text.specs.Cursor.{Cursor, cursor_at, line_words}

@@ -8,4 +8,5 @@ pub mod Known
 pub mod EntryFaults
 pub mod EntryLaws
 pub mod Head
+pub mod HeadFaults
 pub mod Laws

@@ -2,6 +2,7 @@
 
 ghost use Rattle.ror_group.specs.EntryLaws.{EntriesAreTheirTexts, EntriesHaveOneText, EntriesBeginWithPair, EntriesAreUtf8, EntriesFailFirst};
 ghost use Rattle.ror_group.specs.Head.{HeadsAreTheirTexts};
+ghost use Rattle.ror_group.specs.HeadFaults.{HeadsFailFirst, WholeHeadsAreTheirTexts, WholeHeadsFailFirst};
 
 /// An entry is read exactly where its text stands, whatever follows: what was written is read again, and what is read was so
 /// written.
@@ -28,4 +29,16 @@ pub fn the_first_fault_is_given()
 /// A head is read exactly where its text stands, of desks that a session may have.
 pub fn heads_read_back()
     ensures { HeadsAreTheirTexts }
+{}
+
+/// A head is read as a whole exactly where its text stands and no further desk's line behind it.
+pub fn whole_heads_read_back()
+    ensures { WholeHeadsAreTheirTexts }
+{}
+
+/// Bytes are refused as a head exactly with the fault of the first line that is not as it is to be, and as a whole head so too, or
+/// with that of a further desk's line.
+pub fn the_first_fault_of_a_head_is_given()
+    ensures head { HeadsFailFirst }
+    ensures whole { WholeHeadsFailFirst }
 {}

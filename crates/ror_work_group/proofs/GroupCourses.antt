@@ -32,7 +32,8 @@ use Rattle.ror_group.specs.Head.{IsHeadText}
 use Rattle.ror_work_group.specs.Entries.{group_kind}
 use Rattle.ror_work_group.specs.Group.{ProvesGroup, IsGroupRejection, too_long, not_utf8, in_head, in_entries, head_reason, RefusesGroup, group_output, group_chore, proved_output, check_group_chore}
 use Rattle.ror_work_group.proofs.KindLemmas.{are_kind, one_reason}
-use Rattle.ror_work_group.proofs.HeadLemmas.{whole_again, whole_is_text, proved_no_desk, proved_utf8, behind_head, one_head}
+use Rattle.ror_group.proofs.HeadLemmas.{whole_again, whole_is_text}
+use Rattle.ror_work_group.proofs.HeadLemmas.{proved_no_desk, proved_utf8, behind_head, one_head}
 
 module _ (i : Input) (s : Session) (table : IsTable i.table) (lawful : IsLawfulIn i.table i.opening) where
   pub kind_of_lists : (lists : List (List Statement)) → AreClosingLists (bench_for i s) s.lines lists → IsKind (group_kind i.table lists)
@@ -57,7 +58,7 @@ module _ (i : Input) (s : Session) (table : IsTable i.table) (lawful : IsLawfulI
         one_count (group_kind i.table a.lists) (kind_of_lists a.lists a.closing) a.after.rest x y a.body same
 
     -- what is rejected is not proved
-    not_both : (r : Rejection) (x : Accepted) → IsGroupRejection i s bytes r → ProvesGroup i s bytes x → ⊥
+    pub not_both : (r : Rejection) (x : Accepted) → IsGroupRejection i s bytes r → ProvesGroup i s bytes x → ⊥
     not_both r x (too_long many is) p = let few = p.0 in omega (arith, many, few)
     not_both r x (not_utf8 few bad is) p =
         let a = p.1 in
@@ -69,7 +70,7 @@ module _ (i : Input) (s : Session) (table : IsTable i.table) (lawful : IsLawfulI
         cc
     not_both r x (in_entries few utf8 after read lists closing rejects) p =
         let a = p.1 in
-        let head = whole_is_text s.desks bytes after read in
+        let head = (whole_is_text s.desks bytes after read).0 in
         let same = behind (λ lists body. IsProvedEntries (group_kind i.table lists) body x) after a.after lists a.lists head a.head closing a.closing a.body in
         rejected_not_proved (group_kind i.table lists) (kind_of_lists lists closing) bytes after.place r x rejects (subst (λ (l : List ℕ). IsProvedEntries (group_kind i.table lists) l x) (sym (behind_head s.desks bytes after head)) same)
 

@@ -1,8 +1,8 @@
 -- The head of a group's report ends where its entries, or its last line, begin.
-use Rattle.std.proofs.Common.{◌+◌, ◌<◌, ◌&&◌, true, append_assoc, drop, arith, ◌≡◌, ℕ, false, not, eqb, inl, inr, List, [], ◌∷◌, ◌++◌, length, Ok, Err, refl, sym, ap, ◌∙◌, subst}
+use Rattle.std.proofs.Common.{◌+◌, ◌<◌, ◌&&◌, true, append_assoc, drop, arith, ◌≡◌, ℕ, false, not, eqb, List, [], ◌∷◌, ◌++◌, length, Ok, refl, sym, ap, ◌∙◌, subst}
 use Rattle.std.specs.Prelude.{codes, decimal, nat_le, ◌^◌}
 use Rattle.std.specs.Str.{IsUtf8, is_utf8}
-use Rattle.std.proofs.lemmas.Bool.{cases_Bool, cond-true, cond-false, and_parts}
+use Rattle.std.proofs.lemmas.Bool.{and_parts}
 use Rattle.std.proofs.lemmas.Str.{IsUtf8-nil, IsUtf8-append, IsUtf8-from_is_utf8}
 use Rattle.std.specs.List.{AllByRecursion, flat_map}
 use Rattle.ror_text.specs.Cursor.{Cursor, line_words}
@@ -30,10 +30,8 @@ use Rattle.ror_proof.proofs.WordLemmas.{after_word_sound, done}
 use Rattle.ror_report.specs.Reading.{end_at, numbered_line, number_words}
 use Rattle.ror_report.proofs.LineForms.{line_is_read}
 use Rattle.ror_group.specs.declared.entry.Entry.{Entry}
-use Rattle.ror_group.specs.declared.head.HeadFault.TheVariants as heads
-use Rattle.ror_group.specs.Head.{head_text, header_text, desk_text, is_desk_name, begins_desk, in_line, desk_line, no_desk_at, head_at, whole_head_at, IsHeadText}
+use Rattle.ror_group.specs.Head.{head_text, header_text, desk_text, is_desk_name, begins_desk, IsHeadText}
 use Rattle.ror_group.specs.Reading.{entry_at, entry_answers, pair_line, pair_words, quartet_line}
-use Rattle.ror_group.proofs.HeadLemmas.{head_again, head_is_text}
 
 -- a line with another first word is no desk's
 of_word : (words more : List (List ℕ)) (word : List ℕ) → words ≡ word ∷ more → begins_desk (word ∷ more) ≡ false → begins_desk words ≡ false
@@ -65,34 +63,6 @@ unfolding end_at
 end_no_desk c n e =
     let a = bind_ok (numbered_line (codes "end") c) (λ end. refuse (BadLine end.1.place) (not (eqb (length end.1.rest) 0)) >>= λ _. done end.0) n e in
     end_words_no_desk c.place (line_words c) a.0.0 (line_is_read c (number_words (codes "end") c.place (line_words c)) a.0 a.1).0
-
--- ---- the whole head
-
-none_there : (c : Cursor) → begins_desk (line_words c) ≡ false → no_desk_at c ≡ Ok c
-unfolding no_desk_at
-none_there c none = rw none refl
-
--- is read where its text stands and no desk's line behind it
-pub whole_again : (names : List (List ℕ)) (bytes : List ℕ) (after : Cursor) → IsHeadText names bytes after → begins_desk (line_words after) ≡ false → whole_head_at names bytes ≡ Ok after
-unfolding whole_head_at
-whole_again names bytes after text none = rw (head_again names bytes after text) (none_there after none)
-
-some_there : (c after : Cursor) → no_desk_at c ≡ Ok after → c ≡ after
-unfolding no_desk_at
-some_there c after e = elim (cases_Bool (begins_desk (line_words c))) [
-  | inl is ↦ absurd (let there = sym (cond-true _ _ _ is) ∙ e in refused c after there)
-  | inr is ↦ let there = sym (cond-false _ _ _ is) ∙ e in cc
-]
-  where
-    refused : (c after : Cursor) → (in_line (desk_line c) >>= λ _. Err heads.WrongBlock) ≡ Ok after → ⊥
-    refused c after e = let a = bind_ok (in_line (desk_line c)) (λ _. Err heads.WrongBlock) after e in let no = a.2 in cc
-
--- and where it is read its text stands
-pub whole_is_text : (names : List (List ℕ)) (bytes : List ℕ) (after : Cursor) → whole_head_at names bytes ≡ Ok after → IsHeadText names bytes after
-unfolding whole_head_at
-whole_is_text names bytes after e =
-    let a = bind_ok (head_at names bytes) (λ c. no_desk_at c) after e in
-    subst (IsHeadText names bytes) (some_there a.0 after a.2) (head_is_text names bytes a.0 a.1)
 
 -- ---- what stands behind the head of a proved report
 

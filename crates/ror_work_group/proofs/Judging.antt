@@ -39,7 +39,7 @@ use Rattle.ror_frame.specs.Inputs.{bench_for}
 use Rattle.ror_work_group.specs.Entries.{group_kind, IsOnPairAt, IsProvedEntry, RefusesEntry, at_fault}
 use Rattle.ror_work_group.specs.Steps.{RefusesPair}
 use Rattle.ror_work_group.specs.Group.{ProvesGroup, IsAcceptedGroup, too_long, not_utf8, in_head, in_entries, RefusesGroup, head_reason}
-use Rattle.ror_work_group.proofs.HeadLemmas.{whole_is_text}
+use Rattle.ror_group.proofs.HeadLemmas.{whole_is_text}
 use Rattle.ror_work_group.proofs.GroupCourses.{kind_of_lists}
 use Rattle.ror_work_group.proofs.Writing.{each_by}
 
@@ -73,7 +73,7 @@ module _ (i : Input) (s : Session) (bytes : List ℕ) (few : length bytes ≤ MO
     entries_refused report_errors.Memory why pure = tt
 
     pub entries_proved : (x : Accepted) → IsProvedEntries (group_kind i.table lists) after.rest x → ProvesGroup i s bytes x
-    entries_proved x proved = (few, record { after = after; head = whole_is_text s.desks bytes after read; lists = lists; closing = closing; body = proved })
+    entries_proved x proved = (few, record { after = after; head = (whole_is_text s.desks bytes after read).0; lists = lists; closing = closing; body = proved })
 
 -- what is proved over a lawful input is true
 pub accepted_too : (i : Input) (s : Session) (bytes : List ℕ) (x : Accepted) → IsTable i.table → IsLawfulIn i.table i.opening → ProvesGroup i s bytes x → IsAcceptedGroup i s bytes x

@@ -5,3 +5,4 @@ pub mod Writing
 pub mod Making
 pub mod Printing
 pub mod Judging
+pub mod GroupLaws

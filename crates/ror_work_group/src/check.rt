@@ -1,7 +1,6 @@
 //! The check of a group's report: the three files are fetched in order, and the report is accepted or rejected.
 
-ghost use Rattle.std.specs.Prelude.{◌≡◌, ◌≤◌, min, None, length, IfOk, IfSome};
-ghost use Rattle.ror_text.specs.Lines.{line_of};
+ghost use Rattle.std.specs.Prelude.{◌≡◌, ◌≤◌, None, length, IfOk, IfSome};
 ghost use Rattle.ror_group.specs.Head.{head_fault};
 ghost use Rattle.ror_frame.specs.Inputs.{bench_for};
 ghost use Rattle.ror_session.specs.Sound.{IsSound};
@@ -15,13 +14,12 @@ ghost use Rattle.ror_work_group.specs.Group.{ProvesGroup, RefusesGroup, check_gr
 use crate::judge::GroupJudge;
 use crate::write::suited_lists;
 use ror_bench::{Accepted, Bench, MOST_REPORT_BYTES, Reason, Rejection};
-use ror_entries::check_entries;
+use ror_entries::{check_entries, misread};
 use ror_frame::{Refusal, Stop, conclude, fetch_suited, fetch_table, fetch_whole};
 use ror_group::head::{HeadFault, check_whole_head};
 use ror_io::{Shelf, Sink};
-use ror_proof::ProofFault;
 use ror_session::Session;
-use ror_text::lines::{is_utf8, line_number};
+use ror_text::lines::is_utf8;
 use ror_words::FileNames;
 use ror_xmcda::Input;
 use std::alloc::{AllocError, Global};
@@ -94,7 +92,7 @@ fn answers_in(
     }
     let start = match check_whole_head(bytes, session.desks.as_slice()) {
         Ok(start) => start,
-        Err(fault) => return Err(misread(bytes, fault)),
+        Err(fault) => return Err(stop_at_head(bytes, fault)),
     };
     let mut judge = judge_of(alloc, input, session, bytes)?;
     Ok(check_entries(alloc, &mut judge, start)?)
@@ -128,27 +126,13 @@ fn rejected(reason: Reason) -> Stop
 }
 
 /// The stop at a head with this fault.
-fn misread(bytes: &[u8], fault: HeadFault) -> Stop
+fn stop_at_head(bytes: &[u8], fault: HeadFault) -> Stop
     requires { length bytes.now ≤ MOST_REPORT_BYTES }
     ensures fault { IfSome (head_fault fault) (λ f. result ≡ Stop.At (Refusal.Rejected (record { block = 0; reason = head_reason bytes.now f }))) }
     ensures memory { head_fault fault ≡ None → result ≡ Stop.Memory }
 {
     match fault {
-        HeadFault::Line(ProofFault::BadLine(place)) => rejected(Reason::BadLine(line_at(
-            bytes, place,
-        ))),
-        HeadFault::Line(ProofFault::BadNumber(place)) => rejected(Reason::BadNumber(line_at(
-            bytes, place,
-        ))),
-        HeadFault::Line(ProofFault::Memory) => Stop::Memory,
+        HeadFault::Line(fault) => Stop::from(misread(bytes, 0, fault)),
         HeadFault::WrongBlock => rejected(Reason::WrongBlock),
     }
-}
-
-/// The number of the line of the byte at a place, or of the bytes' end.
-fn line_at(bytes: &[u8], place: usize) -> u32
-    requires { length bytes.now ≤ MOST_REPORT_BYTES }
-    ensures { result ≡ line_of bytes.now (min place (length bytes.now)) }
-{
-    line_number(bytes, place.min(bytes.len()))
 }

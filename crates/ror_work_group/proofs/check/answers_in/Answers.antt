@@ -27,7 +27,7 @@ returns-in-Err c =
     let bytes = c.args.bytes.now in
     let utf8 = IsUtf8-from_is_utf8 bytes (sym c.is_utf8.ensures ∙ c.if-not-is_utf8.false) in
     let read = subst (λ (names : List (List ℕ)). IfSome (head_fault c.in-Err.fault) (λ f. whole_head_at names bytes ≡ Err f)) c.as_slice.ensures c.in-Err.ensures.exact in
-    refused_head c.args.input s bytes c.requires.within c.in-Err.fault c.misread.result utf8 read c.misread.ensures.fault c.misread.ensures.memory
+    refused_head c.args.input s bytes c.requires.within c.in-Err.fault c.stop_at_head.result utf8 read c.stop_at_head.ensures.fault c.stop_at_head.ensures.memory
 
 pub returns-in_err-check_entries : goal.returns-in_err-check_entries
 returns-in_err-check_entries c =

@@ -1,0 +1,69 @@
+-- What is written of a group is proved, and where nothing of it is too wide no word is wide.
+use Rattle.std.proofs.Common.{◌≡◌, ℕ, ◌+◌, true, false, List, [], ◌∷◌, refl, sym, ap, ◌∙◌, subst, arith, zero-add}
+use Rattle.std.specs.Prelude.{cond, count_by}
+use Rattle.std.proofs.lemmas.List.Sums.{sum_by-append}
+use Rattle.std.specs.Bool.{beq}
+use Rattle.std.specs.List.{AllByRecursion, sum_by}
+use Rattle.ror_statement.specs.declared.statement.Statement.{Statement}
+use Rattle.ror_table.specs.Table.{DecisionTable}
+use Rattle.ror_proof.specs.declared.answer.Answer.{Answer}
+use Rattle.ror_proof.specs.declared.answer.Verdict.{Verdict}
+use Rattle.ror_proof.specs.declared.answer.Verdict.TheVariants as verdicts
+use Rattle.ror_check.specs.Proof.{is_wide}
+use Rattle.ror_bench.specs.Blocks.{answers_passed}
+use Rattle.ror_bench.specs.declared.report.Accepted.{Accepted}
+use Rattle.ror_group.specs.declared.entry.Entry.{Entry}
+use Rattle.ror_group.specs.declared.quartet.Word4.TheVariants as words
+use Rattle.ror_group.specs.Combining.{one_says}
+use Rattle.ror_group.specs.Laws.{HasNoWideWord}
+use Rattle.ror_group.proofs.WideWords.{no_wide_words}
+use Rattle.ror_entries.specs.Reports.{EachAt, IsProvedEntries, entries_text}
+use Rattle.ror_work_group.specs.Entries.{group_kind, IsProvedEntry}
+use Rattle.ror_work_group.specs.Laws.{WrittenAreProved, WrittenAreNotRejected, DoneSaysNothingWide, AcceptedSaysNothingWide}
+use Rattle.ror_work_group.proofs.GroupCourses.{not_both}
+
+-- ---- what is written is proved
+
+pub written_proved : WrittenAreProved
+written_proved most i s bytes accepted few report = (few, record { after = report.after; head = report.head; lists = report.lists; closing = report.closing; body = report.body.2.proved })
+
+pub written_not_rejected : WrittenAreNotRejected
+written_not_rejected most i s bytes accepted rejection table lawful suited few report rejects = not_both i s table lawful suited bytes rejection accepted rejects (written_proved most i s bytes accepted few report)
+
+-- ---- and says nothing wide where no answer is
+
+sums : {A : Type 0} (f : A → ℕ) (x : A) (xs : List A) → sum_by f (x ∷ xs) ≡ f x + sum_by f xs
+sums f x xs = sum_by-append f (x ∷ []) xs ∙ ap (λ n. n + sum_by f xs) (zero-add (f x))
+
+both_none : {A : Type 0} (f : A → ℕ) (x : A) (xs : List A) → sum_by f (x ∷ xs) ≡ 0 → (f x ≡ 0) × (sum_by f xs ≡ 0)
+both_none f x xs none = let split = sums f x xs in (omega (arith, split, none), omega (arith, split, none))
+
+abbrev one_wide : Answer → ℕ
+one_wide x = cond (beq (is_wide x.verdict) true) 1 0
+
+none_wide : (xs : List Answer) → count_by (λ x. beq (is_wide x.verdict) true) xs ≡ 0 → one_says words.Wide xs ≡ false
+none_wide [] none = refl
+none_wide (x ∷ xs) none = let parts = both_none one_wide x xs none in by x.verdict refl parts.0 (none_wide xs parts.1)
+  where
+    by : (v : Verdict) → x.verdict ≡ v → one_wide x ≡ 0 → one_says words.Wide xs ≡ false → one_says words.Wide (x ∷ xs) ≡ false
+    by (verdicts.Yes proof) is here others = rw is others
+    by (verdicts.No proof) is here others = rw is others
+    by (verdicts.Contradiction proof) is here others = rw is others
+    by (verdicts.Wide system note) is here others = let one = rw is at here in absurd (omega (arith, one))
+
+words_of : (t : DecisionTable) (lists : List (List Statement)) (place : ℕ) (xs : List Entry) → EachAt (IsProvedEntry t lists) place xs → sum_by (λ x. (answers_passed x.answers).wide) xs ≡ 0 → AllByRecursion (λ x. HasNoWideWord x.quartet) xs
+words_of t lists place [] each none = tt
+words_of t lists place (x ∷ xs) each none =
+    let parts = both_none (λ (y : Entry). (answers_passed y.answers).wide) x xs none in
+    (subst HasNoWideWord (sym each.0.proved.words) (no_wide_words x.answers (none_wide x.answers parts.0)), words_of t lists (place + 1) xs each.1 parts.1)
+
+entries_say : (t : DecisionTable) (lists : List (List Statement)) (body : List ℕ) (accepted : Accepted) → IsProvedEntries (group_kind t lists) body accepted → accepted.wide ≡ 0 → (entries : List Entry) × (body ≡ entries_text (group_kind t lists) entries) × AllByRecursion (λ x. HasNoWideWord x.quartet) entries
+entries_say t lists body accepted proved none = (proved.entries, proved.text, words_of t lists 0 proved.entries proved.proved (sym (ap (λ (a : Accepted). a.wide) proved.counted) ∙ none))
+
+pub done_nothing_wide : DoneSaysNothingWide
+done_nothing_wide most i s bytes accepted report none = record { after = report.after; head = report.head; lists = report.lists; closing = report.closing; body = entries_say i.table report.lists report.after.rest accepted report.body.2.proved none }
+
+pub accepted_nothing_wide : AcceptedSaysNothingWide
+accepted_nothing_wide i s bytes accepted proved none =
+    let report = proved.1 in
+    record { after = report.after; head = report.head; lists = report.lists; closing = report.closing; body = entries_say i.table report.lists report.after.rest accepted report.body none }
