@@ -1,45 +1,30 @@
 -- What is found of a list's system says of the list.
-use Rattle.std.proofs.Common.{◌≡◌, ◌≢◌, ℕ, List, [], length, ℤ, ap, subst, ◌∙◌}
-use Rattle.ror_integers.specs.Vectors.{ones}
+use Rattle.std.proofs.Common.{◌≡◌, ◌≢◌, ℕ, List, [], ℤ, subst}
 use Rattle.ror_statement.specs.declared.statement.Statement.{Statement}
 use Rattle.ror_table.specs.Table.{DecisionTable, columns}
 use Rattle.ror_table.specs.Blocks.{tops}
-use Rattle.ror_system.specs.System.{LinearSystem, IsWellFormed, IsSolvable}
-use Rattle.ror_system.specs.Acceptance.{AreAcceptedMultipliers}
-use Rattle.ror_system.specs.declared.accept.Multipliers.{Multipliers}
-use Rattle.ror_system.proofs.Motzkin.{not_both}
+use Rattle.ror_system.specs.System.{LinearSystem, IsSolvable}
 use Rattle.ror_value.specs.Over.{IsLawfulIn}
 use Rattle.ror_rows.proofs.Holding.{rows_hold_base}
 use Rattle.ror_check.specs.Proof.{base_system}
 use Rattle.ror_pivot.specs.declared.optimum.ClimbNote.{ClimbNote}
 use Rattle.ror_pivot.specs.declared.optimum.ClimbFault.TheVariants as climbing
 use Rattle.ror_pivot.specs.declared.optimum.Optimum.{Optimum}
-use Rattle.ror_pivot.specs.Optimality.{AreTops, strict_rows, IsAcceptedOptimum, IsNarrowOptimum}
+use Rattle.ror_pivot.specs.Optimality.{AreTops, IsAcceptedOptimum, IsNarrowOptimum}
 use Rattle.ror_pivot.specs.Climbing.{EndsOptimal, IsClimbNote, IsClimbNoteWithin}
 use Rattle.ror_discriminate.specs.declared.fault.DiscriminateFault.{DiscriminateFault}
 use Rattle.ror_discriminate.specs.declared.fault.DiscriminateFault.TheVariants as answers
 use Rattle.ror_discriminate.specs.Margin.{strict_comparisons}
-use Rattle.ror_discriminate.specs.Discriminating.{IsFound, IsShownContradictory, IsClimbWide, IsDueFault}
+use Rattle.ror_discriminate.specs.Discriminating.{IsFound, IsClimbWide, IsDueFault}
 use Rattle.ror_discriminate.specs.Steps.{RefusesBase}
-use Rattle.ror_discriminate.proofs.Margins.{no_rows, some_second, most_discriminating}
-
--- a list whose system has a second strict row says something strictly
-pub says_something : (t : DecisionTable) (list : List Statement) (s : LinearSystem) (rows : List (List ℤ)) → s ≡ base_system t list → rows ≡ s.strict → IsWellFormed s → (length rows ≡ 1 → ⊥) → strict_comparisons list ≢ []
-says_something t list s rows e f form more none =
-    some_second s.strict (ones s.columns) form.total_row (λ one. more (ap (λ (rows : List (List ℤ)). length rows) f ∙ one)) (ap strict_rows e ∙ (no_rows t list).1 none)
+use Rattle.ror_discriminate.proofs.Contradictory.{shown_of}
+use Rattle.ror_discriminate.proofs.Margins.{most_discriminating}
 
 module _ (most : ℕ) (t : DecisionTable) (list : List Statement) (lawful : IsLawfulIn t list) (says : strict_comparisons list ≢ []) where
-  shown_of : (m : Multipliers) → AreAcceptedMultipliers (base_system t list) m.weak m.strict → IsShownContradictory t list m
-  shown_of m accepted = record {
-    says_strictly = says;
-    contradictory = λ w compatible. not_both (base_system t list) m.weak m.strict accepted.refute (w, (rows_hold_base t list w lawful).0 compatible);
-    accepted = accepted;
-  }
-
   due_of : (f : DiscriminateFault) → RefusesBase most (base_system t list) f → IsDueFault most t list f
   due_of answers.NoStrictRow h = absurd h
   due_of (answers.Contradictory m) h = record {
-    shown = shown_of m h.0;
+    shown = shown_of t list m lawful says h.0;
     narrow_weak = h.1;
     narrow_strict = h.2;
   }

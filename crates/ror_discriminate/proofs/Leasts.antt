@@ -138,7 +138,7 @@ entry-rest : (xs : List ℤ) (k : ℕ) → entry (drop 1 xs) k ≡ entry xs (k +
 entry-rest [] k = refl
 entry-rest (x ∷ xs) k = let e : k + 1 ≡ suc k = omega arith in rw e refl
 
-all_from_entries : (m : ℤ) (xs : List ℤ) → ((k : ℕ) → k < length xs → m ≤ℤ entry xs k) → AllByRecursion (λ x. m ≤ℤ x) xs
+pub all_from_entries : (m : ℤ) (xs : List ℤ) → ((k : ℕ) → k < length xs → m ≤ℤ entry xs k) → AllByRecursion (λ x. m ≤ℤ x) xs
 all_from_entries m [] each = tt
 all_from_entries m (x ∷ xs) each = (each 0 (omega arith), all_from_entries m xs (λ k l. each (suc k) (omega arith)))
 

@@ -15,3 +15,4 @@ pub mod Columns
 pub mod Checked
 pub mod Found
 pub mod OneFault
+pub mod Contradictory

@@ -1,6 +1,7 @@
 -- The strict rows of a list's system are its margins, and accepted optima of the system are most discriminating functions.
 use Rattle.std.proofs.Common.{◌≡◌, ◌≢◌, ◌↔◌, ℕ, zero, suc, ◌<◌, List, [], ◌∷◌, ◌++◌, length, map, drop, Some, ℤ, pos, ◌*ℤ◌, ◌≤ℤ◌, refl, ap, ap₂, sym, ◌∙◌, arith, append-nil}
-use Rattle.std.specs.Prelude.{slice_get, if◌then◌else◌}
+use Rattle.std.proofs.lemmas.Bool.{eqb-true, eqb-false}
+use Rattle.std.specs.Prelude.{Bool, true, false, ◌==◌, IsTrue, slice_get, if◌then◌else◌}
 use Rattle.std.specs.List.{AllByRecursion, filter}
 use Rattle.std.proofs.lemmas.List.{length-map}
 use Rattle.ror_integers.specs.Vectors.{entry, dots, ones}
@@ -16,6 +17,7 @@ use Rattle.ror_table.specs.Blocks.{tops}
 use Rattle.ror_table.proofs.BlockLemmas.{length-tops, ones-le-tops}
 use Rattle.ror_text.proofs.Everywhere.{all-append}
 use Rattle.ror_system.specs.Acceptance.{rows_of}
+use Rattle.ror_system.specs.System.{LinearSystem, IsWellFormed}
 use Rattle.ror_value.specs.Over.{IsNamedIn, IsLawfulIn}
 use Rattle.ror_value.specs.Value.{ideal_value}
 use Rattle.ror_rows.specs.Rows.{strict_rows_for, strict_rows as strict_rows_of}
@@ -25,6 +27,7 @@ use Rattle.ror_rows.proofs.Holding.{dot-form_row, rows_hold_base}
 use Rattle.ror_check.specs.Proof.{base_system}
 use Rattle.ror_pivot.specs.Optimality.{AreTops, least, strict_rows, least_value, IsBest}
 use Rattle.ror_discriminate.specs.Margin.{is_strict, strict_comparisons, margin_on, margins, least_margin, DiscriminatesAsMuch, IsMostDiscriminating}
+use Rattle.ror_discriminate.proofs.Leasts.{all_from_entries}
 use Rattle.ror_discriminate.proofs.NoGreater.{no_greater}
 use Rattle.ror_discriminate.proofs.OptimalTests.{some_row}
 
@@ -94,18 +97,31 @@ some_second [] x first more none = absurd cc
 some_second (y ∷ []) x first more none = more refl
 some_second (y ∷ (z ∷ xs)) x first more none = absurd cc
 
+-- the system of a list, as the code reads it: one strict row, and more than one
+pub says_nothing : (t : DecisionTable) (list : List Statement) (s : LinearSystem) (rows : List (List ℤ)) → s ≡ base_system t list → rows ≡ s.strict → length rows ≡ 1 → strict_comparisons list ≡ []
+says_nothing t list s rows e f one =
+    let strict = f ∙ ap (λ (s : LinearSystem). s.strict) e in
+    (no_rows t list).0 (no_second (base_system t list).strict (sym (ap (λ (rows : List (List ℤ)). length rows) strict) ∙ one))
+
+pub says_something : (t : DecisionTable) (list : List Statement) (s : LinearSystem) (rows : List (List ℤ)) → s ≡ base_system t list → rows ≡ s.strict → IsWellFormed s → (length rows ≡ 1 → ⊥) → strict_comparisons list ≢ []
+says_something t list s rows e f form more none =
+    some_second s.strict (ones s.columns) form.total_row (λ one. more (ap (λ (rows : List (List ℤ)). length rows) f ∙ one)) (ap strict_rows e ∙ (no_rows t list).1 none)
+
+pub nothing_where_one : (t : DecisionTable) (list : List Statement) (s : LinearSystem) (rows : List (List ℤ)) → s ≡ base_system t list → rows ≡ s.strict → IsWellFormed s → IsTrue (length rows == 1) ↔ (strict_comparisons list ≡ [])
+nothing_where_one t list s rows e f form = (λ one. says_nothing t list s rows e f (eqb-true (length rows) 1 one), λ none. at none (length rows == 1) refl)
+  where
+    at : strict_comparisons list ≡ [] → (b : Bool) → (length rows == 1) ≡ b → IsTrue b
+    at none true is = refl
+    at none false is = absurd (says_something t list s rows e f form (eqb-false (length rows) 1 is) none)
+
 -- ---- what the columns count
 entry-ones : (n j : ℕ) → j < n → entry (ones n) j ≡ pos 1
 entry-ones zero j l = absurd (omega arith)
 entry-ones (suc n) zero l = refl
 entry-ones (suc n) (suc j) l = entry-ones n j (omega arith)
 
-all_from_entries : (xs : List ℤ) → ((j : ℕ) → j < length xs → pos 1 ≤ℤ entry xs j) → AllByRecursion (λ x. pos 1 ≤ℤ x) xs
-all_from_entries [] each = tt
-all_from_entries (x ∷ xs) each = (each 0 (omega arith), all_from_entries xs (λ j l. each (suc j) (omega arith)))
-
 pub tops_are : (t : DecisionTable) → IsTable t → AreTops (columns t) (tops t)
-tops_are t table = record { one_for_each_column = length-tops t; at_least_one = all_from_entries (tops t) at }
+tops_are t table = record { one_for_each_column = length-tops t; at_least_one = all_from_entries (pos 1) (tops t) at }
   where
     at : (j : ℕ) → j < length (tops t) → pos 1 ≤ℤ entry (tops t) j
     at j l =

@@ -6,9 +6,8 @@ use Rattle.ror_statement.specs.declared.statement.Statement.{Statement}
 use Rattle.ror_table.specs.Table.{DecisionTable}
 use Rattle.ror_table.specs.Blocks.{tops}
 use Rattle.ror_system.specs.System.{LinearSystem, IsSolvable}
-use Rattle.ror_system.specs.Acceptance.{AreAcceptedMultipliers}
 use Rattle.ror_system.specs.declared.accept.Multipliers.{Multipliers}
-use Rattle.ror_value.specs.Meaning.{IsConsistent, IsContradictory}
+use Rattle.ror_value.specs.Meaning.{IsConsistent}
 use Rattle.ror_check.specs.Proof.{base_system}
 use Rattle.ror_pivot.specs.declared.note.Place.{Place}
 use Rattle.ror_pivot.specs.declared.note.WideNote.{WideNote}
@@ -21,6 +20,7 @@ use Rattle.ror_pivot.specs.Notes.{IsWideNote}
 use Rattle.ror_pivot.specs.Answers.{IsNoteWithin}
 use Rattle.ror_pivot.specs.Optimality.{IsAcceptedOptimum, IsNarrowOptimum}
 use Rattle.ror_pivot.specs.Climbing.{IsClimbNote, EndsOptimal, IsClimbNoteWithin}
+use Rattle.ror_discriminate.specs.Contradictions.{IsShownContradictory}
 use Rattle.ror_discriminate.specs.Margin.{strict_comparisons, IsMostDiscriminating}
 use Rattle.ror_discriminate.specs.declared.fault.DiscriminateFault.{DiscriminateFault}
 use Rattle.ror_discriminate.specs.declared.fault.DiscriminateFault.TheVariants as faults
@@ -34,13 +34,7 @@ pub record IsFound (most : ℕ) (t : DecisionTable) (list : List Statement) (x :
   pub narrow : IsNarrowOptimum most x
   pub best : IsMostDiscriminating t list x.solution.steps
 
--- The list says something strictly and is contradictory, as these multipliers show.
-pub record IsShownContradictory (t : DecisionTable) (list : List Statement) (m : Multipliers) : Type 0 where
-  pub says_strictly : strict_comparisons list ≢ []
-  pub contradictory : IsContradictory t list
-  pub accepted : AreAcceptedMultipliers (base_system t list) m.weak m.strict
-
--- none of the multipliers passes most
+-- The multipliers show that the list is contradictory, and none of them passes most.
 pub record IsRefuted (most : ℕ) (t : DecisionTable) (list : List Statement) (m : Multipliers) : Type 0 where
   pub shown : IsShownContradictory t list m
   pub narrow_weak : AllByRecursion (IsWithin most) m.weak

@@ -7,5 +7,6 @@ pub mod EntryLaws
 pub mod Margin
 pub mod Faults
 pub mod Steps
+pub mod Contradictions
 pub mod Discriminating
 pub mod Laws

@@ -1,4 +1,4 @@
-//! Why an optimum is not accepted, and why none is found.
+//! Why an optimum or a contradiction is not accepted, and why no optimum is found.
 
 ghost use Rattle.std.specs.Prelude.{◌≡◌};
 
@@ -81,5 +81,28 @@ impl From<AllocError> for DiscriminateFault {
 
     fn from(_error: AllocError) -> DiscriminateFault {
         DiscriminateFault::Memory
+    }
+}
+
+/// Why multipliers do not show that a list which says something strictly is contradictory: the first test that fails, in this order.
+#[derive(Clone, Copy, Debug, PartialEq, Eq, Error)]
+pub enum ContradictionFault {
+    /// The list says nothing strictly: its system has no strict row but that of ones.
+    #[error("nothing is said strictly")]
+    NoStrictRow,
+    /// The multipliers are not accepted by the list's system.
+    #[error("the multipliers are not accepted: {0:?}")]
+    Multipliers(Reject),
+    #[error("out of memory")]
+    Memory,
+}
+
+impl From<AllocError> for ContradictionFault {
+    ghost use Rattle.ror_discriminate.specs.declared.fault.ContradictionFault.TheVariants as contradiction;
+
+    ghost from_gives = { λ _ e. e ≡ contradiction.Memory };
+
+    fn from(_error: AllocError) -> ContradictionFault {
+        ContradictionFault::Memory
     }
 }

@@ -3,11 +3,12 @@
 //!
 //! A compatible value function meets what a list says strictly (that one alternative is preferred to another, that a preference
 //! is stronger than another, or what the classes of two alternatives say together) by some margin each. The most discriminating
-//! one has the greatest least margin, over the value of the best levels (as UTAMP has it). [`discriminate`] finds it by the
+//! one has the greatest least margin, over the value of the best levels (as in UTAMP). [`discriminate`] finds it by the
 //! climbing path of the list's system, as an [`Optimum`](ror_pivot::Optimum): a solution, and multipliers that show that no
 //! compatible function has a greater least margin. [`check_optimal`] multiplies the two out and never searches; what it accepts is
 //! a most discriminating function (`laws::proved_optima_are_best`), and what it refuses has a first test that fails
-//! ([`OptimalFault`]). [`find_best`] and [`check_best`] say the margin besides.
+//! ([`OptimalFault`]). [`find_best`] and [`check_best`] say the margin besides. What is said of a list that has no optimum is
+//! checked by [`says_nothing_strictly`] and [`check_contradiction`].
 //!
 //! Let `a` be evaluated 3 and 10, `b` with 2 and 8 and `c` with 1 and 12, where more of the first and less of the second criterion
 //! is better; the columns are q1, q2, p1, p2.
@@ -36,6 +37,7 @@
 //! which [`print_entry`] gives and [`read_entry`] reads back. A report begins with the line of [`head::header`].
 
 mod check;
+mod contradiction;
 mod decide;
 mod entry;
 mod fault;
@@ -53,9 +55,10 @@ mod words;
 mod write;
 
 pub use check::{check_best, check_optimal};
+pub use contradiction::{check_contradiction, says_nothing_strictly};
 pub use decide::{Best, discriminate, find_best};
 pub use entry::{Entry, EntryBody};
-pub use fault::{DiscriminateFault, OptimalFault};
+pub use fault::{ContradictionFault, DiscriminateFault, OptimalFault};
 pub use margin::Margin;
 pub use print::{print_entry, write_entry};
 pub use read::read_entry;

@@ -1,6 +1,9 @@
 //! Optima that are accepted, why others are refused, and what is found of lists.
 
-use ror_discriminate::{DiscriminateFault, Margin, check_best, check_optimal, discriminate};
+use ror_discriminate::{
+    DiscriminateFault, Margin, check_best, check_contradiction, check_optimal, discriminate,
+    find_best, says_nothing_strictly,
+};
 use ror_made::{AC, is_lawful, three_alternatives};
 use ror_pivot::{Bits, Optimum};
 use ror_statement::{Pair, Scope, Statement};
@@ -59,7 +62,12 @@ const CHECKED: [Checked; 14] = [
         (&[], &[0, 1]),
         "the solution is not accepted: Row(1)",
     ),
-    (A_OVER_B, &[0, 1, 0, 0], (&[], &[1]), "not one multiplier for each row"),
+    (
+        A_OVER_B,
+        &[0, 1, 0, 0],
+        (&[], &[1]),
+        "not one multiplier for each row",
+    ),
     (
         A_OVER_B,
         &[0, 1, 0, 0],
@@ -185,16 +193,101 @@ fn a_margin_is_the_least_over_the_total(rt: HostRuntime) -> Result<(), Fail> {
     Ok(())
 }
 
+/// Lists, and the greatest least margin over each.
+const FOUND: [(&[Statement], Margin); 3] = [
+    (A_OVER_B, Margin { least: 1, total: 1 }),
+    (A_OVER_B_OVER_C, Margin { least: 1, total: 2 }),
+    (FARTHER, Margin { least: 2, total: 1 }),
+];
+
+/// Whether the optimum that is found of the list has this margin, and is accepted with it.
+fn is_found(
+    alloc: Global,
+    table: &Table,
+    list: &[Statement],
+    margin: Margin,
+) -> Result<bool, Fail> {
+    if !is_lawful(table, list) {
+        return Err(Fail::new("the list is lawful"));
+    }
+    let best = find_best(alloc, table, list, Bits::B127)?;
+    let accepted = check_best(alloc, table, list, &best.optimum)?;
+    Ok(best.margin == margin && accepted == margin)
+}
+
+#[test]
+fn the_most_discriminating_function_is_found(rt: HostRuntime) -> Result<(), Fail> {
+    let table = three_alternatives(rt.alloc())?;
+    for (list, margin) in FOUND {
+        let is_found = is_found(rt.alloc(), &table, list, margin)?;
+        assert!(rt; is_found, "{margin:?} over {list:?}");
+    }
+    Ok(())
+}
+
+/// The second statement has the row (0, 0, 0, 0).
+const CONTRADICTORY: &[Statement] = &[Statement::AtLeast(0, 1), Statement::Prefer(0, 0)];
+
+/// Lists and multipliers, and what a check says of them.
+const CONTRADICTIONS: [(&[Statement], &[i128], &[i128], &str); 3] = [
+    (CONTRADICTORY, &[0], &[0, 1], ""),
+    (
+        CONTRADICTORY,
+        &[0],
+        &[0, 0],
+        "the multipliers are not accepted: NoStrict",
+    ),
+    (NOT_STRICT, &[0], &[1], "nothing is said strictly"),
+];
+
+/// Whether a check of a contradiction says this: the fault, or nothing.
+fn is_said_of_contradiction(
+    alloc: Global,
+    table: &Table,
+    list: &[Statement],
+    m: &Multipliers,
+    expected: &str,
+) -> Result<bool, Fail> {
+    if !is_lawful(table, list) {
+        return Err(Fail::new("the list is lawful"));
+    }
+    match check_contradiction(alloc, table, list, m) {
+        Ok(()) => Ok(expected.is_empty()),
+        Err(fault) => Ok(format!(in alloc; "{fault}")?.as_str() == expected),
+    }
+}
+
+#[test]
+fn a_contradiction_is_accepted_with_its_multipliers_alone(rt: HostRuntime) -> Result<(), Fail> {
+    let table = three_alternatives(rt.alloc())?;
+    for (list, weak, strict, expected) in CONTRADICTIONS {
+        let x = optimum_of(rt.alloc(), &[], (weak, strict))?;
+        let is_said = is_said_of_contradiction(rt.alloc(), &table, list, &x.multipliers, expected)?;
+        assert!(rt; is_said, "{strict:?} over {list:?}");
+    }
+    Ok(())
+}
+
+#[test]
+fn a_list_of_weak_statements_says_nothing_strictly(rt: HostRuntime) -> Result<(), Fail> {
+    let table = three_alternatives(rt.alloc())?;
+    if !is_lawful(&table, NOT_STRICT) || !is_lawful(&table, CONTRADICTORY) {
+        return Err(Fail::new("the lists are lawful"));
+    }
+    assert!(rt; says_nothing_strictly(rt.alloc(), &table, NOT_STRICT)?);
+    assert!(rt; !says_nothing_strictly(rt.alloc(), &table, CONTRADICTORY)?);
+    Ok(())
+}
+
 #[test]
 fn a_list_without_an_optimum_is_told_so(rt: HostRuntime) -> Result<(), Fail> {
     let table = three_alternatives(rt.alloc())?;
-    let list = [Statement::AtLeast(0, 1), Statement::Prefer(0, 0)];
-    if !is_lawful(&table, NOT_STRICT) || !is_lawful(&table, &list) {
+    if !is_lawful(&table, NOT_STRICT) || !is_lawful(&table, CONTRADICTORY) {
         return Err(Fail::new("the lists are lawful"));
     }
     let none = discriminate(rt.alloc(), &table, NOT_STRICT, Bits::B127);
     assert!(rt; matches!(none, Err(DiscriminateFault::NoStrictRow)));
-    match discriminate(rt.alloc(), &table, &list, Bits::B127) {
+    match discriminate(rt.alloc(), &table, CONTRADICTORY, Bits::B127) {
         Err(DiscriminateFault::Contradictory(m)) => {
             assert!(rt; m.weak.is_same(&Numbers::of(rt.alloc(), &[0])?));
             assert!(rt; m.strict.is_same(&Numbers::of(rt.alloc(), &[0, 1])?));

@@ -14,9 +14,6 @@ use Rattle.ror_system.specs.Acceptance.{FailsMultipliers, FailsSolution, IsEarli
 use Rattle.ror_system.specs.declared.reject.Reject.{Reject}
 use Rattle.ror_check.specs.Proof.{base_system}
 use Rattle.ror_system.proofs.Reasons.{one_solution_reason, one_multiplier_reason}
-use Rattle.ror_system.proofs.MultiplierTests.{none_fails}
-use Rattle.ror_system.proofs.Motzkin.{not_both}
-use Rattle.ror_rows.proofs.Deciding.{base_refuted_is_contradictory}
 use Rattle.ror_proof.proofs.Utf8Lemmas.{ascii_is_utf8, line_text_is_utf8}
 use Rattle.ror_report.specs.Reading.{begins_end}
 use Rattle.ror_discriminate.specs.Head.{header_text}
@@ -30,28 +27,43 @@ use Rattle.ror_discriminate.specs.declared.entry.EntryBody.TheVariants as bodies
 use Rattle.ror_discriminate.specs.declared.fault.OptimalFault.{OptimalFault}
 use Rattle.ror_discriminate.specs.declared.fault.OptimalFault.TheVariants as faults
 use Rattle.ror_discriminate.specs.Faults.{FailsOptimal, IsEarlierOptimalFault, optimal_stage, optimal_place}
+use Rattle.ror_system.specs.declared.accept.Multipliers.{Multipliers}
+use Rattle.ror_discriminate.specs.declared.fault.ContradictionFault.{ContradictionFault}
+use Rattle.ror_discriminate.specs.declared.fault.ContradictionFault.TheVariants as contradictions
+use Rattle.ror_discriminate.specs.Contradictions.{FailsContradiction, IsEarlierContradictionFault, contradiction_stage}
+use Rattle.ror_discriminate.proofs.Contradictory.{shown_passes}
 use Rattle.ror_discriminate.proofs.OneFault.{one_first_fault}
 use Rattle.ror_discriminate.proofs.OptimalTests.{passes}
 use Rattle.ror_discriminate.proofs.Margins.{tops_are, most_discriminating}
 use Rattle.ror_discriminate.proofs.EntryLemmas.{is_read_iff_text, entry_begins}
 use Rattle.ror_discriminate.proofs.EntryUtf8.{entry_text_is_utf8}
 use Rattle.ror_entries.specs.Kind.{IsKind, HasOneReason}
-use Rattle.ror_work_discriminate.specs.Entries.{OfDeskAt, IsProvedBody, IsTrueBody, RefusesBody, IsProvedEntry, IsTrueEntry, RefusesEntry, other_desk, at_fault, best_kind}
+use Rattle.ror_work_discriminate.specs.Entries.{contradiction_reason, OfDeskAt, IsProvedBody, IsTrueBody, RefusesBody, IsProvedEntry, IsTrueEntry, RefusesEntry, other_desk, at_fault, best_kind}
 use Rattle.ror_work_discriminate.specs.Steps.{AreDesks}
 
 -- ---- one first fault
 
 module _ (t : DecisionTable) (list : List Statement) where
+  same_contradiction : (m : Multipliers) (f g : ContradictionFault) → FailsContradiction t list m f → FailsContradiction t list m g → contradiction_stage f ≡ contradiction_stage g → f ≡ g
+  same_contradiction m contradictions.NoStrictRow contradictions.NoStrictRow first second stage = refl
+  same_contradiction m contradictions.NoStrictRow g first second stage = absurd (omega arith)
+  same_contradiction m (contradictions.Multipliers q) (contradictions.Multipliers r) first second stage = ap contradictions.Multipliers (one_multiplier_reason (base_system t list) m.weak m.strict q r first second)
+  same_contradiction m (contradictions.Multipliers q) contradictions.NoStrictRow first second stage = absurd (omega arith)
+  same_contradiction m (contradictions.Multipliers q) contradictions.Memory first second stage = absurd second
+  same_contradiction m contradictions.Memory g first second stage = absurd first
+
+  one_contradiction : (m : Multipliers) (f g : ContradictionFault) → IsFirst (FailsContradiction t list m) IsEarlierContradictionFault f → IsFirst (FailsContradiction t list m) IsEarlierContradictionFault g → f ≡ g
+  one_contradiction m f g first second =
+      let at = first_at (FailsContradiction t list m) contradiction_stage (λ fault. 0) f g first second in
+      same_contradiction m f g first.fails second.fails at.0
+
   one_body_reason : (body : EntryBody) (q r : Reason) → RefusesBody t list body q → RefusesBody t list body r → q ≡ r
   one_body_reason (bodies.Best margin total x) q r (inl first) (inl second) = first.2 ∙ ap reasons.Optimal (one_first_fault (base_system t list) (tops t) x first.0 second.0 first.1 second.1) ∙ sym second.2
   one_body_reason (bodies.Best margin total x) q r (inl first) (inr second) = absurd (passes (base_system t list) (tops t) x second.0 first.0 first.1.fails)
   one_body_reason (bodies.Best margin total x) q r (inr first) (inl second) = absurd (passes (base_system t list) (tops t) x first.0 second.0 second.1.fails)
   one_body_reason (bodies.Best margin total x) q r (inr first) (inr second) = first.2 ∙ sym second.2
   one_body_reason bodies.NoStrictRow q r first second = first.1 ∙ sym second.1
-  one_body_reason (bodies.Contradiction m) q r (inl first) (inl second) = first.1 ∙ sym second.1
-  one_body_reason (bodies.Contradiction m) q r (inl first) (inr second) = absurd (second.0 first.0)
-  one_body_reason (bodies.Contradiction m) q r (inr first) (inl second) = absurd (first.0 second.0)
-  one_body_reason (bodies.Contradiction m) q r (inr first) (inr second) = first.3 ∙ ap reasons.Contradiction (one_multiplier_reason (base_system t list) m.weak m.strict first.1 second.1 first.2 second.2) ∙ sym second.3
+  one_body_reason (bodies.Contradiction m) q r first second = first.2 ∙ ap contradiction_reason (one_contradiction m first.0 second.0 first.1 second.1) ∙ sym second.2
   one_body_reason (bodies.BaseWide note) q r first second = absurd first
   one_body_reason (bodies.ClimbWide note) q r first second = absurd first
 
@@ -60,8 +72,7 @@ module _ (t : DecisionTable) (list : List Statement) where
   proved_body_passes (bodies.Best margin total x) r proved (inl fails) = passes (base_system t list) (tops t) x proved.0 fails.0 fails.1.fails
   proved_body_passes (bodies.Best margin total x) r proved (inr other) = other.1 proved.1
   proved_body_passes bodies.NoStrictRow r proved fails = fails.0 proved
-  proved_body_passes (bodies.Contradiction m) r proved (inl nothing) = proved.0 nothing.0
-  proved_body_passes (bodies.Contradiction m) r proved (inr fails) = (none_fails (base_system t list) m.weak m.strict proved.1) fails.1 fails.2.fails
+  proved_body_passes (bodies.Contradiction m) r proved fails = shown_passes t list m fails.0 proved fails.1.fails
   proved_body_passes (bodies.BaseWide note) r proved fails = fails
   proved_body_passes (bodies.ClimbWide note) r proved fails = fails
 
@@ -69,7 +80,7 @@ module _ (t : DecisionTable) (list : List Statement) where
   proved_body_true : IsTable t → IsLawfulIn t list → (body : EntryBody) → IsProvedBody t list body → IsTrueBody t list body
   proved_body_true table lawful (bodies.Best margin total x) proved = (most_discriminating t list x.solution.steps x.multipliers.weak x.multipliers.strict (tops_are t table) lawful proved.0, proved.1)
   proved_body_true table lawful bodies.NoStrictRow proved = proved
-  proved_body_true table lawful (bodies.Contradiction m) proved = base_refuted_is_contradictory t list lawful (not_both (base_system t list) m.weak m.strict proved.1.refute)
+  proved_body_true table lawful (bodies.Contradiction m) proved = proved.contradictory
   proved_body_true table lawful (bodies.BaseWide note) proved = tt
   proved_body_true table lawful (bodies.ClimbWide note) proved = tt
 

@@ -30,7 +30,7 @@ use Rattle.ror_work_discriminate.specs.Discriminate.{OfClosing, kind_over, IsBeg
 given_body_proved : (most : ℕ) (t : DecisionTable) (list : List Statement) (body : EntryBody) → IsGivenBody most t list body → IsProvedBody t list body
 given_body_proved most t list (bodies.Best margin total x) given = (given.0.accepted, given.1)
 given_body_proved most t list bodies.NoStrictRow given = given
-given_body_proved most t list (bodies.Contradiction m) given = (given.says_strictly, given.accepted)
+given_body_proved most t list (bodies.Contradiction m) given = given.shown
 given_body_proved most t list (bodies.BaseWide note) given = tt
 given_body_proved most t list (bodies.ClimbWide note) given = tt
 

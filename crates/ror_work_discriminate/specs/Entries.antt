@@ -4,8 +4,6 @@ use Rattle.ror_text.specs.FirstFault.{IsFirst}
 use Rattle.ror_statement.specs.declared.statement.Statement.{Statement}
 use Rattle.ror_table.specs.Table.{DecisionTable}
 use Rattle.ror_table.specs.Blocks.{tops}
-use Rattle.ror_system.specs.Acceptance.{AreAcceptedMultipliers, FailsMultipliers, IsEarlierTest}
-use Rattle.ror_system.specs.declared.reject.Reject.{Reject}
 use Rattle.ror_value.specs.Meaning.{IsContradictory}
 use Rattle.ror_check.specs.Proof.{base_system}
 use Rattle.ror_pivot.specs.declared.optimum.Optimum.{Optimum}
@@ -17,6 +15,9 @@ use Rattle.ror_discriminate.specs.declared.entry.Entry.{Entry}
 use Rattle.ror_discriminate.specs.declared.entry.EntryBody.{EntryBody}
 use Rattle.ror_discriminate.specs.declared.entry.EntryBody.TheVariants as bodies
 use Rattle.ror_discriminate.specs.declared.fault.OptimalFault.{OptimalFault}
+use Rattle.ror_discriminate.specs.declared.fault.ContradictionFault.{ContradictionFault}
+use Rattle.ror_discriminate.specs.declared.fault.ContradictionFault.TheVariants as contradictions
+use Rattle.ror_discriminate.specs.Contradictions.{IsShownContradictory, FailsContradiction, IsEarlierContradictionFault}
 use Rattle.ror_discriminate.specs.declared.margin.Margin.{Margin}
 use Rattle.ror_discriminate.specs.Margin.{strict_comparisons, IsMarginOf, IsMostDiscriminating}
 use Rattle.ror_discriminate.specs.Discriminating.{IsFound, IsRefuted, IsBaseWide, IsClimbWide}
@@ -45,8 +46,7 @@ abbrev pub IsProvedBody : DecisionTable → List Statement → EntryBody → Typ
 IsProvedBody t list (bodies.Best margin total x) =
     IsAcceptedOptimum (base_system t list) (tops t) x × HasMargin t list margin total x
 IsProvedBody t list bodies.NoStrictRow = strict_comparisons list ≡ []
-IsProvedBody t list (bodies.Contradiction m) = (strict_comparisons list ≢ [])
-    × AreAcceptedMultipliers (base_system t list) m.weak m.strict
+IsProvedBody t list (bodies.Contradiction m) = IsShownContradictory t list m
 IsProvedBody t list (bodies.BaseWide note) = Unit {0}
 IsProvedBody t list (bodies.ClimbWide note) = Unit {0}
 
@@ -60,9 +60,14 @@ IsTrueBody t list (bodies.Contradiction m) = IsContradictory t list
 IsTrueBody t list (bodies.BaseWide note) = Unit {0}
 IsTrueBody t list (bodies.ClimbWide note) = Unit {0}
 
+-- as a reason of a report; that nothing is said strictly is that of a wrong block
+abbrev pub contradiction_reason : ContradictionFault → Reason
+contradiction_reason (contradictions.Multipliers reject) = reasons.Contradiction reject
+contradiction_reason _ = reasons.WrongBlock
+
 -- Why it is refused: an optimum for the first test that it fails, or, where it fails none, for another margin; that the list says
--- nothing strictly, where it does; a contradiction where it doesn't, or else for the first test that the multipliers fail. What is
--- too wide is never refused.
+-- nothing strictly, where it does; a contradiction for the first test that it fails, of which the first is that the list says
+-- something strictly. What is too wide is never refused.
 abbrev pub RefusesBody : DecisionTable → List Statement → EntryBody → Reason → Type 0
 RefusesBody t list (bodies.Best margin total x) reason =
     ((fault : OptimalFault) × IsFirst (FailsOptimal (base_system t list) (tops t) x) IsEarlierOptimalFault fault
@@ -70,11 +75,9 @@ RefusesBody t list (bodies.Best margin total x) reason =
     ⊎ (IsAcceptedOptimum (base_system t list) (tops t) x × (HasMargin t list margin total x → ⊥)
     × (reason ≡ reasons.WrongBlock))
 RefusesBody t list bodies.NoStrictRow reason = (strict_comparisons list ≢ []) × (reason ≡ reasons.WrongBlock)
-RefusesBody t list (bodies.Contradiction m) reason =
-    ((strict_comparisons list ≡ []) × (reason ≡ reasons.WrongBlock))
-    ⊎ ((strict_comparisons list ≢ []) × (reject : Reject)
-    × IsFirst (FailsMultipliers (base_system t list) m.weak m.strict) IsEarlierTest reject
-    × (reason ≡ reasons.Contradiction reject))
+RefusesBody t list (bodies.Contradiction m) reason = (fault : ContradictionFault)
+    × IsFirst (FailsContradiction t list m) IsEarlierContradictionFault fault
+    × (reason ≡ contradiction_reason fault)
 RefusesBody t list (bodies.BaseWide note) reason = ⊥
 RefusesBody t list (bodies.ClimbWide note) reason = ⊥
 

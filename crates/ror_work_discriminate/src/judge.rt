@@ -11,13 +11,15 @@ ghost use Rattle.ror_work_discriminate.specs.Steps.{AreDesks};
 
 use crate::maker::is_wide;
 use ror_bench::{Bench, Passed, Reason};
-use ror_discriminate::{Entry, EntryBody, OptimalFault, check_best, read_entry};
+use ror_discriminate::{
+    ContradictionFault, Entry, EntryBody, OptimalFault, check_best, check_contradiction, read_entry,
+    says_nothing_strictly,
+};
 use ror_entries::{EntryFault, Judge};
 use ror_pivot::Optimum;
 use ror_proof::ProofFault;
-use ror_rows::system_of;
 use ror_statement::Statement;
-use ror_system::{Multipliers, accept_multipliers};
+use ror_system::Multipliers;
 use ror_table::Table;
 use ror_text::{Items, Text};
 use std::alloc::Global;
@@ -130,7 +132,7 @@ fn check_body(
         } => check_function(alloc, table, list, *margin, *total, optimum),
         EntryBody::NoStrictRow => check_none(alloc, table, list),
         EntryBody::Contradiction(multipliers) => {
-            check_contradiction(alloc, table, list, multipliers)
+            check_multipliers(alloc, table, list, multipliers)
         }
         EntryBody::BaseWide(_) | EntryBody::ClimbWide(_) => Ok(()),
     }
@@ -165,18 +167,15 @@ fn check_none(alloc: Global, table: &Table, list: &[Statement]) -> Result<(), En
     ensures refused { IfErr result (IfRefused (RefusesBody table.now list.now bodies.NoStrictRow)) }
     ensures pure { IfErr result (IfRefused IsFreeOfMemory) }
 {
-    let Ok(system) = system_of(alloc, table, list) else {
-        return Err(EntryFault::Memory);
-    };
-    // The first strict row is that of ones.
-    if system.strict().len() > 1 {
-        return Err(EntryFault::Refused(Reason::WrongBlock));
+    match says_nothing_strictly(alloc, table, list) {
+        Ok(true) => Ok(()),
+        Ok(false) => Err(EntryFault::Refused(Reason::WrongBlock)),
+        Err(_) => Err(EntryFault::Memory),
     }
-    Ok(())
 }
 
-/// Whether the list says something strictly, and the multipliers refute its system.
-fn check_contradiction(
+/// Whether the multipliers show that the list is contradictory.
+fn check_multipliers(
     alloc: Global,
     table: &Table,
     list: &[Statement],
@@ -187,14 +186,12 @@ fn check_contradiction(
     ensures refused { IfErr result (IfRefused (RefusesBody table.now list.now (bodies.Contradiction multipliers.now))) }
     ensures pure { IfErr result (IfRefused IsFreeOfMemory) }
 {
-    let Ok(system) = system_of(alloc, table, list) else {
-        return Err(EntryFault::Memory);
-    };
-    if system.strict().len() == 1 {
-        return Err(EntryFault::Refused(Reason::WrongBlock));
-    }
-    match accept_multipliers(&system, multipliers) {
+    match check_contradiction(alloc, table, list, multipliers) {
         Ok(()) => Ok(()),
-        Err(reject) => Err(EntryFault::Refused(Reason::Contradiction(reject))),
+        Err(ContradictionFault::NoStrictRow) => Err(EntryFault::Refused(Reason::WrongBlock)),
+        Err(ContradictionFault::Multipliers(reject)) => {
+            Err(EntryFault::Refused(Reason::Contradiction(reject)))
+        }
+        Err(ContradictionFault::Memory) => Err(EntryFault::Memory),
     }
 }

@@ -1,4 +1,4 @@
-use Rattle.std.proofs.Common.{List, ℤ, length, Err, ap, sym, subst, ◌∙◌}
+use Rattle.std.proofs.Common.{List, ℤ, Err, sym, subst}
 use Rattle.std.proofs.lemmas.Result.{err_from_is_err_and}
 use Rattle.ror_check.specs.Proof.{base_system}
 use Rattle.ror_system.specs.System.{LinearSystem}
@@ -9,18 +9,13 @@ use Rattle.ror_pivot.specs.declared.optimum.Optimum.{Optimum}
 use Rattle.ror_discriminate.specs.Margin.{IsMarginOf}
 use Rattle.ror_discriminate.specs.Discriminating.{IsFound}
 use Rattle.ror_discriminate.specs.Steps.{IsMarginAt}
-use Rattle.ror_discriminate.proofs.Margins.{no_rows, no_second}
+use Rattle.ror_discriminate.proofs.Margins.{says_nothing, says_something}
 use Rattle.ror_discriminate.proofs.Checked.{margin_is}
-use Rattle.ror_discriminate.proofs.Found.{due_of_base, found, wide, says_something}
+use Rattle.ror_discriminate.proofs.Found.{due_of_base, found, wide}
 use Rattle.ror_discriminate.proofs.decide.find_best.Goals as goal
 
 pub returns-then-strict-eq1-clause-fault : goal.returns-then-strict-eq1-clause-fault
-returns-then-strict-eq1-clause-fault c =
-    let t = c.args.table.now in
-    let list = c.args.list.now in
-    let strict = c.strict.ensures.value ∙ ap (λ (s : LinearSystem). s.strict) c.in_ok-system.ensures.system in
-    let one = sym (ap (λ (rows : List (List ℤ)). length rows) strict) ∙ c.if-strict-eq1.true in
-    (no_rows t list).0 (no_second (base_system t list).strict one)
+returns-then-strict-eq1-clause-fault c = says_nothing c.args.table.now c.args.list.now c.in_ok-system.system _ c.in_ok-system.ensures.system c.strict.ensures.value c.if-strict-eq1.true
 
 pub returns-in_err-decide_base-clause-fault : goal.returns-in_err-decide_base-clause-fault
 returns-in_err-decide_base-clause-fault c =
