@@ -1,6 +1,6 @@
 //! The lines that a run writes. To write them takes no memory.
 
-ghost use Rattle.std.specs.Prelude.{◌≡◌, ◌++◌, codes};
+ghost use Rattle.std.specs.Prelude.{◌≡◌, ◌++◌};
 ghost use Rattle.ror_table.specs.declared.fault.TableKind.TheVariants.{Unsupported};
 ghost use Rattle.ror_frame.specs.Courses.{WritesDue};
 ghost use Rattle.ror_frame.specs.Inputs.{accepted_output};
@@ -248,7 +248,10 @@ fn write_reason<S: Sink>(sink: &mut S, reason: &Reason) -> Result<(), SinkFault>
             write_text(sink, b"repair ")?;
             write_repair_fault(sink, fault)
         }
-        Reason::Optimal(fault) => write_optimal_fault(sink, fault),
+        Reason::Optimal(fault) => {
+            write_text(sink, b"optimal ")?;
+            write_optimal_fault(sink, fault)
+        }
         Reason::Contradiction(reject) => write_reject(sink, b"contradiction ", b"", b"", reject),
     }
 }
@@ -298,25 +301,22 @@ fn write_repair_fault<S: Sink>(sink: &mut S, fault: &RepairCheckFault) -> Result
     }
 }
 
-/// Writes why an optimum is refused, after the word `optimal`.
 fn write_optimal_fault<S: Sink>(sink: &mut S, fault: &OptimalFault) -> Result<(), SinkFault>
     ensures { Prints (S.faults sink.old) (S.faults sink.new)
-        (S.written sink.old) (S.written sink.new) (codes "optimal " ++ optimal_fault_text fault.now) result }
+        (S.written sink.old) (S.written sink.new) (optimal_fault_text fault.now) result }
 {
     match fault {
-        OptimalFault::NoStrictRow => write_text(sink, b"optimal NoStrictRow"),
-        OptimalFault::Solution(reject) => {
-            write_reject(sink, b"optimal Solution ", b"", b"", reject)
-        }
-        OptimalFault::Total => write_text(sink, b"optimal Total"),
-        OptimalFault::Length => write_text(sink, b"optimal Length"),
-        OptimalFault::Negative(place) => write_number(sink, b"optimal Negative ", *place),
-        OptimalFault::OnesRow => write_text(sink, b"optimal OnesRow"),
-        OptimalFault::NoStrict => write_text(sink, b"optimal NoStrict"),
-        OptimalFault::ScaleWide(column) => write_number(sink, b"optimal ScaleWide ", *column),
-        OptimalFault::ColumnWide(column) => write_number(sink, b"optimal ColumnWide ", *column),
-        OptimalFault::Column(column) => write_number(sink, b"optimal Column ", *column),
-        OptimalFault::Memory => write_text(sink, b"optimal Memory"),
+        OptimalFault::NoStrictRow => write_text(sink, b"NoStrictRow"),
+        OptimalFault::Solution(reject) => write_reject(sink, b"Solution ", b"", b"", reject),
+        OptimalFault::Total => write_text(sink, b"Total"),
+        OptimalFault::Length => write_text(sink, b"Length"),
+        OptimalFault::Negative(place) => write_number(sink, b"Negative ", *place),
+        OptimalFault::OnesRow => write_text(sink, b"OnesRow"),
+        OptimalFault::NoStrict => write_text(sink, b"NoStrict"),
+        OptimalFault::ScaleWide(column) => write_number(sink, b"ScaleWide ", *column),
+        OptimalFault::ColumnWide(column) => write_number(sink, b"ColumnWide ", *column),
+        OptimalFault::Column(column) => write_number(sink, b"Column ", *column),
+        OptimalFault::Memory => write_text(sink, b"Memory"),
     }
 }
 

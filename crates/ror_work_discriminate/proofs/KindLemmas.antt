@@ -100,6 +100,9 @@ lawful_there t [] place list all there = absurd cc
 lawful_there t (l ∷ ls) zero list all there = let same : l ≡ list = cc in subst (IsLawfulIn t) same all.0
 lawful_there t (l ∷ ls) (suc place) list all there = lawful_there t ls place list all.1 there
 
+begins_no_end : (more : List ℕ) → begins_end (codes "desk" ++ more) ≡ false
+begins_no_end more = refl
+
 module _ (t : DecisionTable) (names : List (List ℕ)) (lists : List (List Statement)) where
   -- an entry is refused at a place for one reason
   pub one_reason : HasOneReason (best_kind t names lists)
@@ -140,6 +143,3 @@ module _ (t : DecisionTable) (names : List (List ℕ)) (lists : List (List State
       proved_not_refused = proved_passes;
       proved_is_true = proved_true;
     }
-  where
-    begins_no_end : (more : List ℕ) → begins_end (codes "desk" ++ more) ≡ false
-    begins_no_end more = refl

@@ -21,3 +21,12 @@ returns-in_err-write_text-in-Repair g c =
 pub returns-in_ok-write_text-in-Repair : goal.returns-in_ok-write_text-in-Repair
 returns-in_ok-write_text-in-Repair g c =
     follow _ _ _ _ _ _ _ _ _ _ c.in_ok-write_text-in-Repair.ensures c.write_repair_fault.ensures (ap reason_text c.in-Repair.is)
+
+pub returns-in_err-write_text-in-Optimal : goal.returns-in_err-write_text-in-Optimal
+returns-in_err-write_text-in-Optimal g c =
+    let p = err_from_is_err_and c.from_residual-in_err-write_text-in-Optimal.result c.from_residual-in_err-write_text-in-Optimal.ensures.1 in
+    rw p.1 (cut _ _ _ _ _ _ _ c.in_err-write_text-in-Optimal.ensures (ap reason_text c.in-Optimal.is))
+
+pub returns-in_ok-write_text-in-Optimal : goal.returns-in_ok-write_text-in-Optimal
+returns-in_ok-write_text-in-Optimal g c =
+    follow _ _ _ _ _ _ _ _ _ _ c.in_ok-write_text-in-Optimal.ensures c.write_optimal_fault.ensures (ap reason_text c.in-Optimal.is)
