@@ -38,3 +38,5 @@ pub mod SomeAnswer
 pub mod FirstWideNote
 pub mod StartMeaning
 pub mod LawLemmas
+pub mod ClimbPaths
+pub mod ClimbNotes
