@@ -40,3 +40,5 @@ pub mod StartMeaning
 pub mod LawLemmas
 pub mod ClimbPaths
 pub mod ClimbNotes
+pub mod BestSolution
+pub mod BestEnd
