@@ -38,3 +38,13 @@ pub mod SomeAnswer
 pub mod FirstWideNote
 pub mod StartMeaning
 pub mod LawLemmas
+pub mod ClimbReadings
+pub mod ClimbSteps
+pub mod ClimbMultipliers
+pub mod ClimbPaths
+pub mod ClimbNotes
+pub mod BestSolution
+pub mod BestEnd
+pub mod ClimbAccepted
+pub mod ClimbPlaces
+pub mod ClimbLoop

@@ -20,9 +20,28 @@
 //! ```
 //!
 //! In 16 bits the second pivot of the first would need 199 times -200 in row 1, column 0.
+//!
+//! [`climb_bits`] finds the solution with the greatest margin: by so much are all strict rows but the row of ones above 0 at
+//! least, over a total to which each column counts what it is given. Its *climbing path* is that of the system without the row
+//! of ones, under a cap of these counts, and goes on to where no column can enter. The [`Optimum`] that is read there has
+//! multipliers besides, which show that no solution has a greater margin (`laws::climb_is_best`). The path ends, and at a width
+//! it has exactly one answer (`laws::climb_ends`): the optimum, or a [`ClimbNote`] of its first number that passes the width.
+//!
+//! Over two columns let the strict rows be those of ones, (1, 0) and (0, 1), and let the columns count 1 and 3; over one column
+//! let them be that of ones and (1), and let the column count 200:
+//!
+//! ```text
+//! climb_bits(alloc, &s, &top, Bits::B15)   Ok(Optimum { solution: [1, 1], multipliers: weak [], strict [0, 1, 3] })
+//! climb_bits(alloc, &t, &high, Bits::B15)  Err(Wide(ClimbNote { path: [(1, 0), (0, 1)], place: Scale(0) }))
+//! ```
+//!
+//! In the first the margin is 1/4: both rows are 1, and the total is 1 + 3. In column 0 the rows, each times its multiplier, sum
+//! to 1, and in column 1 to 3: each is what the column counts, times the margin, times 0 + 1 + 3. In the second the multiplier
+//! of (1) is 200, and 200 times 200 passes 15 bits.
 
 mod choose;
 mod climb;
+mod climb_end;
 mod fault;
 mod feasible;
 mod infeasible;

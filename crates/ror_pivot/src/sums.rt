@@ -2,7 +2,7 @@
 
 ghost use Rattle.std.specs.Prelude.{◌≡◌, ◌<◌, ◌≤◌, length, pos, ◌*ℤ◌, ◌+ℤ◌, unsigned_abs, map, ◌≤ℤ◌};
 ghost use Rattle.std.specs.List.{AllByRecursion};
-ghost use Rattle.ror_integers.specs.Vectors.{absolute_dot, column};
+ghost use Rattle.ror_integers.specs.Vectors.{absolute_dot, column, total, NoneNegative};
 ghost use Rattle.ror_word.specs.Within.{IsWithin, GivesExact};
 
 use ror_system::Row;
@@ -58,7 +58,7 @@ impl<W: Word> Product<W> {
 }
 
 /// The absolute value of a word's product with a number, or `None` where it passes `MOST`.
-fn absolute_product<W: Word>(word: W, number: i128) -> Option<W>
+pub(crate) fn absolute_product<W: Word>(word: W, number: i128) -> Option<W>
     requires { IsWithin W.most (W.value word) }
     ensures { GivesExact W.value W.most result (pos (unsigned_abs (number *ℤ W.value word))) }
 {
@@ -103,6 +103,19 @@ pub(crate) fn plus_column<W: Word>(start: W, multipliers: &[W], rows: &[Row], j:
     let mut sum = start;
     for i in 0..rows.len() {
         sum = sum.add(absolute_product(multipliers[i], rows[i].entry(j))?)?;
+    }
+    Some(sum)
+}
+
+/// The sum of words, none of them below 0, or `None` where it passes `MOST`.
+pub(crate) fn sum_of<W: Word>(words: &[W]) -> Option<W>
+    requires values { AllByRecursion (λ word. IsWithin W.most (W.value word)) words.now }
+    requires not_negative { NoneNegative (map W.value words.now) }
+    ensures { GivesExact W.value W.most result (total (map W.value words.now)) }
+{
+    let mut sum = W::ZERO;
+    for i in 0..words.len() {
+        sum = sum.add(words[i])?;
     }
     Some(sum)
 }

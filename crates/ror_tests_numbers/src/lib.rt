@@ -5,6 +5,8 @@
 #[cfg(test)]
 mod chain;
 #[cfg(test)]
+mod climb;
+#[cfg(test)]
 mod fraction;
 #[cfg(test)]
 mod made;

@@ -52,7 +52,7 @@ fn row_of(alloc: Global, entries: &[i128]) -> Option<Row>
 }
 
 /// The number, unless it is the least of 128 bits.
-fn narrow(number: i128) -> Option<i128>
+pub(crate) fn narrow(number: i128) -> Option<i128>
     ensures { IfSome result IsNarrow }
 {
     if number == i128::MIN {

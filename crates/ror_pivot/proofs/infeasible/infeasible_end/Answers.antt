@@ -1,5 +1,5 @@
 -- What is read is what the objective gives, and no column's sum is too wide, or the first that is.
-use Rattle.std.proofs.Common.{◌++◌, List, ℤ, map, ap, ◌∙◌, arith}
+use Rattle.std.proofs.Common.{◌++◌, List, ℤ, pos, map, ap, ◌∙◌, arith}
 use Rattle.std.proofs.lemmas.Result.{err_from_is_err_and}
 use Rattle.ror_integers.specs.Vectors.{absolute_dot, column}
 use Rattle.ror_system.specs.Acceptance.{rows_of}
@@ -39,7 +39,7 @@ returns-in_err-ok_or-clause-exact g c =
     let is_weak = weak_read h c.of-shape.result rows c.index-rows-objective_row.result c.objective_row.result c.slack_column.result (map value weak) c.requires.tableau.rows_of_shape c.of-shape.ensures.value c.objective_row.ensures c.index-rows-objective_row.is c.slack_column.ensures c.in_ok-weak.ensures.exact in
     let is_strict = strict_read h c.of-shape.result rows c.index-rows-objective_row.result c.objective_row.result c.slack_column-2.result (map value strict) c.requires.tableau.rows_of_shape c.of-shape.ensures.value c.objective_row.ensures c.index-rows-objective_row.is c.slack_column-2.ensures c.in_ok-strict.ensures.exact in
     let sum = simp (c.as_slice.ensures.value, c.as_slice-in-loop-j.ensures.value) at c.column_sum.ensures in
-    let over = sum_not_given value most c.column_sum.result (Wide (ColumnSum j)) c.in_err-ok_or.field-0.0 (absolute_dot (map value weak ++ map value strict) (column (rows_of s) j)) c.in_err-ok_or.ensures.value sum in
+    let over = sum_not_given value most c.column_sum.result (Wide (ColumnSum j)) c.in_err-ok_or.field-0.0 (pos (absolute_dot (map value weak ++ map value strict) (column (rows_of s) j))) c.in_err-ok_or.ensures.value sum in
     let exit = err_from_is_err_and c.from_residual-in_err-ok_or.result c.from_residual-in_err-ok_or.ensures.1 in
     rw (exit.1, exit.2) (column_over {V = List ℤ × List ℤ} most s c.of-shape.result rows (map value weak) (map value strict) j c.in_err-ok_or.field-0.0 (weak_multipliers_at h rows, strict_multipliers_at h rows) c.of-shape.ensures.value is_weak is_strict c.loop-j-test.true over.0 over.1 c.loop-j.invariant)
 
@@ -53,7 +53,7 @@ loop-j-preserved g c =
     let j = c.loop-j.j in
     let sum = simp (c.as_slice.ensures.value, c.as_slice-in-loop-j.ensures.value) at c.column_sum.ensures in
     narrow_more most (weak ++ strict) rows j
-    (sum_given value most c.column_sum.result (Wide (ColumnSum j)) c.in_ok-ok_or.field-0 (absolute_dot (weak ++ strict) (column rows j)) c.in_ok-ok_or.ensures.value sum)
+    (sum_given value most c.column_sum.result (Wide (ColumnSum j)) c.in_ok-ok_or.field-0 (pos (absolute_dot (weak ++ strict) (column rows j))) c.in_ok-ok_or.ensures.value sum)
     c.loop-j.invariant
 
 pub returns-clause-exact : goal.returns-clause-exact
