@@ -1,8 +1,8 @@
 -- Heads as texts, both ways, and the lines of desks read one after the other.
-use Rattle.std.proofs.Common.{◌≡◌, ℕ, inl, inr, suc, ◌+◌, ◌<◌, ◌≤◌, ◌^◌, Bool, true, false, not, eqb, ltb, ◌||◌, ◌&&◌, List, [], ◌∷◌, ◌++◌, length, drop, get_or, Result, Ok, Err, refl, sym, ap, subst, ◌∙◌, append_assoc, arith, length-append, drop-cons}
+use Rattle.std.proofs.Common.{◌≡◌, ℕ, zero, inl, inr, suc, ◌+◌, ◌<◌, ◌≤◌, ◌^◌, Bool, true, false, not, eqb, ltb, ◌||◌, ◌&&◌, List, [], ◌∷◌, ◌++◌, length, drop, get_or, Result, Ok, Err, refl, sym, ap, subst, ◌∙◌, append_assoc, arith, length-append, drop-cons}
 use Rattle.std.specs.Prelude.{codes, nat_eq, nat_le, IfSome}
 use Rattle.std.specs.List.{flat_map, list_any, starts_with, AllByRecursion}
-use Rattle.std.specs.Str.{bytes_eq, is_utf8}
+use Rattle.std.specs.Str.{IsUtf8, bytes_eq, is_utf8}
 use Rattle.std.proofs.lemmas.Bool.{and_from, and_parts, ne_eqb, eqb-true, not-true, not-false, not_from_false, or_from, ltb-false, cases_Bool, cond-true, cond-false}
 use Rattle.std.proofs.lemmas.Bool.Decides.{Decides-eqb}
 use Rattle.std.proofs.lemmas.List.{drop_all}
@@ -25,7 +25,7 @@ use Rattle.ror_report.specs.Text.{numbered_text}
 use Rattle.ror_report.proofs.LineForms.{line_reads_back, line_is_read, numbered_again, numbered_sound}
 use Rattle.ror_group.specs.declared.head.HeadFault.{HeadFault}
 use Rattle.ror_group.specs.declared.head.HeadFault.TheVariants as faults
-use Rattle.ror_group.specs.Head.{header_text, desk_words, desk_text, head_text, is_desk_name, head_fault, in_line, name_in, name_words, desk_line, begins_desk, desk_at, desks_at, count_at, head_at, no_desk_at, whole_head_at, IsHeadText}
+use Rattle.ror_group.specs.Head.{header_text, desk_words, desk_text, head_text, is_visible_name, is_desk_name, head_fault, in_line, name_in, name_words, desk_line, begins_desk, desk_at, desks_at, count_at, head_at, no_desk_at, whole_head_at, IsHeadText}
 
 -- ---- the loop
 
@@ -33,7 +33,7 @@ desks_step : (name : List ℕ) (names : List (List ℕ)) (c : Cursor) → desks_
 unfolding desks_at
 desks_step name names c = refl
 
-rest_is : (xs : List (List ℕ)) (i : ℕ) (x : List ℕ) → i < length xs → x ≡ get_or xs i x → drop i xs ≡ x ∷ drop (i + 1) xs
+pub rest_is : (xs : List (List ℕ)) (i : ℕ) (x : List ℕ) → i < length xs → x ≡ get_or xs i x → drop i xs ≡ x ∷ drop (i + 1) xs
 rest_is xs i x within is =
     let next : suc i ≡ i + 1 = omega arith in
     drop-cons xs i x within ∙ ap (λ (y : List ℕ). y ∷ drop (suc i) xs) (sym is) ∙ ap (λ (n : ℕ). x ∷ drop n xs) next
@@ -101,6 +101,15 @@ name_words_sound place ws name e =
     let a = bind_ok (after_word place (codes "desk") ws) (λ more. name_in place more) name e in
     let said = name_in_sound place a.0 name a.2 in
     (after_word_sound place (codes "desk") ws a.0 a.1 ∙ said.0, said.1)
+
+-- a visible name that is UTF-8 is one that a session may have
+pub name_allowed : (name : List ℕ) → is_visible_name name ≡ true → IsUtf8 name → is_desk_name name ≡ true
+name_allowed name visible utf8 = and_from (is_visible_name name) (is_utf8 name) visible (is_utf8-from_IsUtf8 name utf8)
+
+pub named_at : (P : List ℕ → Type 0) (names : List (List ℕ)) (i : ℕ) (name : List ℕ) → i < length names → name ≡ get_or names i name → AllByRecursion P names → P name
+named_at P [] i name within is all = absurd (omega arith)
+named_at P (x ∷ xs) zero name within is all = subst P (sym is) all.0
+named_at P (x ∷ xs) (suc i) name within is all = named_at P xs i name (omega arith) is all.1
 
 -- ---- the line of a desk
 

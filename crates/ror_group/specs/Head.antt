@@ -33,10 +33,13 @@ desk_text name = line_text (desk_words name)
 unfoldable pub head_text : List (List ℕ) → List ℕ
 head_text names = header_text ++ (numbered_text (codes "desks") (length names) ++ flat_map desk_text names)
 
--- a session may have a desk of this name: it is not too long, is UTF-8, and has no blank and no control character
+-- the name is not too long, and has no blank and no control character
+abbrev pub is_visible_name : List ℕ → Bool
+is_visible_name name = nat_le (length name) MOST_DESK_NAME_BYTES && not (has_control (name ∷ []))
+
+-- a session may have a desk of this name, which is UTF-8 besides
 abbrev pub is_desk_name : List ℕ → Bool
-is_desk_name name =
-    nat_le (length name) MOST_DESK_NAME_BYTES && not (has_control (name ∷ [])) && is_utf8 name
+is_desk_name name = is_visible_name name && is_utf8 name
 
 -- ---- the reading
 

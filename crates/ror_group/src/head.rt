@@ -8,7 +8,7 @@ ghost use Rattle.ror_proof.specs.Reading.{proof_fault, IsProofFaultWithin};
 ghost use Rattle.ror_report.specs.Reading.{numbered_line};
 ghost use Rattle.ror_report.specs.Text.{numbered_text};
 ghost use Rattle.ror_group.specs.Head as spec;
-ghost use Rattle.ror_group.specs.Head.{desk_text, head_at, head_fault, head_text, header_text, is_desk_name, whole_head_at, IsHeadFaultWithin};
+ghost use Rattle.ror_group.specs.Head.{desk_text, head_at, head_fault, head_text, header_text, is_desk_name, is_visible_name, whole_head_at, IsHeadFaultWithin};
 ghost use Rattle.ror_group.specs.declared.head.HeadFault.TheVariants.{Line};
 
 use itoa::Buffer;
@@ -213,13 +213,15 @@ pub fn may_name(name: &[u8]) -> bool
     name.len() <= MOST_DESK_NAME_BYTES && !has_control(&[name]) && is_utf8(name)
 }
 
-/// The head of a report on these desks. It asks that there are fewer than 2^32, each of a name that a session may have, so
-/// that the text is read again.
+/// The head of a report on these desks. It asks that there are fewer than 2^32, each of a name that is not too long and has no
+/// blank and no control character: so each is one that a session may have, since it is a text, and the head is read again.
 #[tactic(auto, unfolding(crate::specs::Head::head_text))]
 pub fn print_head(alloc: Global, names: &[Text]) -> Result<Vec<u8>, AllocError>
     requires few { length names.now < 2 ^ 32 }
-    requires named { AllByRecursion (λ name. is_desk_name name ≡ true) names.now }
+    requires visible { AllByRecursion (λ name. is_visible_name name ≡ true) names.now }
     ensures text { IfOk result (λ text. text.items ≡ head_text names.now) }
+    ensures allowed { IfOk result
+        (λ _. AllByRecursion (λ name. is_desk_name name ≡ true) names.now) }
 {
     let mut text = Vec::new(alloc);
     text.extend_from_slice(header())?;
@@ -241,7 +243,9 @@ fn write_count(text: &mut Vec<u8>, desks: u32) -> Result<(), AllocError>
 }
 
 fn write_desks(text: &mut Vec<u8>, names: &[Text]) -> Result<(), AllocError>
-    ensures { OnOk result (text.new.items ≡ text.old.items ++ flat_map desk_text names.now) }
+    requires { AllByRecursion (λ name. is_visible_name name ≡ true) names.now }
+    ensures text { OnOk result (text.new.items ≡ text.old.items ++ flat_map desk_text names.now) }
+    ensures allowed { OnOk result (AllByRecursion (λ name. is_desk_name name ≡ true) names.now) }
 {
     'names: for name in names {
         write_desk(text, name.as_str().as_bytes())?;

@@ -2,7 +2,7 @@
 
 ghost use Rattle.std.specs.Prelude.{◌≡◌, true, IsTrue};
 ghost use Rattle.std.specs.List.{AllByRecursion};
-ghost use Rattle.ror_group.specs.Head.{is_desk_name};
+ghost use Rattle.ror_group.specs.Head.{is_visible_name};
 
 use ror_group::head::{HeadFault, check_head, may_name, print_head};
 use ror_proof::ProofFault;
@@ -22,7 +22,7 @@ fn desks(alloc: Global) -> Result<Vec<Text>, AllocError> {
 
 /// Whether a session may have desks of these names.
 fn are_names(names: &[Text]) -> bool
-    ensures { IsTrue result → AllByRecursion (λ name. is_desk_name name ≡ true) names.now }
+    ensures { IsTrue result → AllByRecursion (λ name. is_visible_name name ≡ true) names.now }
 {
     match names {
         [] => true,

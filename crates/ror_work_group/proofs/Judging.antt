@@ -1,9 +1,8 @@
 -- What a check of a group's report comes to, by its steps.
-use Rattle.std.proofs.Common.{◌≡◌, ℕ, zero, suc, ◌≤◌, ◌<◌, true, false, List, [], ◌∷◌, length, get_or, None, Ok, Err, refl, sym, subst, arith}
+use Rattle.std.proofs.Common.{◌≡◌, ℕ, ◌≤◌, true, false, List, [], ◌∷◌, length, None, Ok, Err, refl, sym, subst, arith}
 use Rattle.std.specs.Prelude.{IfSome, nat_le}
 use Rattle.std.specs.List.{AllByRecursion, list_any}
-use Rattle.std.specs.Str.{IsUtf8, is_utf8}
-use Rattle.std.proofs.lemmas.Str.{is_utf8-from_IsUtf8}
+use Rattle.std.specs.Str.{IsUtf8}
 use Rattle.ror_text.specs.Cursor.{Cursor}
 use Rattle.ror_text.specs.Lines.{is_control}
 use Rattle.ror_statement.specs.declared.statement.Statement.{Statement}
@@ -24,7 +23,7 @@ use Rattle.ror_closing.specs.Closing.{AreClosingLists}
 use Rattle.ror_group.specs.declared.entry.Entry.{Entry}
 use Rattle.ror_group.specs.declared.head.HeadFault.{HeadFault}
 use Rattle.ror_group.specs.declared.head.HeadFault.TheVariants as heads
-use Rattle.ror_group.specs.Head.{is_desk_name, head_fault, whole_head_at}
+use Rattle.ror_group.specs.Head.{is_visible_name, head_fault, whole_head_at}
 use Rattle.ror_entries.specs.declared.check.EntryFault.{EntryFault}
 use Rattle.ror_entries.specs.declared.check.EntryFault.TheVariants as entry_faults
 use Rattle.ror_entries.specs.Steps.{IfRefused}
@@ -94,14 +93,12 @@ clean_control : (name : List ℕ) → IsClean name → list_any is_control name 
 clean_control [] clean = refl
 clean_control (b ∷ bs) clean = let here = clean.0 in let rest = clean_control bs clean.1 in grind (arith, here, rest)
 
-pub desk_named : (name : List ℕ) → length name ≤ MOST_DESK_NAME_BYTES → IsClean name → IsUtf8 name → is_desk_name name ≡ true
-desk_named name short clean utf8 =
+name_visible : (name : List ℕ) → length name ≤ MOST_DESK_NAME_BYTES → IsClean name → is_visible_name name ≡ true
+name_visible name short clean =
     let none = clean_control name clean in
-    let text : is_utf8 name ≡ true = is_utf8-from_IsUtf8 name utf8 in
     let small : nat_le (length name) MOST_DESK_NAME_BYTES ≡ true = grind (arith, short) in
-    rw (small, none, text) refl
+    rw (small, none) refl
 
-pub named_at : (P : List ℕ → Type 0) (names : List (List ℕ)) (i : ℕ) (name : List ℕ) → i < length names → name ≡ get_or names i name → AllByRecursion P names → P name
-named_at P [] i name within is all = absurd (omega arith)
-named_at P (x ∷ xs) zero name within is all = subst P (sym is) all.0
-named_at P (x ∷ xs) (suc i) name within is all = named_at P xs i name (omega arith) is all.1
+pub names_visible : (names : List (List ℕ)) → AllByRecursion (λ name. length name ≤ MOST_DESK_NAME_BYTES) names → AllByRecursion IsClean names → AllByRecursion (λ name. is_visible_name name ≡ true) names
+names_visible [] short clean = tt
+names_visible (name ∷ names) short clean = (name_visible name short.0 clean.0, names_visible names short.1 clean.1)

@@ -1,6 +1,6 @@
 //! The report of a group: its head, the entry of each pair, each written before the next one is made, and its end.
 
-ghost use Rattle.std.specs.Prelude.{◌≡◌, ◌≤◌, true, length, IfOk};
+ghost use Rattle.std.specs.Prelude.{◌≡◌, length, IfOk};
 ghost use Rattle.std.specs.List.{AllByRecursion};
 ghost use Rattle.ror_pivot.specs.Answers.{most_of};
 ghost use Rattle.ror_session.specs.Sound.{IsSound};
@@ -9,9 +9,6 @@ ghost use Rattle.ror_value.specs.Over.{IsLawfulIn};
 ghost use Rattle.ror_bench.specs.Bench.{LeavesNumbers};
 ghost use Rattle.ror_bench.specs.Reports.{NamesADesk};
 ghost use Rattle.ror_closing.specs.Closing.{AreSuited, AreClosingLists};
-ghost use Rattle.ror_session.specs.Grammar.{IsClean};
-ghost use Rattle.ror_session.specs.declared.limits.TheConstants.{MOST_DESK_NAME_BYTES};
-ghost use Rattle.ror_group.specs.Head.{is_desk_name};
 ghost use Rattle.ror_words.specs.Named.{inputs_of};
 ghost use Rattle.ror_frame.specs.States.{shelf_state, sink_state};
 ghost use Rattle.ror_frame.specs.Courses.{WritesDue, IsWork};
@@ -27,7 +24,7 @@ use ror_io::{Shelf, Sink, write_all};
 use ror_pivot::Bits;
 use ror_session::{Line, Session};
 use ror_statement::Statement;
-use ror_text::{Items, Text};
+use ror_text::Items;
 use ror_words::FileNames;
 use ror_xmcda::Input;
 use std::alloc::{AllocError, Global};
@@ -80,21 +77,9 @@ fn write_group<O: Sink>(
     let mut bench = Bench::new(alloc, input, desks)?;
     let lists = suited_lists(alloc, &mut bench, desks, lines)?;
     let names = session.desks.as_slice();
-    name_each(names);
     let head = print_head(alloc, names)?;
     let mut maker = GroupMaker::new(alloc, bench, lists.as_slice(), bits)?;
     write_report(alloc, head.as_slice(), &mut maker, out)
-}
-
-/// Each name of a desk is one that a session may have. It does nothing: that a text is UTF-8 is known of each one alone.
-fn name_each(names: &[Text])
-    requires short { AllByRecursion (λ name. length name ≤ MOST_DESK_NAME_BYTES) names.now }
-    requires clean { AllByRecursion IsClean names.now }
-    ensures { AllByRecursion (λ name. is_desk_name name ≡ true) names.now }
-{
-    'names: for name in names {
-        let _ = name.as_str();
-    }
 }
 
 /// The closing lists of a session without an unsuited line. Its one error is want of memory.

@@ -10,8 +10,9 @@ use Rattle.ror_closing.proofs.ClosingLemmas.{closing_same}
 use Rattle.ror_closing.proofs.LawfulLists.{lawful_lists}
 use Rattle.ror_frame.specs.Inputs.{bench_for}
 use Rattle.ror_frame.proofs.Desks.{numbers_left, lawful_desks}
-use Rattle.ror_group.specs.Head.{is_desk_name, head_text}
+use Rattle.ror_group.specs.Head.{is_visible_name, is_desk_name, head_text}
 use Rattle.ror_work_group.proofs.KindLemmas.{are_kind}
+use Rattle.ror_work_group.proofs.Judging.{names_visible}
 use Rattle.ror_work_group.proofs.Writing.{report_same}
 use Rattle.ror_work_group.proofs.write.write_group.Goals as goal
 
@@ -24,6 +25,9 @@ suited_lists-requires-clause-numbers g c =
     let sound = c.requires.sound.few_lines in
     let few : length c.as_slice-lines.result.now ≤ MOST_LINES = omega (arith, same, sound) in
     subst (AllByRecursion (LeavesNumbers (length c.as_slice-lines.result.now))) (sym held.1) (numbers_left i (length s.desks) (length c.as_slice-lines.result.now) c.requires.lawful few)
+
+pub print_head-requires-clause-visible : goal.print_head-requires-clause-visible
+print_head-requires-clause-visible g c = subst (AllByRecursion (λ name. is_visible_name name ≡ true)) (sym c.as_slice-names.ensures) (names_visible c.args.session.now.desks c.requires.sound.short c.requires.sound.clean_desks)
 
 pub returns-in_err-lists : goal.returns-in_err-lists
 returns-in_err-lists g c =
@@ -44,7 +48,7 @@ returns g c =
     let held : HoldTheSame c.in_ok-bench.bench (bench_for i s) = subst (λ (n : ℕ). HoldTheSame c.in_ok-bench.bench (bench_of i n)) c.len-desks.ensures c.in_ok-bench.ensures.begun in
     let desks = c.requires.sound.few_desks in
     let few : length s.desks < 2 ^ 32 = omega (arith, desks) in
-    let named : AllByRecursion (λ name. is_desk_name name ≡ true) s.desks = subst (AllByRecursion (λ name. is_desk_name name ≡ true)) c.as_slice-names.ensures c.name_each.ensures in
+    let named : AllByRecursion (λ name. is_desk_name name ≡ true) s.desks = subst (AllByRecursion (λ name. is_desk_name name ≡ true)) c.as_slice-names.ensures c.in_ok-head.ensures.allowed in
     let told = closing_same c.in_ok-bench.bench (bench_for i s) held c.as_slice-lines.result.now lists c.in_ok-lists.ensures.closing in
     let closing : AreClosingLists (bench_for i s) s.lines lists = subst (λ (ls : List Line). AreClosingLists (bench_for i s) ls lists) c.as_slice-lines.ensures told in
     let table : c.in_ok-maker.maker.table ≡ i.table = c.in_ok-maker.ensures.table ∙ c.in_ok-lists.ensures.table ∙ held.0 in
