@@ -29,6 +29,4 @@ mod stop;
 pub use bench::{Bench, BlockFault, Passed};
 pub use generated::{Generated, MOST_GENERATED, generate_input};
 pub use names::{MOST_RELATED, statement_of};
-pub use report::{
-    Accepted, MOST_REPORT_BYTES, Reason, Rejection, ReportError, check_report, misread,
-};
+pub use report::{Accepted, MOST_REPORT_BYTES, Reason, Rejection, ReportError, check_report};

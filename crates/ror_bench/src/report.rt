@@ -262,9 +262,8 @@ fn refused_block(block: u32, fault: BlockFault) -> ReportError
     ReportError::Rejected(Rejection { block, reason })
 }
 
-/// The rejection of what is not as it is to be, by the number of its line, in this block of a report of at most
-/// `MOST_REPORT_BYTES`; or that memory ran out.
-pub fn misread(bytes: &[u8], block: u32, fault: ProofFault) -> ReportError
+/// The error of a block or a last line that is not as it is to be, by the number of its line.
+fn misread(bytes: &[u8], block: u32, fault: ProofFault) -> ReportError
     requires { length bytes.now ≤ MOST_REPORT_BYTES }
     ensures { result ≡ misread_error bytes.now block fault }
 {

@@ -1,19 +1,21 @@
 //! The check of the entries of a report, one after another.
 
-ghost use Rattle.std.specs.Prelude.{◌≡◌, ◌≢◌, ℕ, ◌<◌, ◌≤◌, ◌+◌, ◌-◌, List, drop, length, IfOk, IfErr, OnOk};
+ghost use Rattle.std.specs.Prelude.{◌≡◌, ◌≢◌, ℕ, ◌<◌, ◌≤◌, ◌+◌, ◌-◌, List, drop, min, length, IfOk, IfErr, OnOk};
 ghost use Rattle.ror_text.specs.Cursor.{cursor_at};
+ghost use Rattle.ror_text.specs.Lines.{line_of};
 ghost use Rattle.ror_text.specs.Reading.{Gives};
 ghost use Rattle.ror_proof.specs.Reading.{proof_fault, IsProofFaultWithin};
 ghost use Rattle.ror_report.specs.Text.{end_text};
 ghost use Rattle.ror_bench.specs.Reports.{IfRejected, IsFreeOfMemory, HoldsNoMemory};
-ghost use Rattle.ror_bench.specs.Steps.{rejected};
+ghost use Rattle.ror_bench.specs.Steps.{misread_error, rejected};
 ghost use Rattle.ror_entries.specs.Kind.{Kind, IsKind, IsSameKind};
 ghost use Rattle.ror_entries.specs.Reports.{IsProvedEntries, IsAcceptedEntries, IsRejectedEntries, RejectsNext, RejectsEnd};
 ghost use Rattle.ror_entries.specs.Steps.{IfRefused, IsNextEntry, IsEarlyEnd, IsLateEntry, refused_error};
 
-use ror_bench::{Accepted, MOST_REPORT_BYTES, Passed, Reason, Rejection, ReportError, misread};
+use ror_bench::{Accepted, MOST_REPORT_BYTES, Passed, Reason, Rejection, ReportError};
 use ror_proof::ProofFault;
 use ror_report::{begins_end, read_end};
+use ror_text::lines::line_number;
 use std::alloc::Global;
 
 /// Why an entry is not accepted.
@@ -222,4 +224,26 @@ fn refused_entry(block: u32, fault: EntryFault) -> ReportError
         EntryFault::Refused(reason) => ReportError::Rejected(Rejection { block, reason }),
         EntryFault::Memory => ReportError::Memory,
     }
+}
+
+/// The rejection of what is not as it is to be, by the number of its line, in this block of a report of at most
+/// `MOST_REPORT_BYTES`; or that memory ran out.
+pub fn misread(bytes: &[u8], block: u32, fault: ProofFault) -> ReportError
+    requires { length bytes.now ≤ MOST_REPORT_BYTES }
+    ensures { result ≡ misread_error bytes.now block fault }
+{
+    let reason = match fault {
+        ProofFault::BadLine(place) => Reason::BadLine(line_at(bytes, place)),
+        ProofFault::BadNumber(place) => Reason::BadNumber(line_at(bytes, place)),
+        ProofFault::Memory => return ReportError::Memory,
+    };
+    ReportError::Rejected(Rejection { block, reason })
+}
+
+/// The number of the line of the byte at a place, or of the bytes' end.
+fn line_at(bytes: &[u8], place: usize) -> u32
+    requires { length bytes.now ≤ MOST_REPORT_BYTES }
+    ensures { result ≡ line_of bytes.now (min place (length bytes.now)) }
+{
+    line_number(bytes, place.min(bytes.len()))
 }

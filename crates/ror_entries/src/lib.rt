@@ -18,6 +18,6 @@ mod headed;
 pub mod laws;
 mod write;
 
-pub use check::{EntryFault, Judge, check_entries};
+pub use check::{EntryFault, Judge, check_entries, misread};
 pub use headed::{check_headed, write_headed};
 pub use write::{EntriesStop, Maker, write_entries};

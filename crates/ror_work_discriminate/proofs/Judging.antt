@@ -1,6 +1,6 @@
 -- What a check of a report comes to, by its steps.
-use Rattle.std.proofs.Common.{◌≡◌, ◌≢◌, ℕ, ◌<◌, ◌≤◌, List, length, Ok, Err, refl, sym, subst}
-use Rattle.std.specs.Prelude.{slice_get, Some}
+use Rattle.std.proofs.Common.{◌≡◌, ◌≢◌, ◌↔◌, ℕ, ◌<◌, ◌≤◌, Bool, true, false, List, length, Ok, Err, refl, sym, ap, ◌∙◌, subst}
+use Rattle.std.specs.Prelude.{slice_get, Some, IsTrue}
 use Rattle.ror_statement.specs.declared.statement.Statement.{Statement}
 use Rattle.ror_table.specs.Table.{DecisionTable, IsTable}
 use Rattle.ror_value.specs.declared.input.Input.{Input}
@@ -14,6 +14,7 @@ use Rattle.ror_bench.specs.declared.report.ReportError.{ReportError}
 use Rattle.ror_bench.specs.declared.report.ReportError.TheVariants as report_errors
 use Rattle.ror_bench.specs.declared.report.TheConstants.{MOST_REPORT_BYTES}
 use Rattle.ror_bench.specs.Reports.{IfRejected, HoldsNoMemory}
+use Rattle.ror_bench.proofs.UniqueLemmas.{one_some}
 use Rattle.ror_closing.specs.Closing.{AreClosingLists}
 use Rattle.ror_discriminate.specs.declared.entry.Entry.{Entry}
 use Rattle.ror_discriminate.specs.Head.{header_text}
@@ -57,3 +58,17 @@ pub accepted_too : (i : Input) (s : Session) (bytes : List ℕ) (x : Accepted) �
 accepted_too i s bytes x table lawful sound p =
     let a = p.1 in
     record { lists = a.lists; closing = a.closing; holds = headed_is_accepted header_text (kind_over i s a.lists) (kind_of_lists i s table lawful sound a.lists a.closing) bytes x a.holds }
+
+-- ---- the desk at a place
+
+pub is_own : (names : List (List ℕ)) (place : ℕ) (name other : List ℕ) (b : Bool) → slice_get names place ≡ Some name → (IsTrue b ↔ (name ≡ other)) → b ≡ true → slice_get names place ≡ Some other
+is_own names place name other b there same is = there ∙ ap Some (same.0 (subst IsTrue (sym is) tt))
+
+pub is_other : (names : List (List ℕ)) (place : ℕ) (name other : List ℕ) (b : Bool) → slice_get names place ≡ Some name → (IsTrue b ↔ (name ≡ other)) → b ≡ false → slice_get names place ≢ Some other
+is_other names place name other b there same is found =
+    let own : name ≡ other = one_some (slice_get names place) name other there found in
+    off b is (same.1 own)
+  where
+    off : (b : Bool) → b ≡ false → IsTrue b → ⊥
+    off true is yes = absurd (let no = is in cc)
+    off false is yes = absurd yes

@@ -23,7 +23,7 @@ use Rattle.ror_frame.specs.States.{SinkState, sink_state}
 use Rattle.ror_frame.specs.Courses.{WritesDue}
 use Rattle.ror_frame.specs.Inputs.{bench_for}
 use Rattle.ror_work_discriminate.specs.Entries.{IsGivenBody, IsProvedBody, IsGivenEntry, IsProvedEntry}
-use Rattle.ror_work_discriminate.specs.Discriminate.{OfClosing, kind_over, IsBegunBest, best_output}
+use Rattle.ror_work_discriminate.specs.Discriminate.{kind_over, IsBestReport, IsBegunBest, best_output}
 
 -- ---- given entries are proved
 
@@ -53,7 +53,7 @@ module _ (most : ℕ) (i : Input) (s : Session) (lists : List (List Statement)) 
   pub all_written : (x y : ℕ) (old new : Option (List ℕ)) (wide : Bool) → WritesHeaded header_text (kind_over i s lists) (IsGivenEntry most i.table s.desks lists) x y old new (Ok wide) → WritesDue (best_output most i s) (sink_state old x) (sink_state new y) (Ok wide)
   all_written x y old new wide had =
       let accepted = accepted_of (kind_over i s lists) had.2 in
-      let report = record { lists = lists; closing = closing; holds = (had.1, refl, had.2, had.3, accepted_whole had.1 had.2 had.3) } in
+      let report : IsBestReport most i s (header_text ++ had.1) accepted = record { lists = lists; closing = closing; holds = (had.1, refl, had.2, had.3, accepted_whole had.1 had.2 had.3) } in
       (had.0, tt, header_text ++ had.1, (accepted, report, had.4), had.5)
 
   pub write_failed : (x y : ℕ) (old new : Option (List ℕ)) → WritesHeaded header_text (kind_over i s lists) (IsGivenEntry most i.table s.desks lists) x y old new (Err entry_stops.Write) → WritesDue (best_output most i s) (sink_state old x) (sink_state new y) (Err stops.WriteFault)

@@ -72,12 +72,7 @@ fn fetch_report<F: Shelf>(
 }
 
 /// Checks the bytes of a report, and counts its entries.
-fn entries_in(
-    alloc: Global,
-    input: Input,
-    session: Session,
-    bytes: &[u8],
-) -> Result<Accepted, Stop>
+fn entries_in(alloc: Global, input: Input, session: Session, bytes: &[u8]) -> Result<Accepted, Stop>
     requires lawful { IsLawfulIn input.table input.opening }
     requires sound { IsSound session }
     requires suited { AreSuited session.lines }

@@ -1,19 +1,19 @@
 //! The check of the entries of a report of most discriminating functions.
 
-ghost use Rattle.std.specs.Prelude.{◌≡◌, OnOk, IfErr};
+ghost use Rattle.std.specs.Prelude.{◌≡◌, ◌↔◌, ◌<◌, length, slice_get, Some, IsTrue, IfOk, OnOk, IfErr};
 ghost use Rattle.ror_value.specs.Over.{IsLawfulIn};
 ghost use Rattle.ror_bench.specs.Reports.{IsFreeOfMemory};
 ghost use Rattle.ror_entries.specs.Steps.{IfRefused};
 ghost use Rattle.ror_system.specs.declared.accept.Multipliers.{Multipliers};
 ghost use Rattle.ror_discriminate.specs.declared.entry.EntryBody.TheVariants as bodies;
-ghost use Rattle.ror_work_discriminate.specs.Entries.{best_kind, entry_passed, IsProvedBody, RefusesBody};
+ghost use Rattle.ror_work_discriminate.specs.Entries.{best_kind, entry_passed, IsProvedBody, RefusesBody, IsProvedEntry, RefusesEntry};
 ghost use Rattle.ror_work_discriminate.specs.Steps.{AreDesks};
 
 use crate::maker::is_wide;
 use ror_bench::{Bench, Passed, Reason};
 use ror_discriminate::{
-    ContradictionFault, Entry, EntryBody, OptimalFault, check_best, check_contradiction, read_entry,
-    says_nothing_strictly,
+    ContradictionFault, Entry, EntryBody, OptimalFault, check_best, check_contradiction,
+    read_entry, says_nothing_strictly,
 };
 use ror_entries::{EntryFault, Judge};
 use ror_pivot::Optimum;
@@ -92,13 +92,58 @@ impl<'a> Judge for BestJudge<'a> {
     }
 
     fn check(&mut self, alloc: Global, place: u32, entry: &Entry) -> Result<Passed, EntryFault> {
-        if self.names.as_slice()[place as usize] != entry.desk {
-            return Err(EntryFault::Refused(Reason::WrongBlock));
-        }
-        let list = self.lists[place as usize].as_slice();
-        check_body(alloc, self.bench.table(), list, &entry.body)?;
-        Ok(passed_of(entry))
+        let names = self.names.as_slice();
+        let lists = self.lists.as_slice();
+        check_entry(alloc, self.bench.table(), names, lists, place, entry)
     }
+}
+
+/// Whether the entry is of the desk at the place, and too wide or proved over its list; and what it counts as.
+fn check_entry(
+    alloc: Global,
+    table: &Table,
+    names: &[Text],
+    lists: &[Items<Statement>],
+    place: u32,
+    entry: &Entry,
+) -> Result<Passed, EntryFault>
+    requires desks { AreDesks table.now names.now lists.now }
+    requires due { place < length names.now }
+    ensures proved { OnOk result (IsProvedEntry table.now names.now lists.now place entry.now) }
+    ensures counted { IfOk result (λ passed. passed ≡ entry_passed entry.now) }
+    ensures refused { IfErr result
+        (IfRefused (RefusesEntry table.now names.now lists.now place entry.now)) }
+    ensures pure { IfErr result (IfRefused IsFreeOfMemory) }
+{
+    if !is_named(name_at(names, place), &entry.desk) {
+        return Err(EntryFault::Refused(Reason::WrongBlock));
+    }
+    let list = list_at(lists, place).as_slice();
+    check_body(alloc, table, list, &entry.body)?;
+    Ok(passed_of(entry))
+}
+
+/// The name of the desk at a place.
+pub(crate) fn name_at(names: &[Text], place: u32) -> &Text
+    requires { place < length names.now }
+    ensures { slice_get names.now place ≡ Some result.now }
+{
+    &names[place as usize]
+}
+
+/// Its list.
+pub(crate) fn list_at(lists: &[Items<Statement>], place: u32) -> &Items<Statement>
+    requires { place < length lists.now }
+    ensures { slice_get lists.now place ≡ Some result.now }
+{
+    &lists[place as usize]
+}
+
+/// Whether the two names are the same.
+fn is_named(name: &Text, other: &Text) -> bool
+    ensures { IsTrue result ↔ (name.now ≡ other.now) }
+{
+    name == other
 }
 
 /// What an entry counts as.
@@ -106,9 +151,15 @@ fn passed_of(entry: &Entry) -> Passed
     ensures { result ≡ entry_passed entry.now }
 {
     if is_wide(&entry.body) {
-        Passed { answers: 0, wide: 1 }
+        Passed {
+            answers: 0,
+            wide: 1,
+        }
     } else {
-        Passed { answers: 1, wide: 0 }
+        Passed {
+            answers: 1,
+            wide: 0,
+        }
     }
 }
 
@@ -129,7 +180,7 @@ fn check_body(
             margin,
             total,
             optimum,
-        } => check_function(alloc, table, list, *margin, *total, optimum),
+        } => check_function(alloc, table, list, margin, total, optimum),
         EntryBody::NoStrictRow => check_none(alloc, table, list),
         EntryBody::Contradiction(multipliers) => {
             check_multipliers(alloc, table, list, multipliers)
@@ -143,17 +194,17 @@ fn check_function(
     alloc: Global,
     table: &Table,
     list: &[Statement],
-    margin: i128,
-    total: i128,
+    margin: &i128,
+    total: &i128,
     optimum: &Optimum,
 ) -> Result<(), EntryFault>
     requires lawful { IsLawfulIn table.now list.now }
-    ensures proved { OnOk result (IsProvedBody table.now list.now (bodies.Best margin total optimum.now)) }
-    ensures refused { IfErr result (IfRefused (RefusesBody table.now list.now (bodies.Best margin total optimum.now))) }
+    ensures proved { OnOk result (IsProvedBody table.now list.now (bodies.Best margin.now total.now optimum.now)) }
+    ensures refused { IfErr result (IfRefused (RefusesBody table.now list.now (bodies.Best margin.now total.now optimum.now))) }
     ensures pure { IfErr result (IfRefused IsFreeOfMemory) }
 {
     match check_best(alloc, table, list, optimum) {
-        Ok(found) if found.least == margin && found.total == total => Ok(()),
+        Ok(found) if found.least == *margin && found.total == *total => Ok(()),
         Ok(_) => Err(EntryFault::Refused(Reason::WrongBlock)),
         Err(OptimalFault::Memory) => Err(EntryFault::Memory),
         Err(fault) => Err(EntryFault::Refused(Reason::Optimal(fault))),

@@ -1,12 +1,15 @@
 //! The making of the entries of a report of most discriminating functions.
 
-ghost use Rattle.std.specs.Prelude.{◌≡◌, ◌<◌, length, slice_get, Some, IfOk};
+ghost use Rattle.std.specs.Prelude.{◌≡◌, ◌<◌, true, length, slice_get, Some, IfOk};
 ghost use Rattle.ror_pivot.specs.Answers.{most_of};
+ghost use Rattle.ror_table.specs.Table.{IsTable};
 ghost use Rattle.ror_value.specs.Over.{IsLawfulIn};
-ghost use Rattle.ror_discriminate.specs.Text.{IsPrintableBody};
+ghost use Rattle.ror_discriminate.specs.Head.{is_desk_name};
+ghost use Rattle.ror_discriminate.specs.Text.{IsPrintableBody, IsPrintableEntry};
 ghost use Rattle.ror_work_discriminate.specs.Entries.{best_kind, is_wide_body, IsGivenBody, IsGivenEntry};
 ghost use Rattle.ror_work_discriminate.specs.Steps.{AreDesks, AreNames, IsWritable};
 
+use crate::judge::{list_at, name_at};
 use ror_bench::Bench;
 use ror_discriminate::{Best, DiscriminateFault, Entry, EntryBody, find_best, print_entry};
 use ror_entries::Maker;
@@ -80,13 +83,9 @@ impl Maker for BestMaker {
     }
 
     fn make(&mut self, alloc: Global, place: u32) -> Result<Entry, AllocError> {
-        let name = self.names.as_slice()[place as usize].as_str();
-        let list = self.lists[place as usize].as_slice();
-        let body = body_of(alloc, self.bench.table(), list, self.bits)?;
-        Ok(Entry {
-            desk: Text::copied(alloc, name)?,
-            body,
-        })
+        let names = self.names.as_slice();
+        let lists = self.lists.as_slice();
+        entry_of(alloc, self.bench.table(), names, lists, place, self.bits)
     }
 
     fn print(&self, alloc: Global, entry: &Entry) -> Result<Vec<u8>, AllocError> {
@@ -98,6 +97,36 @@ impl Maker for BestMaker {
     }
 }
 
+/// The entry of the desk at a place. Its one error is want of memory.
+fn entry_of(
+    alloc: Global,
+    table: &Table,
+    names: &[Text],
+    lists: &[Items<Statement>],
+    place: u32,
+    bits: Bits,
+) -> Result<Entry, AllocError>
+    requires desks { AreDesks table.now names.now lists.now }
+    requires names { AreNames names.now }
+    requires due { place < length names.now }
+    ensures given { IfOk result (IsGivenEntry (most_of bits) table.now names.now lists.now place) }
+    ensures printable { IfOk result IsPrintableEntry }
+{
+    let desk = copied_name(alloc, names, place)?;
+    let body = body_of(alloc, table, list_at(lists, place).as_slice(), bits)?;
+    Ok(Entry { desk, body })
+}
+
+/// The name of the desk at a place again, which is one that a session may have.
+fn copied_name(alloc: Global, names: &[Text], place: u32) -> Result<Text, AllocError>
+    requires names { AreNames names.now }
+    requires due { place < length names.now }
+    ensures there { IfOk result (λ name. slice_get names.now place ≡ Some name) }
+    ensures named { IfOk result (λ name. is_desk_name name ≡ true) }
+{
+    Text::copied(alloc, name_at(names, place).as_str())
+}
+
 /// What a list's most discriminating function is, or why there is none. Its one error is want of memory.
 fn body_of(
     alloc: Global,
@@ -105,6 +134,7 @@ fn body_of(
     list: &[Statement],
     bits: Bits,
 ) -> Result<EntryBody, AllocError>
+    requires table { IsTable table.now }
     requires lawful { IsLawfulIn table.now list.now }
     ensures given { IfOk result (IsGivenBody (most_of bits) table.now list.now) }
     ensures printable { IfOk result IsPrintableBody }

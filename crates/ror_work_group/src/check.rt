@@ -13,8 +13,8 @@ ghost use Rattle.ror_work_group.specs.Group.{ProvesGroup, RefusesGroup, check_gr
 
 use crate::judge::GroupJudge;
 use crate::write::suited_lists;
-use ror_bench::{Accepted, Bench, MOST_REPORT_BYTES, Reason, Rejection, misread};
-use ror_entries::check_entries;
+use ror_bench::{Accepted, Bench, MOST_REPORT_BYTES, Reason, Rejection};
+use ror_entries::{check_entries, misread};
 use ror_frame::{Refusal, Stop, conclude, fetch_suited, fetch_table, fetch_whole};
 use ror_group::head::{HeadFault, check_whole_head};
 use ror_io::{Shelf, Sink};
