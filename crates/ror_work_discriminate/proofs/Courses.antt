@@ -1,6 +1,5 @@
 -- What the files of both commands lead to is one thing.
 use Rattle.std.proofs.Common.{◌≡◌, ℕ, List, [], length, refl, sym, ap, ◌∙◌, subst, arith}
-use Rattle.std.specs.Str.{IsUtf8}
 use Rattle.ror_statement.specs.declared.statement.Statement.{Statement}
 use Rattle.ror_table.specs.Table.{IsTable}
 use Rattle.ror_value.specs.declared.input.Input.{Input}
@@ -31,12 +30,10 @@ use Rattle.ror_frame.specs.Inputs.{bench_for, over_report}
 use Rattle.ror_frame.proofs.CourseLemmas.{IsDecided}
 use Rattle.ror_frame.proofs.InputLemmas.{decided_suited}
 use Rattle.ror_frame.proofs.Desks.{lawful_desks}
-use Rattle.ror_entries.specs.Kind.{Kind, IsKind}
+use Rattle.ror_entries.specs.Kind.{IsKind}
 use Rattle.ror_entries.specs.Headed.{IsProvedHeaded, IsRejectedHeaded}
 use Rattle.ror_entries.proofs.HeadedLemmas.{one_headed_count, rejected_headed_not_proved, one_headed_rejection}
-use Rattle.ror_discriminate.specs.declared.entry.Entry.{Entry}
 use Rattle.ror_discriminate.specs.Head.{header_text}
-use Rattle.ror_work_discriminate.specs.Entries.{best_kind}
 use Rattle.ror_work_discriminate.specs.Steps.{AreDesks}
 use Rattle.ror_work_discriminate.specs.Discriminate.{OfClosing, kind_over, ProvesBest, IsBestRejection, too_long, at_fault, RefusesBest, best_output, discriminate_chore, proved_output, check_discriminate_chore}
 use Rattle.ror_work_discriminate.proofs.KindLemmas.{are_kind, one_reason, header_is_utf8}

@@ -1,6 +1,6 @@
 -- What a check of a report comes to, by its steps.
-use Rattle.std.proofs.Common.{◌≡◌, ◌≢◌, ◌↔◌, ℕ, ◌<◌, ◌≤◌, Bool, true, false, List, length, Ok, Err, refl, sym, ap, ◌∙◌, subst}
-use Rattle.std.specs.Prelude.{slice_get, Some, IsTrue}
+use Rattle.std.proofs.Common.{◌≡◌, ℕ, ◌≤◌, List, length, Err, refl}
+use Rattle.std.specs.Prelude.{slice_get, Some}
 use Rattle.ror_statement.specs.declared.statement.Statement.{Statement}
 use Rattle.ror_table.specs.Table.{DecisionTable, IsTable}
 use Rattle.ror_value.specs.declared.input.Input.{Input}
@@ -8,13 +8,11 @@ use Rattle.ror_value.specs.Over.{IsLawfulIn}
 use Rattle.ror_session.specs.declared.session.Session.{Session}
 use Rattle.ror_session.specs.Sound.{IsSound}
 use Rattle.ror_bench.specs.declared.report.Accepted.{Accepted}
-use Rattle.ror_bench.specs.declared.report.Reason.{Reason}
 use Rattle.ror_bench.specs.declared.report.Reason.TheVariants as reasons
 use Rattle.ror_bench.specs.declared.report.ReportError.{ReportError}
 use Rattle.ror_bench.specs.declared.report.ReportError.TheVariants as report_errors
 use Rattle.ror_bench.specs.declared.report.TheConstants.{MOST_REPORT_BYTES}
 use Rattle.ror_bench.specs.Reports.{IfRejected, HoldsNoMemory}
-use Rattle.ror_bench.proofs.UniqueLemmas.{one_some}
 use Rattle.ror_closing.specs.Closing.{AreClosingLists}
 use Rattle.ror_discriminate.specs.declared.entry.Entry.{Entry}
 use Rattle.ror_discriminate.specs.Head.{header_text}
@@ -25,11 +23,10 @@ use Rattle.ror_entries.specs.Headed.{IsAcceptedHeaded, IsRejectedHeaded}
 use Rattle.ror_entries.proofs.HeadedLemmas.{headed_is_accepted}
 use Rattle.ror_frame.specs.declared.stop.Refusal.{Refusal}
 use Rattle.ror_frame.specs.declared.stop.Refusal.TheVariants as refusals
-use Rattle.ror_frame.specs.declared.stop.Stop.{Stop}
 use Rattle.ror_frame.specs.Stops.{stop_at_report}
 use Rattle.ror_frame.specs.Courses.{IsTooLong, ReadAs}
 use Rattle.ror_frame.specs.Inputs.{bench_for}
-use Rattle.ror_work_discriminate.specs.Entries.{OfDeskAt, RefusesBody, RefusesEntry, at_fault}
+use Rattle.ror_work_discriminate.specs.Entries.{RefusesBody, RefusesEntry, at_fault}
 use Rattle.ror_work_discriminate.specs.Discriminate as commands
 use Rattle.ror_work_discriminate.specs.Discriminate.{kind_over, ProvesBest, IsAcceptedBest, RefusesBest}
 use Rattle.ror_work_discriminate.proofs.Courses.{kind_of_lists}
@@ -60,15 +57,3 @@ accepted_too i s bytes x table lawful sound p =
     record { lists = a.lists; closing = a.closing; holds = headed_is_accepted header_text (kind_over i s a.lists) (kind_of_lists i s table lawful sound a.lists a.closing) bytes x a.holds }
 
 -- ---- the desk at a place
-
-pub is_own : (names : List (List ℕ)) (place : ℕ) (name other : List ℕ) (b : Bool) → slice_get names place ≡ Some name → (IsTrue b ↔ (name ≡ other)) → b ≡ true → slice_get names place ≡ Some other
-is_own names place name other b there same is = there ∙ ap Some (same.0 (subst IsTrue (sym is) tt))
-
-pub is_other : (names : List (List ℕ)) (place : ℕ) (name other : List ℕ) (b : Bool) → slice_get names place ≡ Some name → (IsTrue b ↔ (name ≡ other)) → b ≡ false → slice_get names place ≢ Some other
-is_other names place name other b there same is found =
-    let own : name ≡ other = one_some (slice_get names place) name other there found in
-    off b is (same.1 own)
-  where
-    off : (b : Bool) → b ≡ false → IsTrue b → ⊥
-    off true is yes = absurd (let no = is in cc)
-    off false is yes = absurd yes

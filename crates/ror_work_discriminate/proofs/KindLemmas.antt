@@ -1,5 +1,5 @@
 -- The entries of a report of most discriminating functions are a kind, of which each is refused for one reason.
-use Rattle.std.proofs.Common.{◌≡◌, ◌≢◌, ℕ, ◌<◌, ◌^◌, ◌++◌, zero, suc, false, List, [], ◌∷◌, length, Some, refl, sym, ap, ◌∙◌, subst, inl, inr, arith}
+use Rattle.std.proofs.Common.{◌≡◌, ℕ, ◌++◌, zero, suc, false, List, [], ◌∷◌, Some, refl, sym, ap, ◌∙◌, subst, inl, inr, arith}
 use Rattle.std.specs.Prelude.{slice_get, codes}
 use Rattle.std.specs.List.{AllByRecursion}
 use Rattle.std.specs.Str.{IsUtf8}
@@ -9,24 +9,18 @@ use Rattle.ror_statement.specs.declared.statement.Statement.{Statement}
 use Rattle.ror_table.specs.Table.{DecisionTable, IsTable}
 use Rattle.ror_table.specs.Blocks.{tops}
 use Rattle.ror_value.specs.Over.{IsLawfulIn}
-use Rattle.ror_system.specs.System.{LinearSystem}
-use Rattle.ror_system.specs.Acceptance.{FailsMultipliers, FailsSolution, IsEarlierTest, stage, place}
-use Rattle.ror_system.specs.declared.reject.Reject.{Reject}
+use Rattle.ror_system.specs.Acceptance.{stage, place}
 use Rattle.ror_check.specs.Proof.{base_system}
-use Rattle.ror_system.proofs.Reasons.{one_solution_reason, one_multiplier_reason}
+use Rattle.ror_system.proofs.Reasons.{one_multiplier_reason}
 use Rattle.ror_proof.proofs.Utf8Lemmas.{ascii_is_utf8, line_text_is_utf8}
 use Rattle.ror_report.specs.Reading.{begins_end}
 use Rattle.ror_discriminate.specs.Head.{header_text}
 use Rattle.ror_bench.specs.declared.report.Reason.{Reason}
 use Rattle.ror_bench.specs.declared.report.Reason.TheVariants as reasons
 use Rattle.ror_bench.proofs.UniqueLemmas.{one_some}
-use Rattle.ror_pivot.specs.declared.optimum.Optimum.{Optimum}
 use Rattle.ror_discriminate.specs.declared.entry.Entry.{Entry}
 use Rattle.ror_discriminate.specs.declared.entry.EntryBody.{EntryBody}
 use Rattle.ror_discriminate.specs.declared.entry.EntryBody.TheVariants as bodies
-use Rattle.ror_discriminate.specs.declared.fault.OptimalFault.{OptimalFault}
-use Rattle.ror_discriminate.specs.declared.fault.OptimalFault.TheVariants as faults
-use Rattle.ror_discriminate.specs.Faults.{FailsOptimal, IsEarlierOptimalFault, optimal_stage, optimal_place}
 use Rattle.ror_system.specs.declared.accept.Multipliers.{Multipliers}
 use Rattle.ror_discriminate.specs.declared.fault.ContradictionFault.{ContradictionFault}
 use Rattle.ror_discriminate.specs.declared.fault.ContradictionFault.TheVariants as contradictions
@@ -38,7 +32,7 @@ use Rattle.ror_discriminate.proofs.Margins.{tops_are, most_discriminating}
 use Rattle.ror_discriminate.proofs.EntryLemmas.{is_read_iff_text, entry_begins}
 use Rattle.ror_discriminate.proofs.EntryUtf8.{entry_text_is_utf8}
 use Rattle.ror_entries.specs.Kind.{IsKind, HasOneReason}
-use Rattle.ror_work_discriminate.specs.Entries.{contradiction_reason, OfDeskAt, IsProvedBody, IsTrueBody, RefusesBody, IsProvedEntry, IsTrueEntry, RefusesEntry, other_desk, at_fault, best_kind}
+use Rattle.ror_work_discriminate.specs.Entries.{contradiction_reason, IsProvedBody, IsTrueBody, RefusesBody, IsProvedEntry, IsTrueEntry, RefusesEntry, other_desk, at_fault, best_kind}
 use Rattle.ror_work_discriminate.specs.Steps.{AreDesks}
 
 -- ---- one first fault

@@ -1,4 +1,5 @@
-pub mod KindLemmas
 pub mod Courses
 pub mod Judging
+pub mod KindLemmas
+mod Names
 pub mod Writing

@@ -1,5 +1,5 @@
 -- What was written of the first line and entries is the report, or how it begins.
-use Rattle.std.proofs.Common.{◌≡◌, ℕ, Bool, List, ◌++◌, length, Option, Ok, Err, refl, sym, subst, inr, arith}
+use Rattle.std.proofs.Common.{◌≡◌, ℕ, Bool, List, ◌++◌, length, Option, Result, Ok, Err, refl, sym, ap, ◌∙◌, subst, inr, arith}
 use Rattle.std.proofs.lemmas.List.{take_all}
 use Rattle.ror_io.specs.Writing.{Grew}
 use Rattle.ror_statement.specs.declared.statement.Statement.{Statement}
@@ -11,18 +11,20 @@ use Rattle.ror_discriminate.specs.declared.entry.Entry.{Entry}
 use Rattle.ror_discriminate.specs.declared.entry.EntryBody.{EntryBody}
 use Rattle.ror_discriminate.specs.declared.entry.EntryBody.TheVariants as bodies
 use Rattle.ror_discriminate.specs.Head.{header_text}
+use Rattle.ror_entries.specs.declared.write.EntriesStop.{EntriesStop}
 use Rattle.ror_entries.specs.declared.write.EntriesStop.TheVariants as entry_stops
 use Rattle.ror_entries.specs.Kind.{IsKind}
 use Rattle.ror_entries.specs.Reports.{accepted_of, IsAcceptedEntries}
 use Rattle.ror_entries.specs.Writing.{IsWholeText, IsBegunText}
-use Rattle.ror_entries.specs.Headed.{BehindHead, WritesHeaded}
+use Rattle.ror_entries.specs.Headed.{WritesHeaded}
 use Rattle.ror_entries.proofs.WriteLemmas.{given_are_proved}
 use Rattle.ror_entries.proofs.HeadedLemmas.{proved_is_accepted}
 use Rattle.ror_frame.specs.declared.stop.Stop.TheVariants as stops
-use Rattle.ror_frame.specs.States.{SinkState, sink_state}
+use Rattle.ror_frame.specs.States.{sink_state}
 use Rattle.ror_frame.specs.Courses.{WritesDue}
 use Rattle.ror_frame.specs.Inputs.{bench_for}
-use Rattle.ror_work_discriminate.specs.Entries.{IsGivenBody, IsProvedBody, IsGivenEntry, IsProvedEntry}
+use Rattle.ror_work_discriminate.specs.Entries.{best_kind, IsGivenBody, IsProvedBody, IsGivenEntry, IsProvedEntry}
+use Rattle.ror_work_discriminate.specs.Steps.{BestMaking}
 use Rattle.ror_work_discriminate.specs.Discriminate.{kind_over, IsBestReport, IsBegunBest, best_output}
 
 -- ---- given entries are proved
@@ -53,7 +55,7 @@ module _ (most : ℕ) (i : Input) (s : Session) (lists : List (List Statement)) 
   pub all_written : (x y : ℕ) (old new : Option (List ℕ)) (wide : Bool) → WritesHeaded header_text (kind_over i s lists) (IsGivenEntry most i.table s.desks lists) x y old new (Ok wide) → WritesDue (best_output most i s) (sink_state old x) (sink_state new y) (Ok wide)
   all_written x y old new wide had =
       let accepted = accepted_of (kind_over i s lists) had.2 in
-      let report : IsBestReport most i s (header_text ++ had.1) accepted = record { lists = lists; closing = closing; holds = (had.1, refl, had.2, had.3, accepted_whole had.1 had.2 had.3) } in
+      let report : IsBestReport most i s (header_text ++ had.1) accepted = record { lists = lists; closing = closing; holds = (had.1, refl, (had.2, had.3, accepted_whole had.1 had.2 had.3)) } in
       (had.0, tt, header_text ++ had.1, (accepted, report, had.4), had.5)
 
   pub write_failed : (x y : ℕ) (old new : Option (List ℕ)) → WritesHeaded header_text (kind_over i s lists) (IsGivenEntry most i.table s.desks lists) x y old new (Err entry_stops.Write) → WritesDue (best_output most i s) (sink_state old x) (sink_state new y) (Err stops.WriteFault)
@@ -63,3 +65,18 @@ module _ (most : ℕ) (i : Input) (s : Session) (lists : List (List Statement)) 
   ran_out x y old new had =
       let text = header_text ++ had.1 in
       inr (had.0, refl, text, length text, begun had.1 had.2, subst (Grew old new) (sym (take_all (length text) text (omega arith))) had.3)
+
+-- ---- what a maker goes by
+
+pub same_making : (a b : BestMaking) → a.table ≡ b.table → a.names ≡ b.names → a.lists ≡ b.lists → a.most ≡ b.most → a ≡ b
+same_making a b table names lists most =
+    ap (λ (t : DecisionTable). record { table = t; names = a.names; lists = a.lists; most = a.most }) table
+    ∙ ap (λ (n : List (List ℕ)). record { table = b.table; names = n; lists = a.lists; most = a.most }) names
+    ∙ ap (λ (l : List (List Statement)). record { table = b.table; names = b.names; lists = l; most = a.most }) lists
+    ∙ ap (λ (m : ℕ). record { table = b.table; names = b.names; lists = b.lists; most = m }) most
+
+-- what a maker wrote of a head, as one that goes by these
+pub written_by : (head : List ℕ) (a b : BestMaking) (x y : ℕ) (old new : Option (List ℕ)) (result : Result Bool EntriesStop) → a ≡ b → head ≡ header_text → WritesHeaded head (best_kind a.table a.names a.lists) (IsGivenEntry a.most a.table a.names a.lists) x y old new result → WritesHeaded header_text (best_kind b.table b.names b.lists) (IsGivenEntry b.most b.table b.names b.lists) x y old new result
+written_by head a b x y old new result same is had =
+    subst (λ (h : List ℕ). WritesHeaded h (best_kind b.table b.names b.lists) (IsGivenEntry b.most b.table b.names b.lists) x y old new result) is
+    (subst (λ (m : BestMaking). WritesHeaded head (best_kind m.table m.names m.lists) (IsGivenEntry m.most m.table m.names m.lists) x y old new result) same had)

@@ -1,5 +1,5 @@
 -- What a report of most discriminating functions is, and what a check of one accepts and rejects.
-use Rattle.std.specs.Prelude.{◌≡◌, ℕ, ◌<◌, ◌≤◌, true, List, ◌++◌, length, None, nat_lt}
+use Rattle.std.specs.Prelude.{◌≡◌, ℕ, ◌<◌, ◌≤◌, true, List, length, None, nat_lt}
 use Rattle.ror_statement.specs.declared.statement.Statement.{Statement}
 use Rattle.ror_value.specs.declared.input.Input.{Input}
 use Rattle.ror_session.specs.declared.session.Session.{Session}

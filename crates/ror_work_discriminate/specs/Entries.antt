@@ -18,7 +18,6 @@ use Rattle.ror_discriminate.specs.declared.fault.OptimalFault.{OptimalFault}
 use Rattle.ror_discriminate.specs.declared.fault.ContradictionFault.{ContradictionFault}
 use Rattle.ror_discriminate.specs.declared.fault.ContradictionFault.TheVariants as contradictions
 use Rattle.ror_discriminate.specs.Contradictions.{IsShownContradictory, FailsContradiction, IsEarlierContradictionFault}
-use Rattle.ror_discriminate.specs.declared.margin.Margin.{Margin}
 use Rattle.ror_discriminate.specs.Margin.{strict_comparisons, IsMarginOf, IsMostDiscriminating}
 use Rattle.ror_discriminate.specs.Discriminating.{IsFound, IsRefuted, IsBaseWide, IsClimbWide}
 use Rattle.ror_discriminate.specs.Faults.{FailsOptimal, IsEarlierOptimalFault}

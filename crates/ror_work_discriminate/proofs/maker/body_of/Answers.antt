@@ -1,4 +1,5 @@
-use Rattle.std.proofs.Common.{rules, w128, FitsSigned, List, [], subst, arith}
+use Rattle.std.proofs.Common.{rules, FitsSigned, [], subst, arith}
+use Rattle.std.specs.Int.{w128}
 use Rattle.std.proofs.lemmas.Int.{to_z-of_z}
 use Rattle.ror_pivot.specs.Answers.{most_of}
 use Rattle.ror_system.specs.System.{IsWellFormed}
