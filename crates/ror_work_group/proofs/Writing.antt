@@ -1,11 +1,9 @@
 -- What was written of a head and entries is the report of a group, or how it begins.
-use Rattle.std.proofs.Common.{◌≡◌, ℕ, ◌+◌, ◌<◌, ◌≤◌, Bool, true, List, [], ◌∷◌, ◌++◌, length, Option, Ok, Err, refl, sym, ◌∙◌, subst, inr, arith}
+use Rattle.std.proofs.Common.{◌≡◌, ℕ, ◌+◌, ◌<◌, true, List, [], ◌∷◌, ◌++◌, length, Ok, Err, refl, sym, subst, inr, arith}
 use Rattle.std.proofs.lemmas.List.{take_all}
 use Rattle.std.specs.Prelude.{◌^◌}
 use Rattle.std.specs.List.{AllByRecursion}
-use Rattle.ror_io.specs.Counts.{Rose}
-use Rattle.ror_io.specs.Writing.{Grew, GrewShort}
-use Rattle.ror_io.proofs.Writes.{Grew-append, GrewShort-more, GrewShort-after}
+use Rattle.ror_io.specs.Writing.{Grew}
 use Rattle.ror_statement.specs.declared.statement.Statement.{Statement}
 use Rattle.ror_table.specs.Table.{DecisionTable}
 use Rattle.ror_value.specs.declared.input.Input.{Input}
@@ -17,13 +15,12 @@ use Rattle.ror_group.specs.declared.entry.Entry.{Entry}
 use Rattle.ror_group.specs.Combining.{Asked, asked_on, InStep}
 use Rattle.ror_group.specs.Proof.{IsWideOrProvedFor}
 use Rattle.ror_group.specs.Head.{head_text, is_desk_name}
-use Rattle.ror_entries.specs.declared.write.EntriesStop.TheVariants as entry_stops
 use Rattle.ror_entries.specs.Kind.{IsKind}
 use Rattle.ror_entries.specs.Reports.{EachAt, accepted_of, IsAcceptedEntries}
-use Rattle.ror_entries.specs.Writing.{IsWholeText, IsBegunText, some_entries, WritesEntries}
+use Rattle.ror_entries.specs.Writing.{IsWholeText, IsBegunText}
 use Rattle.ror_entries.proofs.WriteLemmas.{given_are_proved}
 use Rattle.ror_frame.specs.declared.stop.Stop.TheVariants as stops
-use Rattle.ror_frame.specs.States.{SinkState, sink_state}
+use Rattle.ror_frame.specs.States.{SinkState}
 use Rattle.ror_frame.specs.Stops.{Outcome}
 use Rattle.ror_frame.specs.Courses.{WritesDue}
 use Rattle.ror_frame.specs.Inputs.{bench_for}
@@ -60,29 +57,6 @@ accepted_whole : (most : ℕ) (t : DecisionTable) (lists : List (List Statement)
 accepted_whole most t lists body entries kind whole =
     let proved = given_are_proved (group_kind t lists) (IsGivenEntry most t lists) (given_proved most t lists) body entries whole in
     record { proved = proved; entries_true = each_by (IsProvedEntry t lists) (λ place x. (group_kind t lists).IsTrue place x) kind.proved_is_true 0 proved.entries proved.proved }
-
--- ---- the head and the entries
-
-module _ (head : List ℕ) (most : ℕ) (t : DecisionTable) (lists : List (List Statement)) where
-  no_entries : IsBegunText (group_kind t lists) (IsGivenEntry most t lists) []
-  no_entries = some_entries [] (record { made = record { within = omega arith; printable = tt; given = tt }; text_is = refl })
-
-  -- the head was not written
-  pub head_cut : (x y : ℕ) (old new : Option (List ℕ)) → x ≤ y → Rose x y → GrewShort old new head → WritesReport head most t lists (sink_state old x) (sink_state new y) (Err stops.WriteFault)
-  head_cut x y old new up rose short = (up, rose, [], no_entries, GrewShort-more old new head [] short)
-
-  -- it was, and all entries were
-  pub all_written : (x y z : ℕ) (old between new : Option (List ℕ)) (wide : Bool) → y ≡ x → Grew old between head → WritesEntries (group_kind t lists) (IsGivenEntry most t lists) y z between new (Ok wide) → WritesReport head most t lists (sink_state old x) (sink_state new z) (Ok wide)
-  all_written x y z old between new wide same grew had = (had.0 ∙ same, had.1, had.2, had.3, had.4, Grew-append old between new head had.1 grew had.5)
-
-  -- a write failed
-  pub entries_cut : (x y z : ℕ) (old between new : Option (List ℕ)) → y ≡ x → Grew old between head → WritesEntries (group_kind t lists) (IsGivenEntry most t lists) y z between new (Err entry_stops.Write) → WritesReport head most t lists (sink_state old x) (sink_state new z) (Err stops.WriteFault)
-  entries_cut x y z old between new same grew had =
-      (subst (λ n. n ≤ z) same had.0, subst (λ n. Rose n z) same had.1, had.2, had.3, GrewShort-after old between new head had.2 grew had.4)
-
-  -- memory ran out
-  pub entries_front : (x y z : ℕ) (old between new : Option (List ℕ)) → y ≡ x → Grew old between head → WritesEntries (group_kind t lists) (IsGivenEntry most t lists) y z between new (Err entry_stops.Memory) → WritesReport head most t lists (sink_state old x) (sink_state new z) (Err stops.Memory)
-  entries_front x y z old between new same grew had = (had.0 ∙ same, had.1, some_entries had.2 had.3, Grew-append old between new head had.1 grew had.4)
 
 -- ---- the report
 

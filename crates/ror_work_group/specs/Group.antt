@@ -1,5 +1,5 @@
 -- What a group's report is, and what a check of one accepts and rejects.
-use Rattle.std.specs.Prelude.{◌≡◌, ℕ, ◌<◌, ◌≤◌, true, List, ◌++◌, length, None, Ok, Err, nat_lt}
+use Rattle.std.specs.Prelude.{◌≡◌, ℕ, ◌<◌, ◌≤◌, Bool, true, List, length, None, Result, Ok, Err, nat_lt}
 use Rattle.std.specs.Str.{IsUtf8}
 use Rattle.ror_text.specs.Cursor.{Cursor}
 use Rattle.ror_statement.specs.declared.statement.Statement.{Statement}
@@ -19,13 +19,14 @@ use Rattle.ror_group.specs.declared.entry.Entry.{Entry}
 use Rattle.ror_group.specs.declared.head.HeadFault.{HeadFault}
 use Rattle.ror_group.specs.declared.head.HeadFault.TheVariants as heads
 use Rattle.ror_group.specs.Head.{IsHeadText, whole_head_at}
-use Rattle.ror_io.specs.Counts.{Rose}
-use Rattle.ror_io.specs.Writing.{Grew, GrewShort}
 use Rattle.ror_frame.specs.declared.stop.Stop.TheVariants as stops
 use Rattle.ror_frame.specs.States.{SinkState}
 use Rattle.ror_frame.specs.Stops.{Outcome}
-use Rattle.ror_entries.specs.Reports.{accepted_of, IsProvedEntries, IsAcceptedEntries, IsRejectedEntries}
+use Rattle.ror_entries.specs.Reports.{IsProvedEntries, IsAcceptedEntries, IsRejectedEntries}
 use Rattle.ror_entries.specs.Writing.{IsWholeText, IsBegunText}
+use Rattle.ror_entries.specs.Headed.{WritesHeaded}
+use Rattle.ror_entries.specs.declared.write.EntriesStop.{EntriesStop}
+use Rattle.ror_entries.specs.declared.write.EntriesStop.TheVariants as entry_stops
 use Rattle.ror_words.specs.Words.{InputNames}
 use Rattle.ror_frame.specs.declared.stop.Refusal.{Refusal}
 use Rattle.ror_frame.specs.declared.stop.Refusal.TheVariants as refusals
@@ -113,16 +114,14 @@ check_group_chore names report =
 
 -- ---- a step of the writing
 
--- What was written of a head and of the entries over these lists: all of it, with the last line, and whether anything is too wide; a
--- proper front of the head and of how the entries begin where a write failed; or the head and how they begin where memory ran out.
+-- what was written of a head and of the entries over these lists
+abbrev WritesGroup : List ℕ → ℕ → DecisionTable → List (List Statement) → SinkState → SinkState → Result Bool EntriesStop → Type 0
+WritesGroup head most t lists old new result =
+    WritesHeaded head (group_kind t lists) (IsGivenEntry most t lists) old.faults new.faults old.written new.written result
+
+-- the same of a stop of the work
 abbrev pub WritesReport : List ℕ → ℕ → DecisionTable → List (List Statement) → SinkState → SinkState → Outcome → Type 0
-WritesReport head most t lists old new (Ok wide) = (new.faults ≡ old.faults) × (body : List ℕ) × (entries : List Entry)
-    × IsWholeText (group_kind t lists) (IsGivenEntry most t lists) body entries
-    × (wide ≡ nat_lt 0 (accepted_of (group_kind t lists) entries).wide) × Grew old.written new.written (head ++ body)
-WritesReport head most t lists old new (Err stops.WriteFault) = (old.faults ≤ new.faults) × Rose old.faults new.faults
-    × (body : List ℕ) × IsBegunText (group_kind t lists) (IsGivenEntry most t lists) body
-    × GrewShort old.written new.written (head ++ body)
-WritesReport head most t lists old new (Err stops.Memory) = (new.faults ≡ old.faults)
-    × (body : List ℕ) × IsBegunText (group_kind t lists) (IsGivenEntry most t lists) body
-    × Grew old.written new.written (head ++ body)
+WritesReport head most t lists old new (Ok wide) = WritesGroup head most t lists old new (Ok wide)
+WritesReport head most t lists old new (Err stops.WriteFault) = WritesGroup head most t lists old new (Err entry_stops.Write)
+WritesReport head most t lists old new (Err stops.Memory) = WritesGroup head most t lists old new (Err entry_stops.Memory)
 WritesReport head most t lists old new (Err stop) = ⊥

@@ -12,10 +12,9 @@ ghost use Rattle.ror_frame.specs.Courses.{IsFetch, ReadAs, IsWork};
 ghost use Rattle.ror_work_group.specs.Group.{ProvesGroup, RefusesGroup, check_group_chore, head_reason};
 
 use crate::judge::GroupJudge;
-use crate::write::suited_lists;
-use ror_bench::{Accepted, Bench, MOST_REPORT_BYTES, Reason, Rejection};
+use ror_bench::{Accepted, MOST_REPORT_BYTES, Reason, Rejection};
 use ror_entries::{check_entries, misread};
-use ror_frame::{Refusal, Stop, conclude, fetch_suited, fetch_table, fetch_whole};
+use ror_frame::{Refusal, Stop, closed_desks, conclude, fetch_suited, fetch_table, fetch_whole};
 use ror_group::head::{HeadFault, check_whole_head};
 use ror_io::{Shelf, Sink};
 use ror_session::Session;
@@ -112,9 +111,7 @@ fn judge_of<'a>(
     ensures lists { IfOk result (λ judge. AreClosingLists (bench_for input session.now) session.now.lines judge.lists) }
     ensures report { IfOk result (λ judge. judge.report ≡ bytes.now) }
 {
-    let desks = session.desks.len() as u32;
-    let mut bench = Bench::new(alloc, input, desks)?;
-    let lists = suited_lists(alloc, &mut bench, desks, session.lines.as_slice())?;
+    let (bench, lists) = closed_desks(alloc, input, session)?;
     GroupJudge::new(alloc, bench, lists.as_slice(), bytes)
 }
 

@@ -1,33 +1,25 @@
 //! The report of a group: its head, the entry of each pair, each written before the next one is made, and its end.
 
-ghost use Rattle.std.specs.Prelude.{◌≡◌, length, IfOk};
-ghost use Rattle.std.specs.List.{AllByRecursion};
 ghost use Rattle.ror_pivot.specs.Answers.{most_of};
 ghost use Rattle.ror_session.specs.Sound.{IsSound};
 ghost use Rattle.ror_table.specs.Table.{IsTable};
 ghost use Rattle.ror_value.specs.Over.{IsLawfulIn};
-ghost use Rattle.ror_bench.specs.Bench.{LeavesNumbers};
-ghost use Rattle.ror_bench.specs.Reports.{NamesADesk};
-ghost use Rattle.ror_closing.specs.Closing.{AreSuited, AreClosingLists};
+ghost use Rattle.ror_closing.specs.Closing.{AreSuited};
 ghost use Rattle.ror_words.specs.Named.{inputs_of};
 ghost use Rattle.ror_frame.specs.States.{shelf_state, sink_state};
 ghost use Rattle.ror_frame.specs.Courses.{WritesDue, IsWork};
 ghost use Rattle.ror_work_group.specs.Group.{group_output, group_chore, WritesReport};
 
 use crate::maker::GroupMaker;
-use ror_bench::Bench;
-use ror_closing::{ClosingFault, closing_lists};
-use ror_entries::{EntriesStop, write_entries};
-use ror_frame::{Stop, fetch_suited, fetch_table};
+use ror_entries::{EntriesStop, write_headed};
+use ror_frame::{Stop, closed_desks, fetch_suited, fetch_table};
 use ror_group::head::print_head;
-use ror_io::{Shelf, Sink, write_all};
+use ror_io::{Shelf, Sink};
 use ror_pivot::Bits;
-use ror_session::{Line, Session};
-use ror_statement::Statement;
-use ror_text::Items;
+use ror_session::Session;
 use ror_words::FileNames;
 use ror_xmcda::Input;
-use std::alloc::{AllocError, Global};
+use std::alloc::Global;
 
 /// Fetches table and session, each once those before it were read, and writes the report of the group at a width. It says whether
 /// anything is too wide.
@@ -72,38 +64,11 @@ fn write_group<O: Sink>(
         (sink_state (O.written out.old) (O.faults out.old))
         (sink_state (O.written out.new) (O.faults out.new)) result }
 {
-    let desks = session.desks.len() as u32;
-    let lines = session.lines.as_slice();
-    let mut bench = Bench::new(alloc, input, desks)?;
-    let lists = suited_lists(alloc, &mut bench, desks, lines)?;
+    let (bench, lists) = closed_desks(alloc, input, session)?;
     let names = session.desks.as_slice();
     let head = print_head(alloc, names)?;
     let mut maker = GroupMaker::new(alloc, bench, lists.as_slice(), bits)?;
     write_report(alloc, head.as_slice(), &mut maker, out)
-}
-
-/// The closing lists of a session without an unsuited line. Its one error is want of memory.
-pub(crate) fn suited_lists(
-    alloc: Global,
-    bench: &mut Bench,
-    desks: u32,
-    lines: &[Line],
-) -> Result<Vec<Items<Statement>>, AllocError>
-    requires desks { length bench.old.state ≡ desks }
-    requires named { AllByRecursion (NamesADesk (length bench.old.state)) lines.now }
-    requires numbers { AllByRecursion (LeavesNumbers (length lines.now)) bench.old.state }
-    requires suited { AreSuited lines.now }
-    ensures closing { IfOk result (λ lists. AreClosingLists bench.old lines.now lists.items) }
-    ensures count { IfOk result (λ lists. length lists.items ≡ desks) }
-    ensures lawful { IfOk result
-        (λ lists. AllByRecursion (IsLawfulIn bench.old.table) lists.items) }
-    ensures table { bench.new.table ≡ bench.old.table }
-{
-    match closing_lists(alloc, bench, desks, lines) {
-        Ok(lists) => Ok(lists),
-        Err(ClosingFault::Memory) => Err(AllocError),
-        Err(ClosingFault::Unsuited(_)) => unreachable!(),
-    }
 }
 
 /// Writes the head, the entries and the last line.
@@ -117,8 +82,7 @@ fn write_report<O: Sink>(
         (sink_state (O.written out.old) (O.faults out.old))
         (sink_state (O.written out.new) (O.faults out.new)) result }
 {
-    write_all(out, head)?;
-    match write_entries(alloc, maker, out) {
+    match write_headed(alloc, head, maker, out) {
         Ok(wide) => Ok(wide),
         Err(EntriesStop::Write) => Err(Stop::WriteFault),
         Err(EntriesStop::Memory) => Err(Stop::Memory),

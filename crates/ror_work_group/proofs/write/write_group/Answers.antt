@@ -1,38 +1,18 @@
-use Rattle.std.proofs.Common.{rules, arith, ◌≡◌, ◌≤◌, ◌<◌, ◌^◌, ◌∙◌, true, List, ℕ, inl, refl, length, sym, ap, subst}
+use Rattle.std.proofs.Common.{arith, ◌≡◌, ◌<◌, ◌^◌, ◌∙◌, true, inl, refl, length, sym, ap, subst}
 use Rattle.std.specs.List.{AllByRecursion}
 use Rattle.std.proofs.lemmas.Result.{err_from_is_err_and}
-use Rattle.ror_session.specs.declared.session.Line.{Line}
-use Rattle.ror_session.specs.declared.limits.TheConstants.{MOST_LINES}
 use Rattle.ror_pivot.specs.Answers.{most_of}
-use Rattle.ror_bench.specs.Bench.{HoldTheSame, LeavesNumbers, bench_of}
-use Rattle.ror_closing.specs.Closing.{AreClosingLists}
-use Rattle.ror_closing.proofs.ClosingLemmas.{closing_same}
 use Rattle.ror_closing.proofs.LawfulLists.{lawful_lists}
 use Rattle.ror_frame.specs.Inputs.{bench_for}
-use Rattle.ror_frame.proofs.Desks.{numbers_left, lawful_desks}
+use Rattle.ror_frame.proofs.Desks.{lawful_desks}
 use Rattle.ror_group.specs.Head.{is_visible_name, is_desk_name, head_text}
 use Rattle.ror_work_group.proofs.KindLemmas.{are_kind}
 use Rattle.ror_work_group.proofs.Judging.{names_visible}
 use Rattle.ror_work_group.proofs.Writing.{report_same}
 use Rattle.ror_work_group.proofs.write.write_group.Goals as goal
 
-pub suited_lists-requires-clause-numbers : goal.suited_lists-requires-clause-numbers
-suited_lists-requires-clause-numbers g c =
-    let i = c.args.input in
-    let s = c.args.session.now in
-    let held : HoldTheSame c.in_ok-bench.bench (bench_for i s) = search rules in
-    let same = ap length c.as_slice-lines.ensures in
-    let sound = c.requires.sound.few_lines in
-    let few : length c.as_slice-lines.result.now ≤ MOST_LINES = omega (arith, same, sound) in
-    subst (AllByRecursion (LeavesNumbers (length c.as_slice-lines.result.now))) (sym held.1) (numbers_left i (length s.desks) (length c.as_slice-lines.result.now) c.requires.lawful few)
-
 pub print_head-requires-clause-visible : goal.print_head-requires-clause-visible
 print_head-requires-clause-visible g c = subst (AllByRecursion (λ name. is_visible_name name ≡ true)) (sym c.as_slice-names.ensures) (names_visible c.args.session.now.desks c.requires.sound.short c.requires.sound.clean_desks)
-
-pub returns-in_err-lists : goal.returns-in_err-lists
-returns-in_err-lists g c =
-    let p = err_from_is_err_and c.from_residual-in_err-lists.result c.from_residual-in_err-lists.ensures.1 in
-    rw (p.1, p.2) (inl refl)
 
 pub returns-in_err-head : goal.returns-in_err-head
 returns-in_err-head g c =
@@ -44,14 +24,12 @@ returns g c =
     let i = c.args.input in
     let s = c.args.session.now in
     let bits = c.args.bits in
-    let lists = c.in_ok-lists.lists.items in
-    let held : HoldTheSame c.in_ok-bench.bench (bench_for i s) = subst (λ (n : ℕ). HoldTheSame c.in_ok-bench.bench (bench_of i n)) c.len-desks.ensures c.in_ok-bench.ensures.begun in
+    let lists = c.in_ok-bench.lists.items in
     let desks = c.requires.sound.few_desks in
     let few : length s.desks < 2 ^ 32 = omega (arith, desks) in
     let named : AllByRecursion (λ name. is_desk_name name ≡ true) s.desks = subst (AllByRecursion (λ name. is_desk_name name ≡ true)) c.as_slice-names.ensures c.in_ok-head.ensures.allowed in
-    let told = closing_same c.in_ok-bench.bench (bench_for i s) held c.as_slice-lines.result.now lists c.in_ok-lists.ensures.closing in
-    let closing : AreClosingLists (bench_for i s) s.lines lists = subst (λ (ls : List Line). AreClosingLists (bench_for i s) ls lists) c.as_slice-lines.ensures told in
-    let table : c.in_ok-maker.maker.table ≡ i.table = c.in_ok-maker.ensures.table ∙ c.in_ok-lists.ensures.table ∙ held.0 in
+    let closing = c.in_ok-bench.ensures.closing in
+    let table : c.in_ok-maker.maker.table ≡ i.table = c.in_ok-maker.ensures.table ∙ c.in_ok-bench.ensures.table in
     let over : c.in_ok-maker.maker.lists ≡ lists = c.in_ok-maker.ensures.lists ∙ c.as_slice.ensures.value in
     let head : c.as_slice-2.result.now ≡ head_text s.desks = c.as_slice-2.ensures.value ∙ c.in_ok-head.ensures.text ∙ ap head_text c.as_slice-names.ensures in
     let kind = are_kind i.table lists c.requires.table (lawful_lists (bench_for i s) s.lines lists (lawful_desks i (length s.desks) c.requires.lawful) closing) in
