@@ -36,7 +36,7 @@ returns-in-Discriminate g c =
 pub returns-in-CheckDiscriminate : goal.returns-in-CheckDiscriminate
 returns-in-CheckDiscriminate g c =
     let names = c.inputs-in-CheckDiscriminate.ensures in
-    let work = rw (ap (λ i. i.table) names, ap (λ i. i.session) names, ap (λ i. i.best_first) names, c.name-in-CheckDiscriminate.ensures) at c.check_discriminate_files.ensures in
+    let work = rw (ap (λ i. i.table) names, ap (λ i. i.session) names, ap (λ i. i.best_first) names, c.name-report.ensures) at c.check_discriminate_files.ensures in
     rw c.in-CheckDiscriminate.is work
 
 pub returns-in-Generate : goal.returns-in-Generate
