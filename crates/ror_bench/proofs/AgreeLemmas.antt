@@ -22,7 +22,7 @@ use Rattle.ror_proof.specs.declared.kept.Kept.{Kept}
 use Rattle.ror_check.specs.Proof.{IsWideOrTrue, IsAllowedVerdict, base_system}
 use Rattle.ror_check.specs.Repair.{numbers_of, IsProvedRepair}
 use Rattle.ror_check.proofs.Repairs.{one_repair, proved_is_repair}
-use Rattle.ror_relation.specs.Wide.{HasNoteAt}
+use Rattle.ror_given.specs.Notes.{HasNoteAt}
 use Rattle.ror_check.proofs.ManyAnswers.{wide_or_true}
 use Rattle.ror_report.specs.declared.block.Block.{Block}
 use Rattle.ror_report.specs.declared.block.Body.{Body}

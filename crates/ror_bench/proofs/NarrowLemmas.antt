@@ -11,7 +11,7 @@ use Rattle.ror_session.specs.declared.session.Command.TheVariants.{State, Withdr
 use Rattle.ror_proof.specs.declared.answer.Answer.{Answer}
 use Rattle.ror_check.specs.Repair.{numbers_of}
 use Rattle.ror_check.proofs.Repairs.{one_repair}
-use Rattle.ror_relation.specs.Answers.{IsGiven}
+use Rattle.ror_given.specs.Answers.{IsGiven}
 use Rattle.ror_report.specs.declared.block.Body.{Body}
 use Rattle.ror_report.specs.declared.block.Body.TheVariants as bodies
 use Rattle.ror_report.specs.declared.block.LineFault.{LineFault}

@@ -29,7 +29,7 @@ use Rattle.ror_check.specs.Repair.{AreNumbersIn, kept_with, numbers_of}
 use Rattle.ror_check.proofs.Numbers.{member-at}
 use Rattle.ror_check.proofs.Repairs.{with_lawful}
 use Rattle.ror_check.proofs.RepairWalk.{length-numbers_of}
-use Rattle.ror_relation.specs.Answers.{IsGiven}
+use Rattle.ror_given.specs.Answers.{IsGiven}
 use Rattle.ror_relation.proofs.NoteBounds.{well_formed}
 use Rattle.ror_relation.proofs.Printing.{certificate, printable, given_printable, note_printable}
 use Rattle.ror_repair.specs.Repairs.{IsDroppedWithin, IsGivenRepair, IsWideRepair}

@@ -12,8 +12,8 @@ use Rattle.ror_proof.specs.declared.answer.Answer.{Answer}
 use Rattle.ror_proof.specs.declared.answer.Verdict.{Verdict}
 use Rattle.ror_proof.specs.declared.answer.Verdict.TheVariants as verdicts
 use Rattle.ror_check.specs.Proof.{IsAllowedVerdict, IsWideOrProved}
-use Rattle.ror_relation.specs.Wide.{HasNoteAt}
-use Rattle.ror_relation.specs.Answers.{IsGiven}
+use Rattle.ror_given.specs.Notes.{HasNoteAt}
+use Rattle.ror_given.specs.Answers.{IsGiven}
 use Rattle.ror_report.specs.declared.block.Block.{Block}
 use Rattle.ror_report.specs.declared.block.Body.{Body}
 use Rattle.ror_report.specs.declared.block.Body.TheVariants as bodies

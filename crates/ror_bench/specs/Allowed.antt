@@ -8,7 +8,7 @@ use Rattle.ror_table.specs.Table.{DecisionTable}
 use Rattle.ror_proof.specs.declared.answer.Answer.{Answer}
 use Rattle.ror_check.specs.Proof.{IsProvedAnswer, IsWideOrProved}
 use Rattle.ror_check.specs.Repair.{numbers_of, IsRepair, IsProvedRepair}
-use Rattle.ror_relation.specs.Answers.{IsGiven}
+use Rattle.ror_given.specs.Answers.{IsGiven}
 use Rattle.ror_repair.specs.Repairs.{IsGivenRepair, IsWideRepair}
 use Rattle.ror_report.specs.declared.block.Body.{Body}
 use Rattle.ror_report.specs.declared.block.Body.TheVariants.{Repaired, RepairWide}

@@ -18,8 +18,8 @@ use Rattle.ror_proof.specs.declared.answer.Answer.{Answer}
 use Rattle.ror_proof.specs.declared.kept.Kept.{Kept}
 use Rattle.ror_check.specs.Proof.{base_system, question_systems_of}
 use Rattle.ror_check.specs.Repair.{numbers_of, kept_with, IsRepair}
-use Rattle.ror_relation.specs.Wide.{HasNoteAt}
-use Rattle.ror_relation.specs.Answers.{IsGiven}
+use Rattle.ror_given.specs.Notes.{HasNoteAt}
+use Rattle.ror_given.specs.Answers.{IsGiven}
 use Rattle.ror_report.specs.declared.block.Block.{Block}
 use Rattle.ror_report.specs.declared.block.Body.{Body}
 use Rattle.ror_report.specs.declared.block.Body.TheVariants as bodies

@@ -4,7 +4,7 @@ ghost use Rattle.std.specs.Prelude.{◌<◌, ◌≤◌, length, IfOk};
 ghost use Rattle.std.specs.List.{AllZip};
 ghost use Rattle.ror_pivot.specs.Answers.{most_of};
 ghost use Rattle.ror_value.specs.Over.{IsLawfulIn, IsAskedIn};
-ghost use Rattle.ror_relation.specs.Answers.{IsGiven};
+ghost use Rattle.ror_given.specs.Answers.{IsGiven};
 ghost use Rattle.ror_classes.specs.Classes.{IsClassQuestion};
 ghost use Rattle.ror_classes.specs.Classes as spec;
 

@@ -15,7 +15,7 @@ use Rattle.ror_table.specs.Table.{DecisionTable, IsTable}
 use Rattle.ror_table.specs.Draft.{draft_fault, finished, add_alternative}
 use Rattle.ror_value.specs.Over.{IsAskedIn}
 use Rattle.ror_proof.specs.declared.answer.Answer.{Answer}
-use Rattle.ror_relation.specs.Answers.{IsGiven}
+use Rattle.ror_given.specs.Answers.{IsGiven}
 use Rattle.ror_relation.specs.Pairs.{relation_questions}
 use Rattle.ror_relation.proofs.PairLemmas.{all_asked}
 use Rattle.ror_measure.specs.Relations.{has_proof, counts_of, AreRelations}

@@ -7,7 +7,7 @@ use Rattle.ror_value.specs.Over.{IsLawfulIn}
 use Rattle.ror_proof.specs.declared.answer.Answer.{Answer}
 use Rattle.ror_proof.specs.declared.answer.Verdict.{Verdict}
 use Rattle.ror_proof.specs.declared.answer.Verdict.TheVariants as verdicts
-use Rattle.ror_relation.specs.Answers.{IsGiven}
+use Rattle.ror_given.specs.Answers.{IsGiven}
 use Rattle.ror_relation.specs.Pairs.{relation_questions}
 use Rattle.ror_measure.specs.declared.tables.TablePlan.{TablePlan}
 use Rattle.ror_measure.specs.declared.relations.VerdictKind.{VerdictKind}

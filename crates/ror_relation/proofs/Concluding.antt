@@ -36,8 +36,8 @@ use Rattle.ror_relation.specs.declared.decision.Decision.{Decision}
 use Rattle.ror_relation.specs.declared.decision.Decision.TheVariants as decisions
 use Rattle.ror_relation.specs.declared.search.Search.{Search}
 use Rattle.ror_relation.specs.declared.search.Search.TheVariants as searches
-use Rattle.ror_relation.specs.Wide.{HasNoteAt}
-use Rattle.ror_relation.specs.Answers.{IsCertificateWithin, IsProofWithin, IsGiven}
+use Rattle.ror_given.specs.Notes.{HasNoteAt}
+use Rattle.ror_given.specs.Answers.{IsCertificateWithin, IsProofWithin, IsGiven}
 use Rattle.ror_relation.specs.Decisions.{ShowsAsBase, IsDecision, IsPartOf, AreRefuted, IsWideSystem, NoneSolvableBelow, IsSearch, verdict_of, IsGivenVerdict}
 
 -- ---- verdicts with a proof

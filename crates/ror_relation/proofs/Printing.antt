@@ -37,8 +37,8 @@ use Rattle.ror_proof.specs.declared.answer.Answer.{Answer}
 use Rattle.ror_proof.specs.Text as text
 use Rattle.ror_check.specs.Proof.{base_system, question_systems_of, part_side, Proves, ShowsOfItsSystem, IsWideAt, IsAllowedVerdict}
 use Rattle.ror_check.proofs.Checking.{few_of_question}
-use Rattle.ror_relation.specs.Wide.{HasNoteAt, pivots_of, place_of}
-use Rattle.ror_relation.specs.Answers.{IsCertificateWithin, IsProofWithin, IsVerdictWithin, IsGiven}
+use Rattle.ror_given.specs.Notes.{HasNoteAt, pivots_of, place_of}
+use Rattle.ror_given.specs.Answers.{IsCertificateWithin, IsProofWithin, IsVerdictWithin, IsGiven}
 use Rattle.ror_relation.proofs.NoteBounds.{note_within, well_formed, systems_formed}
 
 most_within : (bits : Bits) → most_of bits < sum_limit

@@ -22,7 +22,7 @@ use Rattle.ror_proof.specs.declared.answer.Part.{Part}
 use Rattle.ror_check.specs.Steps.{AreUsable}
 use Rattle.ror_proof.specs.declared.answer.WideText.{WideText}
 use Rattle.ror_relation.specs.declared.decision.Decision.{Decision}
-use Rattle.ror_relation.specs.Wide.{HasNoteAt}
+use Rattle.ror_given.specs.Notes.{HasNoteAt}
 use Rattle.ror_relation.specs.Decisions.{ShowsAsBase, IsDecision, NoneSolvableBelow, IsPartOf, AreRefuted, IsWideSystem}
 
 -- ---- the system at hand

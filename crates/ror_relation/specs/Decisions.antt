@@ -25,8 +25,8 @@ use Rattle.ror_relation.specs.declared.decision.Decision.{Decision}
 use Rattle.ror_relation.specs.declared.decision.Decision.TheVariants as decisions
 use Rattle.ror_relation.specs.declared.search.Search.{Search}
 use Rattle.ror_relation.specs.declared.search.Search.TheVariants as searches
-use Rattle.ror_relation.specs.Wide.{HasNoteAt, pivots_of, place_of}
-use Rattle.ror_relation.specs.Answers.{IsCertificateWithin, IsVerdictWithin}
+use Rattle.ror_given.specs.Notes.{HasNoteAt, pivots_of, place_of}
+use Rattle.ror_given.specs.Answers.{IsCertificateWithin, IsVerdictWithin}
 
 -- The certificate shows what the base shows where this is concluded, that the system is solvable or that it is not, and no
 -- number of it passes most.

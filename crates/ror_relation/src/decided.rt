@@ -4,7 +4,7 @@ ghost use Rattle.std.specs.Prelude.{◌≡◌, ◌≤◌, IfOk};
 ghost use Rattle.ror_pivot.specs.Answers.{most_of};
 ghost use Rattle.ror_value.specs.Over.{IsLawfulIn, IsAskedIn};
 ghost use Rattle.ror_check.specs.Proof.{base_system};
-ghost use Rattle.ror_relation.specs.Answers.{IsGiven};
+ghost use Rattle.ror_given.specs.Answers.{IsGiven};
 ghost use Rattle.ror_relation.specs.Decisions.{IsDecision, IsGivenVerdict, verdict_of};
 ghost use Rattle.ror_relation.specs.DecidedLists.{IsDecidedList, statements_of};
 

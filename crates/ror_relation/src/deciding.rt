@@ -5,8 +5,8 @@ ghost use Rattle.std.specs.List.{AllByRecursion, AllZip};
 ghost use Rattle.ror_pivot.specs.Answers.{most_of};
 ghost use Rattle.ror_value.specs.Over.{IsLawfulIn, IsAskedIn};
 ghost use Rattle.ror_check.specs.Proof.{IsAllowedAnswer, IsWideOrTrue};
-ghost use Rattle.ror_relation.specs.Wide.{HasNoteAt};
-ghost use Rattle.ror_relation.specs.Answers.{IsVerdictWithin, IsGiven};
+ghost use Rattle.ror_given.specs.Notes.{HasNoteAt};
+ghost use Rattle.ror_given.specs.Answers.{IsVerdictWithin, IsGiven};
 
 use crate::decided::DecidedList;
 use ror_pivot::Bits;

@@ -2,7 +2,8 @@
 
 ghost use Rattle.std.specs.Prelude.{◌≡◌, ◌<◌, ◌^◌, IfOk};
 ghost use Rattle.std.specs.List.{AllByRecursion};
-ghost use Rattle.ror_relation.specs.Wide.{IsPlaceBelow, pivots_of, place_of};
+ghost use Rattle.ror_given.specs.Notes.{pivots_of, place_of};
+ghost use Rattle.ror_relation.specs.Wide.{IsPlaceBelow};
 
 use ror_pivot::{Place, WideNote};
 use ror_proof::{Pivot, PlaceText, WideText};

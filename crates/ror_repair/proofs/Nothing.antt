@@ -15,7 +15,7 @@ use Rattle.ror_pivot.specs.Answers.{most_of}
 use Rattle.ror_proof.specs.declared.answer.Certificate.{Certificate}
 use Rattle.ror_proof.specs.declared.answer.Certificate.TheVariants as certificates
 use Rattle.ror_check.specs.Proof.{base_system}
-use Rattle.ror_relation.specs.Answers.{IsCertificateWithin}
+use Rattle.ror_given.specs.Answers.{IsCertificateWithin}
 use Rattle.ror_repair.specs.Repairs.{IsGivenRepair, IsBaseAt}
 
 -- ---- all ones

@@ -28,7 +28,7 @@ use Rattle.ror_check.specs.Repair.{is_among, kept_of, kept_with, numbers_of, Ref
 use Rattle.ror_check.specs.Steps.{IsAcceptedFor}
 use Rattle.ror_check.proofs.Numbers.{member-here, member-later, member-cases, Rises, rises, increases, rises-places}
 use Rattle.ror_check.proofs.Repairs.{proved_is_repair, with_lawful}
-use Rattle.ror_relation.specs.Wide.{HasNoteAt}
+use Rattle.ror_given.specs.Notes.{HasNoteAt}
 use Rattle.ror_relation.specs.Decisions.{ShowsAsBase}
 use Rattle.ror_repair.specs.Repairs.{IsDroppedWithin, IsGivenRepair, IsBaseAt, IsWideRepair}
 use Rattle.ror_repair.proofs.Nothing.{begins}

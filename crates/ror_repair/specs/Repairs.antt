@@ -12,8 +12,8 @@ use Rattle.ror_proof.specs.declared.kept.Kept.{Kept}
 use Rattle.ror_check.specs.Proof.{base_system}
 use Rattle.ror_check.specs.Repair.{kept_with, IsRepair, IsProvedRepair}
 use Rattle.ror_check.specs.Steps.{IsAcceptedFor}
-use Rattle.ror_relation.specs.Wide.{HasNoteAt}
-use Rattle.ror_relation.specs.Answers.{IsCertificateWithin}
+use Rattle.ror_given.specs.Notes.{HasNoteAt}
+use Rattle.ror_given.specs.Answers.{IsCertificateWithin}
 use Rattle.ror_repair.specs.declared.fault.RepairFault.{RepairFault}
 use Rattle.ror_repair.specs.declared.fault.RepairFault.TheVariants as faults
 

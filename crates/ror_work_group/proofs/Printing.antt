@@ -11,7 +11,7 @@ use Rattle.ror_value.specs.Over.{IsLawfulIn, IsAskedIn}
 use Rattle.ror_proof.specs.declared.answer.Answer.{Answer}
 use Rattle.ror_proof.specs.Text.{IsPrintable}
 use Rattle.ror_report.specs.Printing.{HasValidQuestion, HasNarrowVerdict}
-use Rattle.ror_relation.specs.Answers.{IsGiven}
+use Rattle.ror_given.specs.Answers.{IsGiven}
 use Rattle.ror_relation.specs.declared.decided.DecidedList.{DecidedList}
 use Rattle.ror_relation.specs.DecidedLists.{IsDecidedList, statements_of}
 use Rattle.ror_relation.proofs.Printing.{printable, given_printable}

@@ -5,7 +5,7 @@ use Rattle.ror_statement.specs.declared.statement.Statement.{Statement}
 use Rattle.ror_table.specs.Table.{DecisionTable}
 use Rattle.ror_proof.specs.declared.answer.Answer.{Answer}
 use Rattle.ror_check.specs.Proof.{IsWideOrTrue}
-use Rattle.ror_relation.specs.Answers.{IsGiven}
+use Rattle.ror_given.specs.Answers.{IsGiven}
 use Rattle.ror_relation.specs.Pairs.{ordered_pairs}
 use Rattle.ror_bench.specs.Blocks.{answers_passed}
 use Rattle.ror_bench.specs.declared.report.Reason.{Reason}

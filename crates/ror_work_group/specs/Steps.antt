@@ -7,7 +7,7 @@ use Rattle.ror_proof.specs.declared.answer.Answer.{Answer}
 use Rattle.ror_check.specs.Proof.{is_wide}
 use Rattle.ror_relation.specs.declared.decided.DecidedList.{DecidedList}
 use Rattle.ror_statement.specs.declared.question.Question.TheVariants.{Necessary, Possible}
-use Rattle.ror_relation.specs.Answers.{IsGiven}
+use Rattle.ror_given.specs.Answers.{IsGiven}
 use Rattle.ror_relation.specs.DecidedLists.{IsDecidedList}
 use Rattle.ror_group.specs.declared.judge.Judge.{Judge}
 use Rattle.ror_group.specs.Proof.{IsJudgeIn}

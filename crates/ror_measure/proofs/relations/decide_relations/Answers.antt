@@ -4,7 +4,7 @@ use Rattle.std.specs.Prelude.{count_by, if◌then◌else◌}
 use Rattle.std.specs.List.{AllZip, filter}
 use Rattle.std.proofs.lemmas.Fn.{filter_same}
 use Rattle.ror_pivot.specs.Answers.{most_of}
-use Rattle.ror_relation.specs.Answers.{IsGiven}
+use Rattle.ror_given.specs.Answers.{IsGiven}
 use Rattle.ror_relation.specs.Pairs.{relation_questions}
 use Rattle.ror_measure.specs.Relations.{has_proof}
 use Rattle.ror_measure.proofs.RelationLemmas.{asked_by, kept_asked, kept_count, relations_are}

@@ -4,7 +4,7 @@ use Rattle.ror_pivot.specs.Answers.{most_of}
 use Rattle.ror_statement.specs.declared.statement.Statement.{Statement}
 use Rattle.ror_statement.specs.declared.question.Question.TheVariants.{Consistent}
 use Rattle.ror_proof.specs.declared.answer.Answer.{Answer}
-use Rattle.ror_relation.specs.Answers.{IsGiven}
+use Rattle.ror_given.specs.Answers.{IsGiven}
 use Rattle.ror_relation.proofs.Concluding.{zip_more}
 use Rattle.ror_relation.proofs.deciding.decide_each_warm.Goals as goal
 

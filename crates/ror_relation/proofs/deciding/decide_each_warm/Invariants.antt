@@ -1,7 +1,7 @@
 use Rattle.std.proofs.Common.{◌≤◌, take}
 use Rattle.std.specs.List.{AllZip}
 use Rattle.ror_pivot.specs.Answers.{most_of}
-use Rattle.ror_relation.specs.Answers.{IsGiven}
+use Rattle.ror_given.specs.Answers.{IsGiven}
 use Rattle.ror_relation.specs.DecidedLists.{IsDecidedList}
 use Rattle.ror_relation.proofs.deciding.decide_each_warm.Given as goal
 

@@ -1,5 +1,5 @@
 use Rattle.std.proofs.Common.{◌≡◌, take}
-use Rattle.ror_relation.specs.Wide.{pivots_of}
+use Rattle.ror_given.specs.Notes.{pivots_of}
 use Rattle.ror_relation.proofs.wide.note_text.Given as goal
 
 abbrev pub invariant-loop-pivot : goal.invariant-loop-pivot

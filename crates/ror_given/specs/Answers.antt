@@ -12,7 +12,7 @@ use Rattle.ror_proof.specs.declared.answer.Verdict.{Verdict}
 use Rattle.ror_proof.specs.declared.answer.Verdict.TheVariants as verdicts
 use Rattle.ror_proof.specs.declared.answer.Answer.{Answer}
 use Rattle.ror_check.specs.Proof.{IsAllowedAnswer, IsWideOrTrue}
-use Rattle.ror_relation.specs.Wide.{HasNoteAt}
+use Rattle.ror_given.specs.Notes.{HasNoteAt}
 
 -- no number of the certificate passes most
 abbrev pub IsCertificateWithin : ℕ → Certificate → Type 0
