@@ -6,7 +6,7 @@ ghost use Rattle.ror_relation.specs.DecidedLists.{IsDecidedList};
 
 use ror_made::{are_asked, is_asked, is_lawful, three_alternatives};
 use ror_pivot::Bits;
-use ror_proof::Verdict;
+use ror_proof::{Answer, Verdict};
 use ror_relation::{
     DecidedList, Decision, decide, decide_each, decide_each_warm, decide_system, decide_warm,
     ordered_pairs, relation_questions,
@@ -17,7 +17,6 @@ use ror_table::{Table, read_plain};
 use ror_text::Items;
 use ror_warm::Engine;
 use std::alloc::{AllocError, Global};
-use std::process::Abort;
 use std::test::Fail;
 
 /// Alternatives by the levels of the one criterion, from the worst to the best.
@@ -72,40 +71,41 @@ fn outcome(verdict: &Verdict) -> Said {
 }
 
 /// What is said on this question alone.
-fn decided<R: Abort + AllocGlobal>(
-    rt: &R,
+fn said_on(
+    alloc: Global,
     table: &Table,
     list: &[Statement],
     question: &Question,
     bits: Bits,
 ) -> Result<Said, Fail> {
-    assert!(rt; is_lawful(table, list));
-    assert!(rt; is_asked(table, question));
-    let answer = decide(rt.alloc(), table, list, question, bits)?;
+    if !is_lawful(table, list) || !is_asked(table, question) {
+        return Err(Fail::new("the list is lawful and the question valid"));
+    }
+    let answer = decide(alloc, table, list, question, bits)?;
     Ok(outcome(&answer.verdict))
 }
 
-/// Asserts what is said on questions over a list, decided together and each alone.
-fn expect<R: Abort + AllocGlobal>(
-    rt: &R,
+/// What is said on two questions that are decided together.
+fn said_on_both(
+    alloc: Global,
     table: &Table,
     list: &[Statement],
+    questions: &[Question; 2],
     bits: Bits,
-    expected: &[(Question, Said)],
-) -> Result<(), Fail> {
-    let mut questions = Vec::new(rt.alloc());
-    for (question, said) in expected {
-        let alone = decided(rt, table, list, question, bits)?;
-        assert_eq!(rt; alone, *said, "{question:?} over {list:?}");
-        questions.push(*question)?;
+) -> Result<(Said, Said), Fail> {
+    if !is_lawful(table, list) || !are_asked(table, questions) {
+        return Err(Fail::new("the list is lawful and the questions valid"));
     }
-    let questions = questions.as_slice();
-    assert!(rt; is_lawful(table, list));
-    assert!(rt; are_asked(table, questions));
-    let answers = decide_each(rt.alloc(), table, list, questions, bits)?;
-    let said = answers.iter().map(|answer| outcome(&answer.verdict));
-    assert!(rt; said.eq(expected.iter().map(|(_, said)| *said)));
-    Ok(())
+    let answers = decide_each(alloc, table, list, questions, bits)?;
+    both(answers.as_slice())
+}
+
+/// What two answers say.
+fn both(answers: &[Answer]) -> Result<(Said, Said), Fail> {
+    match answers {
+        [first, second] => Ok((outcome(&first.verdict), outcome(&second.verdict))),
+        _ => Err(Fail::new("two answers")),
+    }
 }
 
 /// That each step but the first is worth more than all before it together.
@@ -132,13 +132,42 @@ fn what_does_not_fit_is_too_wide(rt: HostRuntime) -> Result<(), Fail> {
     let list = doubling_steps(rt.alloc())?;
     let list = list.as_slice();
     let doubled_less = Question::NecessaryStrength(BEFORE_LAST, LAST_STEP, Scope::Whole);
-    let wide = [
-        (Question::Consistent, Said::Wide(0)),
-        (doubled_less, Said::Wide(0)),
-    ];
-    let solved = [(Question::Consistent, Said::Yes), (doubled_less, Said::No)];
-    expect(&rt, &table, list, Bits::B15, &wide)?;
-    expect(&rt, &table, list, Bits::B127, &solved)
+    let alone = said_on(rt.alloc(), &table, list, &doubled_less, Bits::B15)?;
+    assert!(rt; alone == Said::Wide(0));
+    let questions = [Question::Consistent, doubled_less];
+    let narrow = said_on_both(rt.alloc(), &table, list, &questions, Bits::B15)?;
+    assert!(rt; narrow == (Said::Wide(0), Said::Wide(0)));
+    let wide = said_on_both(rt.alloc(), &table, list, &questions, Bits::B127)?;
+    assert!(rt; wide == (Said::Yes, Said::No));
+    Ok(())
+}
+
+/// What an engine says on a question over no statements.
+fn said_by(
+    alloc: Global,
+    engine: &mut Engine,
+    table: &Table,
+    question: &Question,
+) -> Result<Said, Fail> {
+    if !is_lawful(table, &[]) || !is_asked(table, question) {
+        return Err(Fail::new("the question is valid"));
+    }
+    let answer = decide_warm(alloc, engine, table, &[], question, Bits::B15)?;
+    Ok(outcome(&answer.verdict))
+}
+
+/// What it says on two together.
+fn said_by_both(
+    alloc: Global,
+    engine: &mut Engine,
+    table: &Table,
+    questions: &[Question; 2],
+) -> Result<(Said, Said), Fail> {
+    if !is_lawful(table, &[]) || !are_asked(table, questions) {
+        return Err(Fail::new("the questions are valid"));
+    }
+    let answers = decide_each_warm(alloc, engine, table, &[], questions, Bits::B15)?;
+    both(answers.as_slice())
 }
 
 // Over no statements some function makes x0, the worst, worth as much as x1, and none makes it worth more.
@@ -146,20 +175,12 @@ fn what_does_not_fit_is_too_wide(rt: HostRuntime) -> Result<(), Fail> {
 fn an_engine_answers_one_question_after_another(rt: HostRuntime) -> Result<(), Fail> {
     let table = read_plain(rt.alloc(), LEVELS)?;
     let mut engine = Engine::new(rt.alloc());
-    for (question, said) in [
-        (Question::Possible(0, 1), Said::Yes),
-        (Question::Necessary(0, 1), Said::No),
-    ] {
-        assert!(rt; is_lawful(&table, &[]));
-        assert!(rt; is_asked(&table, &question));
-        let answer = decide_warm(rt.alloc(), &mut engine, &table, &[], &question, Bits::B15)?;
-        assert_eq!(rt; outcome(&answer.verdict), said);
-    }
+    let possible = said_by(rt.alloc(), &mut engine, &table, &Question::Possible(0, 1))?;
+    let necessary = said_by(rt.alloc(), &mut engine, &table, &Question::Necessary(0, 1))?;
+    assert!(rt; possible == Said::Yes && necessary == Said::No);
     let questions = [Question::Consistent, Question::Possible(1, 0)];
-    assert!(rt; is_lawful(&table, &[]) && are_asked(&table, &questions));
-    let answers = decide_each_warm(rt.alloc(), &mut engine, &table, &[], &questions, Bits::B15)?;
-    let said = answers.iter().map(|answer| outcome(&answer.verdict));
-    assert!(rt; said.eq([Said::Yes, Said::Yes].into_iter()));
+    let said = said_by_both(rt.alloc(), &mut engine, &table, &questions)?;
+    assert!(rt; said == (Said::Yes, Said::Yes));
     Ok(())
 }
 
@@ -196,25 +217,33 @@ fn said_over(
     Ok(outcome(&answer.verdict))
 }
 
+/// What is said on the question over two lists that share an engine: over no statements, and where a is preferred to b.
+fn said_in_turn(alloc: Global, table: &Table, question: &Question) -> Result<(Said, Said), Fail> {
+    let mut engine = Engine::new(alloc);
+    let nothing = list_with_base(alloc, &mut engine, table, &[])?;
+    let something = list_with_base(alloc, &mut engine, table, &[Statement::Prefer(0, 1)])?;
+    let over_nothing = said_over(alloc, &mut engine, table, &nothing, question)?;
+    let over_something = said_over(alloc, &mut engine, table, &something, question)?;
+    Ok((over_nothing, over_something))
+}
+
 #[test]
 fn two_lists_are_asked_in_turn(rt: HostRuntime) -> Result<(), Fail> {
     let table = three_alternatives(rt.alloc())?;
+    let necessary = said_in_turn(rt.alloc(), &table, &Question::Necessary(0, 1))?;
+    assert!(rt; necessary == (Said::No, Said::Yes));
+    let possible = said_in_turn(rt.alloc(), &table, &Question::Possible(1, 0))?;
+    assert!(rt; possible == (Said::Yes, Said::No));
+    Ok(())
+}
+
+#[test]
+fn a_list_keeps_its_statements(rt: HostRuntime) -> Result<(), Fail> {
+    let table = three_alternatives(rt.alloc())?;
     let mut engine = Engine::new(rt.alloc());
     let stated = [Statement::Prefer(0, 1)];
-    let nothing = list_with_base(rt.alloc(), &mut engine, &table, &[])?;
-    let something = list_with_base(rt.alloc(), &mut engine, &table, &stated)?;
-    assert!(rt; nothing.statements().is_empty() && something.statements() == stated.as_slice());
-    for (question, over_nothing, over_something) in [
-        (Question::Necessary(0, 1), Said::No, Said::Yes),
-        (Question::Possible(1, 0), Said::Yes, Said::No),
-    ] {
-        let said = said_over(rt.alloc(), &mut engine, &table, &nothing, &question)?;
-        assert_eq!(rt; said, over_nothing);
-        let said = said_over(rt.alloc(), &mut engine, &table, &something, &question)?;
-        assert_eq!(rt; said, over_something);
-        let alone = decided(&rt, &table, &stated, &question, Bits::B15)?;
-        assert_eq!(rt; said, alone);
-    }
+    let list = list_with_base(rt.alloc(), &mut engine, &table, &stated)?;
+    assert!(rt; list.statements() == stated.as_slice());
     Ok(())
 }
 
