@@ -1,0 +1,9 @@
+pub mod WordTexts
+pub mod Lists
+pub mod Pieces
+pub mod QuestionTexts
+pub mod Forms
+pub mod Reports
+pub mod ReportLaws
+pub mod FormTexts
+pub mod TextSizes
