@@ -1,0 +1,6 @@
+pub mod Nested
+pub mod Truth
+pub mod Checks
+pub mod Searches
+pub mod ReadLevels
+pub mod Finds

@@ -1,0 +1,9 @@
+pub mod Levels
+pub mod Spans
+pub mod Proof
+pub mod Faults
+pub mod Finding
+pub mod Searching
+pub mod Steps
+pub mod Reading
+pub mod Laws

@@ -1,0 +1,237 @@
+//! The search for spans.
+
+ghost use Rattle.std.specs.Prelude.{◌≡◌, ◌<◌, ◌≤◌, ◌+◌, ◌++◌, ◌-◌, ◌^◌, length, OnOk, IfOk, IfErr};
+ghost use Rattle.ror_statement.specs.Statements.{statements_in};
+ghost use Rattle.ror_pivot.specs.Answers.{most_of};
+ghost use Rattle.ror_value.specs.Over.{IsLawfulIn};
+ghost use Rattle.ror_confidence.specs.Levels.{AreLevelsOf, level_lists};
+ghost use Rattle.ror_confidence.specs.Spans.{AreLevelLists, IsSpan};
+ghost use Rattle.ror_confidence.specs.Proof.{IsProvedSpan, IsSpanWithin};
+ghost use Rattle.ror_confidence.specs.Finding.{HasNoWideQuestions, IsDueSpanFault};
+ghost use Rattle.ror_confidence.specs.Searching.{IsBase, IsOpenBase, IsSearchOf, answers_at, answers_of};
+
+use crate::border::{Border, find_border};
+use crate::copies::{copied_border, copied_level_answer};
+use crate::decider::Decider;
+use crate::fault::SpanFault;
+use crate::levels::{Levels, level_lists};
+use crate::span::{LevelAnswer, Span};
+use ror_pivot::Bits;
+use ror_proof::Answer;
+use ror_statement::{Numbered, Question, Statement};
+use ror_table::Table;
+use ror_text::Items;
+use std::alloc::{AllocError, Global};
+
+/// Finds the span of a pair over levels: the levels from which on, and up to which, each conclusion holds, with the answers at
+/// the borders. The decider answers at this width, each question at a few of the levels.
+///
+/// The statements are lawful, the levels are theirs, and the alternatives are of the table.
+///
+/// # Errors
+///
+/// The answer that is too wide, on which the span depends; none where no number of the questions' systems passes the width.
+pub fn find_span<K: Decider>(
+    alloc: Global,
+    decider: &mut K,
+    table: &Table,
+    standing: &[Numbered],
+    levels: &Levels,
+    a: usize,
+    b: usize,
+    bits: Bits,
+) -> Result<Span, SpanFault>
+    requires lawful { IsLawfulIn table.now (statements_in standing.now) }
+    requires levels { AreLevelsOf standing.now levels.now }
+    requires first { a < length table.now.alternatives }
+    requires second { b < length table.now.alternatives }
+
+    ensures proved { IfOk result
+        (IsProvedSpan table.now (level_lists standing.now levels.now) a b) }
+    ensures true_span { IfOk result (λ x. IsSpan table.now (level_lists standing.now levels.now)
+        a b x.contradictory x.necessary x.possible) }
+    ensures narrow { IfOk result (IsSpanWithin (most_of bits)) }
+
+    ensures due { IfErr result (IsDueSpanFault (most_of bits) table.now
+        (level_lists standing.now levels.now) a b) }
+    ensures complete { HasNoWideQuestions (most_of bits) table.now
+        (level_lists standing.now levels.now) a b → IfErr result (λ e. e ≡ SpanFault.Memory) }
+{
+    let mut search = LevelSearch::new(alloc, decider, table, standing, levels, bits)?;
+    search.find(alloc, decider, table, a, b, bits)
+}
+
+/// Where statements begin to contradict each other, or the answer that leaves it open.
+#[derive(Drop)]
+pub(crate) enum Base {
+    Found(Border),
+    Open(LevelAnswer),
+}
+
+/// Finds spans over the same levels, one after the other. The statements of each level are listed once, and it is found once
+/// where they begin to contradict each other. The borders of a pair are sought from those of the pair before.
+#[derive(Drop)]
+pub struct LevelSearch {
+    lists: Vec<Items<Statement>>,
+    base: Base,
+    necessary: u32,
+    possible: u32,
+}
+
+impl LevelSearch {
+    /// The search over these levels of the statements, at this width. Its one error is want of memory.
+    pub fn new<K: Decider>(
+        alloc: Global,
+        decider: &mut K,
+        table: &Table,
+        standing: &[Numbered],
+        levels: &Levels,
+        bits: Bits,
+    ) -> Result<LevelSearch, AllocError>
+        requires lawful { IsLawfulIn table.now (statements_in standing.now) }
+        requires levels { AreLevelsOf standing.now levels.now }
+        ensures search { IfOk result (IsSearchOf (most_of bits) table.now) }
+        ensures lists { IfOk result
+            (λ search. search.lists.items ≡ level_lists standing.now levels.now) }
+    {
+        let lists = level_lists(alloc, standing, levels)?;
+        let base = base_of(alloc, decider, table, &lists, bits)?;
+        Ok(LevelSearch {
+            lists,
+            base,
+            necessary: 1,
+            possible: levels.count + 1,
+        })
+    }
+
+    /// Finds the span of a pair, as `find_span` does. It finds further spans whatever comes of this one.
+    ///
+    /// # Errors
+    ///
+    /// The answer that is too wide, on which the span depends.
+    pub fn find<K: Decider>(
+        &mut self,
+        alloc: Global,
+        decider: &mut K,
+        table: &Table,
+        a: usize,
+        b: usize,
+        bits: Bits,
+    ) -> Result<Span, SpanFault>
+        requires search { IsSearchOf (most_of bits) table.now self.old }
+        requires first { a < length table.now.alternatives }
+        requires second { b < length table.now.alternatives }
+
+        ensures proved { IfOk result (IsProvedSpan table.now self.old.lists.items a b) }
+        ensures true_span { IfOk result (λ x. IsSpan table.now self.old.lists.items a b
+            x.contradictory x.necessary x.possible) }
+        ensures narrow { IfOk result (IsSpanWithin (most_of bits)) }
+
+        ensures due { IfErr result
+            (IsDueSpanFault (most_of bits) table.now self.old.lists.items a b) }
+        ensures complete { HasNoWideQuestions (most_of bits) table.now self.old.lists.items a b
+            → IfErr result (λ e. e ≡ SpanFault.Memory) }
+
+        ensures search { IsSearchOf (most_of bits) table.now self.new }
+        ensures lists { self.new.lists.items ≡ self.old.lists.items }
+    {
+        let contradictory = copied_base(alloc, &self.base)?;
+        let end = contradictory.level;
+        let asked = Question::Necessary(a, b);
+        let guess = self.necessary;
+        let necessary = find_border(alloc, decider, table, &self.lists, &asked, guess, end, bits)?;
+        self.necessary = necessary.level;
+        let asked = Question::Possible(a, b);
+        let guess = self.possible;
+        let possible = find_border(alloc, decider, table, &self.lists, &asked, guess, end, bits)?;
+        self.possible = possible.level;
+        Ok(span_of(alloc, contradictory, necessary, possible)?)
+    }
+}
+
+/// Where the statements of the levels begin to contradict each other.
+fn base_of<K: Decider>(
+    alloc: Global,
+    decider: &mut K,
+    table: &Table,
+    lists: &[Items<Statement>],
+    bits: Bits,
+) -> Result<Base, AllocError>
+    requires lists { AreLevelLists table.now lists.now }
+    requires few { length lists.now < 2 ^ 16 }
+    ensures { IfOk result (IsBase (most_of bits) table.now lists.now) }
+{
+    let end = lists.len() as u32 + 1;
+    match find_border(
+        alloc,
+        decider,
+        table,
+        lists,
+        &Question::Consistent,
+        end,
+        end,
+        bits,
+    ) {
+        Ok(border) => Ok(Base::Found(border)),
+        Err(SpanFault::Wide(x)) => Ok(Base::Open(x)),
+        Err(SpanFault::Memory) => Err(AllocError),
+    }
+}
+
+/// The border at which statements begin to contradict each other, or the answer that leaves it open.
+fn copied_base(alloc: Global, base: &Base) -> Result<Border, SpanFault>
+    ensures border { IfOk result (λ border. base.now ≡ Base.Found border) }
+    ensures open { IfErr result (IsOpenBase base.now) }
+{
+    match base {
+        Base::Found(border) => Ok(copied_border(alloc, border)?),
+        Base::Open(x) => Err(SpanFault::Wide(copied_level_answer(alloc, x)?)),
+    }
+}
+
+/// Adds the answer at a level, if there is one.
+fn push_answer(
+    proof: &mut Vec<LevelAnswer>,
+    level: u32,
+    answer: Option<Answer>,
+) -> Result<(), AllocError>
+    ensures { OnOk result (proof.new.items ≡ proof.old.items ++ answers_at level answer) }
+{
+    if let Some(answer) = answer {
+        proof.push(LevelAnswer { level, answer })?;
+    }
+    Ok(())
+}
+
+/// The span with these borders.
+fn span_of(
+    alloc: Global,
+    contradictory: Border,
+    necessary: Border,
+    possible: Border,
+) -> Result<Span, AllocError>
+    requires contradictory { 1 ≤ contradictory.level }
+    requires necessary { 1 ≤ necessary.level }
+    requires possible { 1 ≤ possible.level }
+    ensures { IfOk result (λ span. span ≡ record {
+      contradictory = contradictory.level;
+      necessary = necessary.level;
+      possible = possible.level - 1;
+      proof = answers_of contradictory necessary possible;
+    }) }
+{
+    let (end, first, next) = (contradictory.level, necessary.level, possible.level);
+    let mut proof = Vec::new(alloc);
+    push_answer(&mut proof, end, contradictory.from)?;
+    push_answer(&mut proof, end - 1, contradictory.below)?;
+    push_answer(&mut proof, first, necessary.from)?;
+    push_answer(&mut proof, first - 1, necessary.below)?;
+    push_answer(&mut proof, next - 1, possible.below)?;
+    push_answer(&mut proof, next, possible.from)?;
+    Ok(Span {
+        contradictory: end,
+        necessary: first,
+        possible: next - 1,
+        proof: Items::from(proof),
+    })
+}
