@@ -3,12 +3,11 @@ use Rattle.std.proofs.Common.{◌≡◌, ℕ, ◌+◌, ◌≤◌, zero, suc, tru
 use Rattle.std.specs.Prelude.{codes}
 use Rattle.std.proofs.lemmas.Bool.{cases_Bool}
 use Rattle.ror_text.specs.Cursor.{Cursor, line_words}
-use Rattle.ror_text.specs.Reading.{◌>>=◌, need}
+use Rattle.ror_text.specs.Reading.{◌>>=◌}
 use Rattle.ror_text.proofs.ReadingLemmas.{bind_ok, bind_err}
-use Rattle.ror_table.specs.Table.{DecisionTable, IsTable, alternative_named}
+use Rattle.ror_table.specs.Table.{DecisionTable, IsTable}
 use Rattle.ror_proof.specs.declared.answer.Answer.{Answer}
 use Rattle.ror_proof.specs.declared.read.ProofFault.{ProofFault}
-use Rattle.ror_proof.specs.declared.read.ProofFault.TheVariants.{BadLine}
 use Rattle.ror_proof.specs.Expected.Expected.{an_id, the_end}
 use Rattle.ror_proof.specs.Questions.{alternative_at}
 use Rattle.ror_proof.specs.Reading.{answer_at}
@@ -17,7 +16,8 @@ use Rattle.ror_proof.specs.Words.{name_at, no_more}
 use Rattle.ror_proof.proofs.AnswerLemmas.{answer_is_text, is_read_iff_text}
 use Rattle.ror_proof.proofs.LineFaults.{ReadsLine, reads_line, answer_err, answer_fails, line_fails, line_goes}
 use Rattle.ror_proof.proofs.QuestionFaults.{name_steps}
-use Rattle.ror_proof.proofs.WordFaults.{Steps, Ends, no_fault, one_steps, then_ends, word_then_ends, end_ends, alternative_one}
+use Rattle.ror_proof.proofs.WordFaults.{Ends, no_fault, then_ends, word_then_ends, end_ends}
+use Rattle.ror_proof.proofs.QuestionFaults.{alternative_steps}
 use Rattle.ror_proof.proofs.WordLemmas.{done, ok_is}
 use Rattle.ror_group.specs.declared.entry.Entry.{Entry}
 use Rattle.ror_group.specs.declared.quartet.Quartet.{Quartet}
@@ -32,13 +32,6 @@ use Rattle.ror_group.proofs.AnswerLoops.{answer_step, no_answers, goes_on_some}
 use Rattle.ror_group.proofs.EntryLemmas.{answer_has_bytes}
 
 -- ---- lines
-
-no_end : ⊥ → ⊥
-no_end h = h
-
-alternative_steps : (t : DecisionTable) (place : ℕ) (words : List (List ℕ)) → Steps t place (alternative_at t place words) (an_id ∷ []) words
-unfolding alternative_at
-alternative_steps t place words = one_steps t place (λ word. need (BadLine place) (alternative_named t word)) an_id words no_end (alternative_one t place)
 
 abbrev pair_ended : ℕ → ℕ → ℕ × List (List ℕ) → Result (ℕ × ℕ) ProofFault
 pair_ended place a second = no_more place second.1 >>= λ _. done (a, second.0)

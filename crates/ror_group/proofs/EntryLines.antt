@@ -4,16 +4,15 @@ use Rattle.std.specs.Prelude.{codes}
 use Rattle.std.specs.List.{flat_map}
 use Rattle.std.proofs.lemmas.Bool.{cases_Bool, and_from, ne_eqb, eqb-true}
 use Rattle.ror_text.specs.Cursor.{Cursor, line_words}
-use Rattle.ror_text.specs.Reading.{◌>>=◌, need}
+use Rattle.ror_text.specs.Reading.{◌>>=◌}
 use Rattle.ror_text.specs.SpacedLines.{is_word, are_words, line_text}
 use Rattle.ror_text.proofs.CursorLemmas.{Spans, line_spans}
-use Rattle.ror_text.proofs.IdLemmas.{is_word-id}
-use Rattle.ror_text.proofs.ReadingLemmas.{bind_ok, need_ok}
-use Rattle.ror_table.specs.Table.{DecisionTable, IsTable, alternative_named, id_of}
-use Rattle.ror_table.proofs.NameLemmas.{alternative_named-id_of, alternative_named-sound, id_of_is_id}
-use Rattle.ror_proof.specs.declared.read.ProofFault.TheVariants.{BadLine}
+use Rattle.ror_text.proofs.ReadingLemmas.{bind_ok}
+use Rattle.ror_table.specs.Table.{DecisionTable, IsTable, id_of}
 use Rattle.ror_proof.specs.Names.{name_of}
 use Rattle.ror_proof.specs.Questions.{alternative_at}
+use Rattle.ror_proof.proofs.AnswerLemmas.{id_is_word}
+use Rattle.ror_proof.proofs.QuestionLemmas.{alternative_again, alternative_sound}
 use Rattle.ror_proof.specs.Text.{answer_text}
 use Rattle.ror_proof.specs.Reading.{begins_part}
 use Rattle.ror_proof.specs.Words.{after_word, name_at, no_more}
@@ -27,21 +26,6 @@ use Rattle.ror_group.specs.Reading.{pair_words, pair_line, quartet_words, quarte
 use Rattle.ror_group.specs.Text.{group_word, group_words, pair_text, group_text, entry_text}
 
 -- ---- the line that names the pair
-
-alternative_again : (t : DecisionTable) (place a : ℕ) (more : List (List ℕ)) → IsTable t → a < length t.alternatives → alternative_at t place (id_of t a ∷ more) ≡ Ok (a, more)
-unfolding alternative_at
-alternative_again t place a more table within = rw (alternative_named-id_of t a table within) refl
-
-alternative_sound : (t : DecisionTable) (place : ℕ) (words : List (List ℕ)) (x : ℕ × List (List ℕ)) → alternative_at t place words ≡ Ok x → (words ≡ id_of t x.0 ∷ x.1) × (x.0 < length t.alternatives)
-unfolding alternative_at
-alternative_sound t place [] x e = absurd cc
-alternative_sound t place (id ∷ words) x e =
-    let a = bind_ok (need (BadLine place) (alternative_named t id)) (λ alternative. done (alternative, words)) x e in
-    let found = alternative_named-sound t id a.0 (need_ok (BadLine place) (alternative_named t id) a.0 a.1) in
-    subst (λ (y : ℕ × List (List ℕ)). (id ∷ words ≡ id_of t y.0 ∷ y.1) × (y.0 < length t.alternatives)) (ok_is (a.0, words) x a.2) (ap (λ (w : List ℕ). w ∷ words) found.1, found.0)
-
-id_is_word : (t : DecisionTable) (a : ℕ) → IsTable t → a < length t.alternatives → is_word (id_of t a) ≡ true
-id_is_word t a table within = is_word-id (id_of t a) (id_of_is_id t a table within)
 
 pair_words_again : (t : DecisionTable) (place a b : ℕ) → IsTable t → a < length t.alternatives → b < length t.alternatives → pair_words t place (codes "pair" ∷ id_of t a ∷ id_of t b ∷ []) ≡ Ok (a, b)
 unfolding pair_words

@@ -3,17 +3,15 @@
 ghost use Rattle.std.specs.Prelude.{◌≡◌, ◌≤◌, ◌<◌, drop, length, IfErr, IfOk};
 ghost use Rattle.ror_text.specs.Reading.{Gives};
 ghost use Rattle.ror_text.specs.Cursor.{cursor_at};
-ghost use Rattle.ror_table.specs.Table.{alternative_named};
-ghost use Rattle.ror_proof.specs.Questions as questions;
 ghost use Rattle.ror_proof.specs.Reading.{proof_fault, IsProofFaultWithin};
 ghost use Rattle.ror_group.specs.Reading as reading;
 
 use crate::entry::GROUP_WORDS;
 use crate::quartet::Quartet;
 use ror_proof::ProofFault;
+use ror_proof::questions::alternative_at;
 use ror_proof::words::{after_word, name_at, no_more};
 use ror_table::Table;
-use ror_text::ids::id_text;
 use ror_text::reading::need;
 use ror_text::spaced::{Words, line_at};
 
@@ -38,36 +36,6 @@ pub(crate) fn pair_line(
     no_more(from, words)?;
     let next = need(next, ProofFault::BadLine(from))?;
     Ok((first, second, next))
-}
-
-/// The alternative whose id comes first.
-#[tactic(auto, unfolding(ror_proof::specs::Questions::alternative_at))]
-fn alternative_at<'a>(
-    table: &Table,
-    place: usize,
-    words: Words<'a>,
-) -> Result<(usize, Words<'a>), ProofFault>
-    ensures exact { Gives (λ x. (x.0, x.1)) proof_fault result
-        (questions.alternative_at table.now place words.entry) }
-    ensures placed { IfErr result (IsProofFaultWithin place) }
-{
-    match words.next() {
-        Some((id, rest)) => {
-            let alternative = need(find_alternative(table, id), ProofFault::BadLine(place))?;
-            Ok((alternative, rest))
-        }
-        None => Err(ProofFault::BadLine(place)),
-    }
-}
-
-/// The place of an alternative's id, if the table has it.
-fn find_alternative(table: &Table, id: &[u8]) -> Option<usize>
-    ensures { result ≡ alternative_named table.now id.now }
-{
-    // A table has alternatives, and the id of each is an id.
-    prove!(table.alternatives() > 0);
-    let id = id_text(id)?;
-    table.find_alternative(id)
 }
 
 /// The line of the four words, and where the next line begins.

@@ -76,7 +76,7 @@ ended_sound c reading x e =
 abbrev head_words : DecisionTable → Question → VerdictName → List (List ℕ)
 head_words t q name = codes "answer" ∷ (question_words t q ++ verdict_word name ∷ [])
 
-id_is_word : (t : DecisionTable) (a : ℕ) → IsTable t → a < length t.alternatives → is_word (id_of t a) ≡ true
+pub id_is_word : (t : DecisionTable) (a : ℕ) → IsTable t → a < length t.alternatives → is_word (id_of t a) ≡ true
 id_is_word t a table within = is_word-id (id_of t a) (id_of_is_id t a table within)
 
 pair_are_words : (t : DecisionTable) (p : Pair) → IsTable t → PairWithin (length t.alternatives) p → are_words (pair_words t p) ≡ true

@@ -36,7 +36,7 @@ use Rattle.ror_proof.proofs.WordFaults.{Steps, Ends, nothing_read, then_steps, t
 no_end : ⊥ → ⊥
 no_end h = h
 
-alternative_steps : (t : DecisionTable) (place : ℕ) (words : List (List ℕ)) → Steps t place (alternative_at t place words) (an_id ∷ []) words
+pub alternative_steps : (t : DecisionTable) (place : ℕ) (words : List (List ℕ)) → Steps t place (alternative_at t place words) (an_id ∷ []) words
 unfolding alternative_at
 alternative_steps t place words = one_steps t place (λ word. need (BadLine place) (alternative_named t word)) an_id words no_end (alternative_one t place)
 

@@ -44,11 +44,11 @@ class_read alternative class = Ok ((alternative, class.0), class.1)
 
 -- ---- ids
 
-alternative_again : (t : DecisionTable) (place a : ℕ) (more : List (List ℕ)) → IsTable t → a < length t.alternatives → alternative_at t place (id_of t a ∷ more) ≡ Ok (a, more)
+pub alternative_again : (t : DecisionTable) (place a : ℕ) (more : List (List ℕ)) → IsTable t → a < length t.alternatives → alternative_at t place (id_of t a ∷ more) ≡ Ok (a, more)
 unfolding alternative_at
 alternative_again t place a more table within = rw (alternative_named-id_of t a table within) refl
 
-alternative_sound : (t : DecisionTable) (place : ℕ) (words : List (List ℕ)) (x : ℕ × List (List ℕ)) → alternative_at t place words ≡ Ok x → (words ≡ id_of t x.0 ∷ x.1) × (x.0 < length t.alternatives)
+pub alternative_sound : (t : DecisionTable) (place : ℕ) (words : List (List ℕ)) (x : ℕ × List (List ℕ)) → alternative_at t place words ≡ Ok x → (words ≡ id_of t x.0 ∷ x.1) × (x.0 < length t.alternatives)
 unfolding alternative_at
 alternative_sound t place [] x e = absurd cc
 alternative_sound t place (id ∷ words) x e =

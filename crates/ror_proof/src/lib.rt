@@ -21,7 +21,7 @@ mod kept;
 pub mod laws;
 pub mod names;
 mod print;
-mod questions;
+pub mod questions;
 mod read;
 pub mod words;
 

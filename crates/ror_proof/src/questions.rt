@@ -170,7 +170,7 @@ fn class_at<'a>(
 
 /// The alternative whose id comes first.
 #[tactic(auto, unfolding(crate::specs::Questions::alternative_at))]
-fn alternative_at<'a>(
+pub fn alternative_at<'a>(
     table: &Table,
     place: usize,
     words: Words<'a>,
