@@ -63,10 +63,10 @@ module _ {E : Type 0} (kind : Kind E) (lawful : IsKind kind) where
   }
 
   -- what is left may follow an entry
-  pub rest_follows : (n : ℕ) (es : List E) → AllByRecursion kind.IsPrintable es → kind.MayFollow (flat_map kind.text es ++ end_text n)
-  rest_follows n [] printable = lawful.end_follows n
-  rest_follows n (e ∷ es) printable =
-      subst kind.MayFollow (sym (append_assoc (kind.text e) (flat_map kind.text es) (end_text n))) (lawful.entry_follows e (flat_map kind.text es ++ end_text n) printable.0)
+  pub rest_follows : (n : ℕ) (e : E) (es : List E) → kind.IsPrintable e → AllByRecursion kind.IsPrintable es → kind.MayFollow e (flat_map kind.text es ++ end_text n)
+  rest_follows n e [] has printable = lawful.end_follows e n has
+  rest_follows n e (next ∷ es) has printable =
+      subst (kind.MayFollow e) (sym (append_assoc (kind.text next) (flat_map kind.text es) (end_text n))) (lawful.entry_follows e next (flat_map kind.text es ++ end_text n) has printable.0)
 
   -- the first entry of what is left
   pub record HasFirst (place : ℕ) (bytes : List ℕ) : Type 0 where
@@ -74,7 +74,7 @@ module _ {E : Type 0} (kind : Kind E) (lawful : IsKind kind) where
     pub after : List ℕ
     pub accepted : Accepted
     pub text : bytes ≡ kind.text entry ++ after
-    pub follows : kind.MayFollow after
+    pub follows : kind.MayFollow entry after
     pub printable : kind.IsPrintable entry
     pub proved : kind.IsProved place entry
     pub rest : IsRest kind (place + 1) after accepted
@@ -86,7 +86,7 @@ module _ {E : Type 0} (kind : Kind E) (lawful : IsKind kind) where
     after = flat_map kind.text es ++ end_text kind.count;
     accepted = accepted_of kind es;
     text = text ∙ append_assoc (kind.text e) (flat_map kind.text es) (end_text kind.count);
-    follows = rest_follows kind.count es printable.1;
+    follows = rest_follows kind.count e es printable.0 printable.1;
     printable = printable.0;
     proved = proved.0;
     rest = record { entries = es; all_due = omega arith; text = refl; printable = printable.1; proved = proved.1; counted = refl };

@@ -36,7 +36,7 @@ pub same_itself : {E : Type 0} (kind : Kind E) → IsSameKind kind kind
 same_itself kind = record {
   writes = writes_itself kind;
   reads = refl;
-  may_follow = λ rest. iff_itself (kind.MayFollow rest);
+  may_follow = λ x rest. iff_itself (kind.MayFollow x rest);
   proved = λ place x. iff_itself (kind.IsProved place x);
   refuses = λ place x reason. iff_itself (kind.Refuses place x reason);
   is_true = λ place x. iff_itself (kind.IsTrue place x);
@@ -46,7 +46,7 @@ pub same_through : {E : Type 0} (one other third : Kind E) → IsSameKind one ot
 same_through one other third a b = record {
   writes = writes_through one other third a.writes b.writes;
   reads = a.reads ∙ b.reads;
-  may_follow = λ rest. iff_through (a.may_follow rest) (b.may_follow rest);
+  may_follow = λ x rest. iff_through (a.may_follow x rest) (b.may_follow x rest);
   proved = λ place x. iff_through (a.proved place x) (b.proved place x);
   refuses = λ place x reason. iff_through (a.refuses place x reason) (b.refuses place x reason);
   is_true = λ place x. iff_through (a.is_true place x) (b.is_true place x);
@@ -65,13 +65,13 @@ module _ {E : Type 0} (one other : Kind E) (same : IsSameKind one other) where
       text = is.text ∙ ap (λ (l : List ℕ). l ++ after.rest) (text_same x);
       place = is.place ∙ ap (λ (l : List ℕ). c.place + length l) (text_same x);
       printable = (same.writes.printable x).0 is.printable;
-      follows = (same.may_follow after.rest).0 is.follows;
+      follows = (same.may_follow x after.rest).0 is.follows;
     },
     λ is. record {
       text = is.text ∙ ap (λ (l : List ℕ). l ++ after.rest) (sym (text_same x));
       place = is.place ∙ ap (λ (l : List ℕ). c.place + length l) (sym (text_same x));
       printable = (same.writes.printable x).1 is.printable;
-      follows = (same.may_follow after.rest).1 is.follows;
+      follows = (same.may_follow x after.rest).1 is.follows;
     },
   )
 
@@ -84,8 +84,8 @@ module _ {E : Type 0} (one other : Kind E) (same : IsSameKind one other) where
       λ is. reads_same c ∙ (lawful.read_iff_text c x after).1 ((entry_text c x after).0 is),
     );
     begins_no_end = λ x rest printable. rw (text_same x) (lawful.begins_no_end x rest ((same.writes.printable x).0 printable));
-    entry_follows = λ x rest printable. (same.may_follow (one.text x ++ rest)).1 (rw (text_same x) (lawful.entry_follows x rest ((same.writes.printable x).0 printable)));
-    end_follows = λ n. (same.may_follow _).1 (lawful.end_follows n);
+    entry_follows = λ x next rest has printable. (same.may_follow x (one.text next ++ rest)).1 (rw (text_same next) (lawful.entry_follows x next rest ((same.writes.printable x).0 has) ((same.writes.printable next).0 printable)));
+    end_follows = λ x n has. (same.may_follow x _).1 (lawful.end_follows x n ((same.writes.printable x).0 has));
     utf8 = λ x printable. subst IsUtf8 (sym (text_same x)) (lawful.utf8 x ((same.writes.printable x).0 printable));
     proved_not_refused = λ place x reason proved refuses. lawful.proved_not_refused place x reason ((same.proved place x).0 proved) ((same.refuses place x reason).0 refuses);
     proved_is_true = λ place x proved. (same.is_true place x).1 (lawful.proved_is_true place x ((same.proved place x).0 proved));

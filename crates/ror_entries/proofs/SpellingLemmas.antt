@@ -35,7 +35,7 @@ module _ {E : Type 0} (kind : Kind E) (lawful : IsKind kind) where
   -- ---- one text
 
   -- the entry of a text that something may follow is the one that is read
-  reads_it : (x : E) (rest : List ℕ) → kind.IsPrintable x → kind.MayFollow rest → kind.reads (record { place = 0; rest = kind.text x ++ rest }) ≡ Ok (x, record { place = 0 + length (kind.text x); rest = rest })
+  reads_it : (x : E) (rest : List ℕ) → kind.IsPrintable x → kind.MayFollow x rest → kind.reads (record { place = 0; rest = kind.text x ++ rest }) ≡ Ok (x, record { place = 0 + length (kind.text x); rest = rest })
   reads_it x rest printable follows =
       (lawful.read_iff_text (record { place = 0; rest = kind.text x ++ rest }) x (record { place = 0 + length (kind.text x); rest = rest })).1 (record { text = refl; place = refl; printable = printable; follows = follows })
 
@@ -50,8 +50,8 @@ module _ {E : Type 0} (kind : Kind E) (lawful : IsKind kind) where
       let after : List ℕ = flat_map kind.text xs ++ end_text m in
       let other : List ℕ = flat_map kind.text ys ++ end_text n in
       let same : kind.text x ++ after ≡ kind.text y ++ other = sym (append_assoc (kind.text x) (flat_map kind.text xs) (end_text m)) ∙ e ∙ append_assoc (kind.text y) (flat_map kind.text ys) (end_text n) in
-      let of_x = reads_it x after px.0 (rest_follows kind lawful m xs px.1) in
-      let of_y = reads_it y other py.0 (rest_follows kind lawful n ys py.1) in
+      let of_x = reads_it x after px.0 (rest_follows kind lawful m x xs px.0 px.1) in
+      let of_y = reads_it y other py.0 (rest_follows kind lawful n y ys py.0 py.1) in
       let both = one_read (kind.reads (record { place = 0; rest = kind.text x ++ after })) (y, record { place = 0 + length (kind.text y); rest = other }) (x, record { place = 0 + length (kind.text x); rest = after }) (ap (λ (r : List ℕ). kind.reads (record { place = 0; rest = r })) same ∙ of_y) of_x in
       let first : x ≡ y = ap (λ (p : E × Cursor). p.0) both in
       let left : after ≡ other = ap (λ (p : E × Cursor). p.1.rest) both in

@@ -34,8 +34,8 @@ item_is_kind count few = record {
     λ is. item_read count c n after is,
   );
   begins_no_end = λ n rest printable. no_end n rest;
-  entry_follows = λ n rest printable. tt;
-  end_follows = λ n. tt;
+  entry_follows = λ n next rest has printable. tt;
+  end_follows = λ x n has. tt;
   utf8 = λ n printable. line_text_is_utf8 (codes "item" ∷ decimal n ∷ []) (ascii_is_utf8 (codes "item") refl, (decimal_is_utf8 n (omega arith), tt));
   proved_not_refused = λ place n reason proved refuses. refuses.0 proved;
   proved_is_true = λ place n proved. omega (arith, proved);

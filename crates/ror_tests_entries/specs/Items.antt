@@ -11,7 +11,7 @@ abbrev pub item_kind : ℕ → Kind ℕ
 item_kind count = record {
   text = λ n. numbered_text (codes "item") n;
   IsPrintable = λ n. n < 2 ^ 32;
-  MayFollow = λ rest. Unit {0};
+  MayFollow = λ x rest. Unit {0};
   reads = λ c. numbered_line (codes "item") c;
   count = count;
   IsProved = λ place n. n ≡ place + 1;

@@ -120,7 +120,7 @@ abbrev pub best_kind : DecisionTable → List (List ℕ) → List (List Statemen
 best_kind t names lists = record {
   text = entry_text;
   IsPrintable = IsPrintableEntry;
-  MayFollow = λ rest. Unit {0};
+  MayFollow = λ x rest. Unit {0};
   reads = entry_at;
   count = length names;
   IsProved = IsProvedEntry t names lists;

@@ -122,8 +122,8 @@ module _ (t : DecisionTable) (lists : List (List Statement)) (table : IsTable t)
     begins_no_end = λ x rest printable.
         let begins = entry_begins t x in
         ap (λ (text : List ℕ). begins_end (text ++ rest)) begins.1 ∙ begins_no_end (begins.0 ++ rest);
-    entry_follows = λ x rest printable. tt;
-    end_follows = λ n. tt;
+    entry_follows = λ x next rest has printable. tt;
+    end_follows = λ x n has. tt;
     utf8 = λ x printable. entry_text_is_utf8 t x table printable;
     proved_not_refused = proved_passes;
     proved_is_true = proved_true;

@@ -68,7 +68,7 @@ abbrev pub group_kind : DecisionTable → List (List Statement) → Kind Entry
 group_kind t lists = record {
   text = entry_text t;
   IsPrintable = IsPrintableEntry t;
-  MayFollow = λ rest. Unit {0};
+  MayFollow = λ x rest. Unit {0};
   reads = entry_at t;
   count = length (pairs_of t);
   IsProved = IsProvedEntry t lists;
