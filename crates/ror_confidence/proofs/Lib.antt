@@ -4,3 +4,4 @@ pub mod Checks
 pub mod Searches
 pub mod ReadLevels
 pub mod Finds
+pub mod LevelsTexts

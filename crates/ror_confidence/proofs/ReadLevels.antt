@@ -27,7 +27,7 @@ neither true w h = absurd cc
 neither false w h = (refl, h)
 
 -- neither 0 nor past the most
-some_upto : (n most : ℕ) → (n == 0 || nat_lt most n) ≡ false → (1 ≤ n) × (n ≤ most)
+pub some_upto : (n most : ℕ) → (n == 0 || nat_lt most n) ≡ false → (1 ≤ n) × (n ≤ most)
 some_upto zero most h = absurd cc
 some_upto (suc n) most h = (omega arith, ltb-false most (suc n) (neither (suc n == 0) (nat_lt most (suc n)) h).1)
 
@@ -55,7 +55,7 @@ level_count-within line n e =
     let is : n ≡ b3.0 = let last = b4.2 in cc in
     rw is (some_upto b3.0 MOST_LEVELS (refuse_ok bad (b3.0 == 0 || nat_lt MOST_LEVELS b3.0) b4.0 b4.1))
 
-not_false : (b : Bool) → not b ≡ false → b ≡ true
+pub not_false : (b : Bool) → not b ≡ false → b ≡ true
 not_false true h = refl
 not_false false h = absurd cc
 
@@ -108,11 +108,11 @@ counted-sound standing past (line ∷ lines) = keeps (AreLevelsOf standing) (lev
     read_all_keeps (AreLevelsOf standing) (add_line standing) (λ s l are. if_ok (AreLevelsOf standing) (add_line standing s l) (λ more is. add_line-sound standing s l more are is)) (record { count = n; put = [] }) lines
     (record { some = within.0; few = within.1; each_stands = tt; once = nothing_twice; each_within = tt }))
 
-headed-sound : (standing : List Numbered) (past : ℕ) (lines : List LevelsLine) → IfOk (headed_lines standing past lines) (AreLevelsOf standing)
+pub headed-sound : (standing : List Numbered) (past : ℕ) (lines : List LevelsLine) → IfOk (headed_lines standing past lines) (AreLevelsOf standing)
 headed-sound standing past [] = tt
 headed-sound standing past (line ∷ lines) = keeps (AreLevelsOf standing) (header line) (λ u. counted_lines standing past lines) (λ u e. counted-sound standing past lines)
 
-of_ok : {A F : Type 0} (P : A → Type 0) (r : Result A F) (x : A) → IfOk r P → r ≡ Ok x → P x
+pub of_ok : {A F : Type 0} (P : A → Type 0) (r : Result A F) (x : A) → IfOk r P → r ≡ Ok x → P x
 of_ok P (Ok y) x h is = let same : y ≡ x = cc in subst P same h
 of_ok P (Err fault) x h is = absurd cc
 

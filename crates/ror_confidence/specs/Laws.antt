@@ -1,5 +1,5 @@
 -- The laws of levels and spans.
-use Rattle.std.specs.Prelude.{◌≡◌, ℕ, ◌<◌, List, length}
+use Rattle.std.specs.Prelude.{◌≡◌, ◌↔◌, ℕ, ◌<◌, List, length, Ok, Err}
 use Rattle.ror_statement.specs.declared.statement.Numbered.{Numbered}
 use Rattle.ror_statement.specs.declared.statement.Statement.{Statement}
 use Rattle.ror_statement.specs.declared.question.Question.TheVariants.{Necessary, Possible}
@@ -8,6 +8,7 @@ use Rattle.ror_statement.specs.Statements.{statements_in}
 use Rattle.ror_table.specs.Table.{DecisionTable}
 use Rattle.ror_value.specs.Over.{IsLawfulIn}
 use Rattle.ror_value.specs.Meaning.{Answers, IsConsistent, IsContradictory}
+use Rattle.ror_confidence.specs.declared.fault.LevelsFault.{LevelsFault}
 use Rattle.ror_confidence.specs.declared.fault.SpanCheckFault.{SpanCheckFault}
 use Rattle.ror_confidence.specs.declared.levels.Levels.{Levels}
 use Rattle.ror_confidence.specs.declared.span.Span.{Span}
@@ -15,6 +16,8 @@ use Rattle.ror_confidence.specs.Levels.{level_lists}
 use Rattle.ror_confidence.specs.Spans.{HoldsAllOf, AreLevelLists, IsSpan}
 use Rattle.ror_confidence.specs.Proof.{IsProvedSpan}
 use Rattle.ror_confidence.specs.Faults.{FailsSpan}
+use Rattle.ror_confidence.specs.Grammar.{IsFirstLevelsFault, IsLevelsText}
+use Rattle.ror_confidence.specs.Reading.{levels_of}
 
 -- What more statements leave. Where the greater list is not contradictory the smaller is not; the necessary preference that
 -- holds over the smaller holds over the greater, and the possible one that holds over the greater holds over the smaller.
@@ -50,3 +53,13 @@ ProvedSpansAreTrue = (t : DecisionTable) (lists : List (List Statement)) (a b : 
 abbrev pub ProvedSpanPassesEachTest : Type 0
 ProvedSpanPassesEachTest = (t : DecisionTable) (lists : List (List Statement)) (a b : ℕ) (x : Span)
     (fault : SpanCheckFault) → IsProvedSpan t lists a b x → FailsSpan t lists a b x fault → ⊥
+
+-- a file of levels is read exactly where it is in the grammar, and as the levels that its lines give
+abbrev pub LevelsAreTheGrammar : Type 0
+LevelsAreTheGrammar = (standing : List Numbered) (bytes : List ℕ) (levels : Levels)
+    → (levels_of standing bytes ≡ Ok levels) ↔ IsLevelsText standing bytes levels
+
+-- the fault that is given is the first, and the first is given
+abbrev pub LevelsFaultsAreFirst : Type 0
+LevelsFaultsAreFirst = (standing : List Numbered) (bytes : List ℕ) (fault : LevelsFault)
+    → (levels_of standing bytes ≡ Err fault) ↔ IsFirstLevelsFault standing bytes fault

@@ -6,4 +6,5 @@ pub mod Finding
 pub mod Searching
 pub mod Steps
 pub mod Reading
+pub mod Grammar
 pub mod Laws

@@ -1,6 +1,6 @@
 //! Each function here states one law, for all tables, statements, levels and spans, and does nothing.
 
-ghost use Rattle.ror_confidence.specs.Laws.{LevelsAreNested, ListsAreNested, OneSpan, ProvedSpanPassesEachTest, ProvedSpansAreTrue};
+ghost use Rattle.ror_confidence.specs.Laws.{LevelsAreNested, LevelsAreTheGrammar, LevelsFaultsAreFirst, ListsAreNested, OneSpan, ProvedSpanPassesEachTest, ProvedSpansAreTrue};
 
 /// What more statements leave: where they are not contradictory fewer are not; a necessary preference stays, and a possible one
 /// was there before.
@@ -26,4 +26,14 @@ pub fn proved_spans_are_true()
 /// No test of the checker fails of a span that has its proof.
 pub fn proved_span_passes_each_test()
     ensures { ProvedSpanPassesEachTest }
+{}
+
+/// A file of levels is read exactly where it is in the grammar, and as the levels that its lines give.
+pub fn levels_are_the_grammar()
+    ensures { LevelsAreTheGrammar }
+{}
+
+/// The fault that is given is the first that the file has, and each first fault is given.
+pub fn the_first_levels_fault_is_given()
+    ensures { LevelsFaultsAreFirst }
 {}
