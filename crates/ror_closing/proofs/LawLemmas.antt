@@ -65,7 +65,7 @@ module _ (bench : Workbench) where
   abbrev Holds : List (Line × Block) → List Line → List Block → Type 0
   Holds before lines blocks = EachHolds (IsProvedBlock bench.table) bench before lines blocks
 
-  one_each : (before : List (Line × Block)) (lines : List Line) (xs ys : List Block) → AllByRecursion (λ (line : Line). NeedsNoSearch line.command) lines → Holds before lines xs → Holds before lines ys → xs ≡ ys
+  pub one_each : (before : List (Line × Block)) (lines : List Line) (xs ys : List Block) → AllByRecursion (λ (line : Line). NeedsNoSearch line.command) lines → Holds before lines xs → Holds before lines ys → xs ≡ ys
   one_each before [] [] [] plain one other = refl
   one_each before [] [] (y ∷ ys) plain one other = absurd other
   one_each before [] (x ∷ xs) ys plain one other = absurd one

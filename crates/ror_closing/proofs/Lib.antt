@@ -1,4 +1,5 @@
 pub mod ClosingLemmas
 pub mod LawLemmas
 pub mod LawfulLists
+pub mod StandingLemmas
 pub mod Existence

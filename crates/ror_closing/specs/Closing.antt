@@ -2,10 +2,11 @@
 use Rattle.std.specs.Prelude.{◌≡◌, ℕ, ◌<◌, List, [], ◌∷◌, ◌++◌, length, map}
 use Rattle.std.specs.List.{AllByRecursion, filter, range_with_len}
 use Rattle.ror_statement.specs.declared.statement.Statement.{Statement}
+use Rattle.ror_statement.specs.declared.statement.Numbered.{Numbered}
 use Rattle.ror_session.specs.declared.session.Line.{Line}
 use Rattle.ror_session.specs.declared.session.Command.TheVariants.{Repair}
 use Rattle.ror_report.specs.declared.block.Block.{Block}
-use Rattle.ror_history.specs.History.{statements_of}
+use Rattle.ror_history.specs.History.{standing, statements_of}
 use Rattle.ror_bench.specs.Bench.{Workbench, revisions_at, HoldTheSame}
 use Rattle.ror_bench.specs.Blocks.{IsProvedBlock, with_block}
 use Rattle.ror_bench.specs.Desks.{with_blocks}
@@ -57,6 +58,13 @@ pub record AreClosingLists (bench : Workbench) (lines : List Line)
   pub blocks : List Block
   pub each : EachHolds (IsProvedBlock bench.table) bench [] (revision_lines lines) blocks
   pub lists_are : lists ≡ lists_after bench (with_blocks (revision_lines lines) blocks)
+
+-- what stands at a desk after them, with its numbers
+pub record IsClosingStanding (bench : Workbench) (lines : List Line) (desk : ℕ)
+    (list : List Numbered) : Type 0 where
+  pub blocks : List Block
+  pub each : EachHolds (IsProvedBlock bench.table) bench [] (revision_lines lines) blocks
+  pub list_is : list ≡ standing (revisions_then bench (with_blocks (revision_lines lines) blocks) desk)
 
 -- ---- on the way to them
 

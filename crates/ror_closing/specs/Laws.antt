@@ -1,6 +1,8 @@
 -- Laws of closing lists: suited lines have them, there are no two of a session, and they are what any report of it leaves.
-use Rattle.std.specs.Prelude.{◌≡◌, ℕ, List, []}
+use Rattle.std.specs.Prelude.{◌≡◌, ℕ, ◌<◌, List, [], length, slice_get, Some}
 use Rattle.ror_statement.specs.declared.statement.Statement.{Statement}
+use Rattle.ror_statement.specs.declared.statement.Numbered.{Numbered}
+use Rattle.ror_statement.specs.Statements.{statements_in}
 use Rattle.ror_session.specs.declared.session.Line.{Line}
 use Rattle.ror_report.specs.declared.block.Block.{Block}
 use Rattle.ror_bench.specs.Bench.{Workbench, HoldTheSame}
@@ -8,7 +10,7 @@ use Rattle.ror_bench.specs.Blocks.{IsProvedBlock}
 use Rattle.ror_bench.specs.Desks.{with_blocks}
 use Rattle.ror_bench.specs.Replays.{AreBlocksAt}
 use Rattle.ror_bench.specs.Reports.{EachHolds}
-use Rattle.ror_closing.specs.Closing.{AreSuited, IsFirstUnsuited, AreClosingLists, lists_after}
+use Rattle.ror_closing.specs.Closing.{AreSuited, IsFirstUnsuited, AreClosingLists, IsClosingStanding, lists_after}
 
 -- where no line is unsuited, there are closing lists
 abbrev pub HaveClosing : Type 0
@@ -21,6 +23,16 @@ abbrev pub OneClosing : Type 0
 OneClosing = (one other : Workbench) (lines : List Line) (xs ys : List (List Statement))
     → HoldTheSame one other → AreSuited lines → AreClosingLists one lines xs
     → AreClosingLists other lines ys → xs ≡ ys
+
+-- and so has each desk one closing list with its numbers, whose statements are its closing list
+pub record OneStanding : Type 0 where
+  pub one : (one other : Workbench) (lines : List Line) (desk : ℕ) (xs ys : List Numbered)
+      → HoldTheSame one other → AreSuited lines → IsClosingStanding one lines desk xs
+      → IsClosingStanding other lines desk ys → xs ≡ ys
+  pub statements : (bench : Workbench) (lines : List Line) (desk : ℕ) (xs : List Numbered)
+      (lists : List (List Statement)) → desk < length bench.state → AreSuited lines
+      → IsClosingStanding bench lines desk xs → AreClosingLists bench lines lists
+      → slice_get lists desk ≡ Some (statements_in xs)
 
 -- and they are what stands after all the lines and their blocks, also of those that ask, in any report that is proved
 abbrev pub ClosesReports : Type 0

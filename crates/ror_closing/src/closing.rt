@@ -2,18 +2,19 @@
 
 ghost use Rattle.std.specs.Prelude.{◌≡◌, ◌≢◌, ◌↔◌, ◌<◌, ◌-◌, ◌^◌, IsTrue, length, IfOk, IfErr, OnOk, MatchOption};
 ghost use Rattle.std.specs.List.{AllByRecursion};
+ghost use Rattle.ror_statement.specs.Statements.{statements_in};
 ghost use Rattle.ror_value.specs.Over.{IsLawfulIn};
 ghost use Rattle.ror_history.specs.History.{next_number};
 ghost use Rattle.ror_bench.specs.Bench.{revisions_at, HoldTheSame, LeavesNumbers};
 ghost use Rattle.ror_bench.specs.Reports.{NamesADesk};
 ghost use Rattle.ror_bench.specs.Rooms.{may_revise};
-ghost use Rattle.ror_closing.specs.Closing.{IsUnsuited, AreSuited, IsFirstUnsuited, RefusesClosing, AreClosingLists, IsDone, HasRevised, lists_at};
+ghost use Rattle.ror_closing.specs.Closing.{IsUnsuited, AreSuited, IsFirstUnsuited, RefusesClosing, AreClosingLists, IsClosingStanding, IsDone, HasRevised, lists_at};
 ghost use Rattle.ror_closing.specs.declared.closing.ClosingFault.TheVariants.{Memory};
 
 use ror_bench::Bench;
 use ror_pivot::Bits;
 use ror_session::{Command, Line};
-use ror_statement::{Statement, statements_in};
+use ror_statement::{Numbered, Statement, statements_in};
 use ror_text::Items;
 use std::alloc::{AllocError, AllocFailed, Global};
 use thiserror::Error;
@@ -75,6 +76,26 @@ pub fn closing_lists(
     revise(bench, lines)?;
     let lists = standing_lists(alloc, bench, desks)?;
     Ok(lists)
+}
+
+/// What stands at a desk after all lines, those that ask passed over, with its numbers: what may stand over the bench's table. No
+/// line repairs. The bench has a number left for each line at each desk, and its table stays. Its one error is want of memory.
+pub fn closing_standing(
+    alloc: Global,
+    bench: &mut Bench,
+    desk: u32,
+    lines: &[Line],
+) -> Result<Vec<Numbered>, AllocError>
+    requires desk { desk < length bench.old.state }
+    requires named { AllByRecursion (NamesADesk (length bench.old.state)) lines.now }
+    requires numbers { AllByRecursion (LeavesNumbers (length lines.now)) bench.old.state }
+    ensures closing { IfOk result (λ list. IsClosingStanding bench.old lines.now desk list.items) }
+    ensures lawful { IfOk result
+        (λ list. IsLawfulIn bench.old.table (statements_in list.items)) }
+    ensures table { bench.new.table ≡ bench.old.table }
+{
+    revise(bench, lines)?;
+    bench.standing(desk)
 }
 
 /// The number of the first line that repairs, if there is one.

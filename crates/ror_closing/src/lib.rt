@@ -18,4 +18,4 @@
 mod closing;
 pub mod laws;
 
-pub use closing::{ClosingFault, closing_lists, first_unsuited};
+pub use closing::{ClosingFault, closing_lists, closing_standing, first_unsuited};

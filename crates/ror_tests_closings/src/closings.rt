@@ -4,9 +4,9 @@ ghost use Rattle.std.specs.Prelude.{◌≡◌, [], length, replicate, IfSome};
 ghost use Rattle.ror_session.specs.Sound.{IsSound};
 
 use ror_bench::Bench;
-use ror_closing::{ClosingFault, closing_lists};
+use ror_closing::{ClosingFault, closing_lists, closing_standing};
 use ror_session::{Session, read_session};
-use ror_statement::Statement;
+use ror_statement::{Numbered, Statement};
 use ror_table::read_plain;
 use ror_text::Items;
 use ror_value::Input;
@@ -61,6 +61,18 @@ fn stand_at(lists: &[Items<Statement>], desk: usize, statements: &[Statement]) -
     }
 }
 
+/// What stands at the first desk of a session over the table.
+fn standing_of(alloc: Global, text: &[u8]) -> Result<Vec<Numbered>, Fail> {
+    let session = session_of(alloc, text).ok_or("the text is a session")?;
+    let mut bench = bench_for(alloc, &session).ok_or("there is a bench")?;
+    if session.desks.len() == 0 {
+        return Ok(Vec::new(alloc));
+    }
+    let lines = session.lines.as_slice();
+    let standing = closing_standing(alloc, &mut bench, 0, lines);
+    Ok(standing.ok().ok_or("there is memory")?)
+}
+
 #[test]
 fn what_stands_is_listed_desk_by_desk(rt: HostRuntime) -> Result<(), Fail> {
     let text =
@@ -82,6 +94,19 @@ fn an_undone_withdrawal_stands_again(rt: HostRuntime) -> Result<(), Fail> {
     assert_eq!(rt; lists.len(), 1);
     let list = [Statement::AtLeast(0, 2)];
     assert!(rt; stand_at(&lists, 0, list.as_slice()));
+    Ok(())
+}
+
+#[test]
+fn what_stands_at_a_desk_keeps_its_number(rt: HostRuntime) -> Result<(), Fail> {
+    let text =
+        b"@x prefer a b\n@y prefer b a\n@x ask necessary a b\n@x prefer b c\n@x withdraw 1\n".as_slice();
+    let standing = standing_of(rt.alloc(), text)?;
+    let second = [Numbered {
+        number: 2,
+        statement: Statement::Prefer(1, 2),
+    }];
+    assert!(rt; standing.as_slice() == second.as_slice());
     Ok(())
 }
 
