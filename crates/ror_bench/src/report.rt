@@ -45,6 +45,10 @@ pub enum Reason {
     Optimal(OptimalFault),
     /// Multipliers of a contradictory desk that are not accepted.
     Contradiction(Reject),
+    /// The bytes of a report as JSON are no JSON text.
+    BadJson,
+    /// They are one, and not that of a list of blocks.
+    BadShape,
 }
 
 /// The first block at fault, from 1, and why; 0 where the fault is in no block.
