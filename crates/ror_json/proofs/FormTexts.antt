@@ -39,6 +39,7 @@ use Rattle.ror_proof.specs.Text.{place_numbers, AreNarrow, IsNarrowCertificate, 
 use Rattle.ror_report.specs.declared.block.Block.{Block}
 use Rattle.ror_report.specs.declared.block.Body.{Body}
 use Rattle.ror_report.specs.declared.block.Body.TheVariants as bodies
+use Rattle.ror_json.proofs.LineTexts.{tokens-line}
 use Rattle.ror_json.specs.declared.keys.BodyKey.{BodyKey}
 use Rattle.ror_json.specs.declared.keys.BodyKey.TheVariants as keys
 use Rattle.ror_json.specs.Names.{body_key, key_word}
@@ -347,11 +348,29 @@ mutual
 abbrev whole : Option (json.Json × List Token) → Option Data
 whole found = option_and_then of_json (option_and_then (λ p. json.if_last p.0 p.1) found)
 
-text_read : (d : Data) → IsRestored d → depth d ≤ max_depth → read (compact_text d) ≡ Some d
-text_read d h shallow =
+-- where the tokens of a text are those of the value's own, it is read of it
+token_read : (d : Data) (text : List ℕ) → tokens text ≡ json_tokens (outline d) → IsRestored d → depth d ≤ max_depth → read text ≡ Some d
+token_read d text same h shallow =
     let j = outline d in
-    let split : tokens (compact_text d) ≡ json_tokens j ++ [] = ap tokens (sym (print-outline d)) ∙ tokens-print (json_tokens j) (ArePrintable-json_tokens j h.numbers) ∙ sym (append-nil (json_tokens j)) in
+    let split : tokens text ≡ json_tokens j ++ [] = same ∙ sym (append-nil (json_tokens j)) in
     ap whole (ap (json.value max_depth) split ∙ value-json_tokens j max_depth [] (omega (arith, depth_of_outline d, shallow))) ∙ h.same
 
+tokens_of : (d : Data) → IsRestored d → tokens (compact_text d) ≡ json_tokens (outline d)
+tokens_of d h = ap tokens (sym (print-outline d)) ∙ tokens-print (json_tokens (outline d)) (ArePrintable-json_tokens (outline d) h.numbers)
+
+tokens_of_line : (d : Data) → IsRestored d → tokens (compact_text d ++ 10 ∷ []) ≡ json_tokens (outline d)
+tokens_of_line d h =
+    let ts = json_tokens (outline d) in
+    let printable = ArePrintable-json_tokens (outline d) h.numbers in
+    ap (λ (l : List ℕ). tokens (l ++ 10 ∷ [])) (sym (print-outline d)) ∙ tokens-line ts printable ∙ tokens-print ts printable
+
 pub text_is_read : (t : DecisionTable) (blocks : List Block) → AllByRecursion (IsFormedBlock t) blocks → read (compact_text (report_form t blocks)) ≡ Some (report_form t blocks)
-text_is_read t blocks h = text_read (report_form t blocks) (restored_report t blocks h) (omega (arith, nine_deep t blocks))
+text_is_read t blocks h =
+    let restored = restored_report t blocks h in
+    token_read (report_form t blocks) (compact_text (report_form t blocks)) (tokens_of (report_form t blocks) restored) restored (omega (arith, nine_deep t blocks))
+
+-- and so it is with a line feed behind it
+pub line_is_read : (t : DecisionTable) (blocks : List Block) → AllByRecursion (IsFormedBlock t) blocks → read (compact_text (report_form t blocks) ++ 10 ∷ []) ≡ Some (report_form t blocks)
+line_is_read t blocks h =
+    let restored = restored_report t blocks h in
+    token_read (report_form t blocks) (compact_text (report_form t blocks) ++ 10 ∷ []) (tokens_of_line (report_form t blocks) restored) restored (omega (arith, nine_deep t blocks))

@@ -5,5 +5,8 @@ pub mod QuestionTexts
 pub mod Forms
 pub mod Reports
 pub mod ReportLaws
+pub mod LineTexts
 pub mod FormTexts
+pub mod FormUtf8
 pub mod TextSizes
+pub mod JsonTexts

@@ -2,6 +2,9 @@
 use Rattle.std.proofs.Common.{◌≡◌, ℕ, ◌<◌, Bool, true, false, cond, eqb, List, [], ◌∷◌, ◌++◌, length, Result, Ok, Err, refl, sym, ap, subst, ◌∙◌, append_assoc, arith, inl, inr}
 use Rattle.std.specs.Prelude.{codes, not}
 use Rattle.std.specs.Fmt.{digits}
+use Rattle.std.specs.Str.{IsUtf8}
+use Rattle.std.proofs.Math.Seq.{take-append_seam}
+use Rattle.std.proofs.lemmas.Str.{IsUtf8-drop, IsUtf8-take, IsCharBoundary-after_ascii, IsCharBoundary-at_seam}
 use Rattle.std.specs.List.{onto_first, before_first, after_first}
 use Rattle.std.proofs.lemmas.Bool.{and_from, not-false}
 use Rattle.std.proofs.lemmas.List.{append-nil}
@@ -40,6 +43,7 @@ use Rattle.ror_proof.specs.Printing.{spaced}
 use Rattle.ror_proof.specs.Reading.{answer_at, answer_line, answer_words, verdict_at}
 use Rattle.ror_proof.specs.Text.{pair_words, scope_words, form_words, property_words, question_words, answer_text, HasWords, IsNamed, IsPrintable}
 use Rattle.ror_proof.proofs.AnswerLemmas.{ended_sound, head_words_sound, answer_reads_back}
+use Rattle.ror_proof.proofs.Utf8Lemmas.{ascii_is_utf8, answer_text_is_utf8}
 use Rattle.ror_json.specs.declared.fault.Misfit.TheVariants as misfits
 use Rattle.ror_json.specs.Form.{question_text}
 use Rattle.ror_json.specs.Reading.{asked, asked_text, is_one_line, question_of}
@@ -198,3 +202,16 @@ question_again t q table named =
     let back = answer_reads_back t x 0 [] table printable refl in
     let text : asked_text (question_text t q) ≡ answer_text t x ++ [] = unsettled_text t q ∙ sym (append-nil (answer_text t x)) in
     rw (one, text, back) refl
+
+-- the text is UTF-8, since that of an answer is
+pub question_text_is_utf8 : (t : DecisionTable) (q : Question) → IsTable t → IsNamed t q → IsUtf8 (question_text t q)
+question_text_is_utf8 t q table named =
+    let x = unsettled q in
+    let text = question_text t q in
+    let rest = codes " wide" ++ 10 ∷ rest_text in
+    let printable : IsPrintable t x = record { named = named; concluded = record { number = omega arith; place = (omega arith, tt); path = tt } } in
+    let whole : IsUtf8 (asked_text text) = subst IsUtf8 (sym (unsettled_text t q)) (answer_text_is_utf8 t x table printable) in
+    let begun = IsCharBoundary-after_ascii (asked_text text) 6 whole (omega arith) (omega arith) in
+    let behind : IsUtf8 (text ++ rest) = IsUtf8-drop (asked_text text) 7 whole begun in
+    let seam = IsCharBoundary-at_seam (text ++ rest) text rest refl (ascii_is_utf8 rest refl) in
+    subst IsUtf8 (take-append_seam text rest) (IsUtf8-take (text ++ rest) (length text) behind seam)

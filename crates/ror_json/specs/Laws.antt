@@ -8,9 +8,12 @@ use Rattle.ror_table.specs.Table.{DecisionTable, IsTable}
 use Rattle.ror_report.specs.declared.block.Block.{Block}
 use Rattle.ror_report.specs.Text.{IsPrintableBlock}
 use Rattle.ror_json.specs.declared.fault.JsonFault.TheVariants.{BadShape}
+use Rattle.ror_json.specs.declared.fault.TextFault.TheVariants.{BadJson}
+use Rattle.ror_json.specs.declared.fault.TextFault.TheVariants as text_faults
 use Rattle.ror_json.specs.Form.{report_form, IsFormedBlock}
 use Rattle.ror_json.specs.Reading.{report_of}
 use Rattle.ror_json.specs.Shapes.{IsReportForm, IsBadShape}
+use Rattle.ror_json.specs.Texts.{json_text, json_line, IsJsonOf, IsJsonReport, IsBadJsonShape, report_of_text}
 
 -- a value is read as these blocks exactly where it is their form
 abbrev pub FormsAreRead : Type 0
@@ -60,3 +63,31 @@ FormsHaveFewBlocks = (t : DecisionTable) (text : List ℕ) (blocks : List Block)
 abbrev pub BadShapesAreNear : Type 0
 BadShapesAreNear = (t : DecisionTable) (text : List ℕ) (d : Data) (k : ℕ)
     → read text ≡ Some d → IsBadShape t d k → k ≤ length text
+
+-- ---- reports as texts
+
+-- bytes are read as these blocks exactly where they are JSON of their form
+abbrev pub TextsAreRead : Type 0
+TextsAreRead = (t : DecisionTable) (bytes : List ℕ) (blocks : List Block) → IsTable t
+    → (report_of_text t bytes ≡ Ok blocks) ↔ IsJsonReport t bytes blocks
+
+-- they are refused as no JSON exactly where they are JSON of no value
+abbrev pub BadJsonIsGiven : Type 0
+BadJsonIsGiven = (t : DecisionTable) (bytes : List ℕ)
+    → (report_of_text t bytes ≡ Err BadJson) ↔ ((d : Data) → IsJsonOf bytes d → ⊥)
+
+-- and with a bad shape exactly where that is the one of the value whose JSON they are
+abbrev pub BadShapesOfTextsAreGiven : Type 0
+BadShapesOfTextsAreGiven = (t : DecisionTable) (bytes : List ℕ) (k : ℕ) → IsTable t
+    → (report_of_text t bytes ≡ Err (text_faults.BadShape k)) ↔ IsBadJsonShape t bytes k
+
+-- bytes are JSON of one report at most
+abbrev pub TextsAreOfOneReport : Type 0
+TextsAreOfOneReport = (t : DecisionTable) (bytes : List ℕ) (xs ys : List Block) → IsTable t
+    → IsJsonReport t bytes xs → IsJsonReport t bytes ys → xs ≡ ys
+
+-- the text that is written of blocks is JSON of their report, and so it is with a line feed behind it
+abbrev pub WrittenTextsAreReports : Type 0
+WrittenTextsAreReports = (t : DecisionTable) (blocks : List Block) → IsTable t
+    → AllByRecursion (IsFormedBlock t) blocks
+    → IsJsonReport t (json_text t blocks) blocks × IsJsonReport t (json_line t blocks) blocks

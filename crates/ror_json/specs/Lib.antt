@@ -2,4 +2,5 @@ pub mod Form
 pub mod Reading
 pub mod Names
 pub mod Shapes
+pub mod Texts
 pub mod Laws

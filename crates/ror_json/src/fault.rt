@@ -1,4 +1,4 @@
-//! Why a value is read as no report.
+//! Why a value or a text is read as no report.
 
 use std::alloc::{AllocError, AllocFailed};
 use thiserror::Error;
@@ -34,6 +34,20 @@ impl<T: Drop> From<AllocFailed<T>> for JsonFault {
     fn from(_error: AllocFailed<T>) -> JsonFault {
         JsonFault::Memory
     }
+}
+
+/// Why no blocks were read of bytes.
+#[derive(Debug, Drop, Error)]
+pub enum TextFault {
+    /// The bytes are no JSON in UTF-8.
+    #[error("no JSON")]
+    BadJson,
+    /// They are JSON of a value that is the form of no list of blocks: 0 where it isn't the object around blocks, else the
+    /// number of the first one, from 1, that is no block's form.
+    #[error("bad shape in block {0}")]
+    BadShape(u32),
+    #[error("out of memory")]
+    Memory,
 }
 
 /// Why one piece of a report was not read of a value.

@@ -2,6 +2,7 @@
 
 ghost use Rattle.ror_json.specs.Laws.{FormsAreRead, FormsAreOfOneReport, BadShapesAreGiven, BadShapesAreNoForms, PrintedBlocksAreFormed};
 ghost use Rattle.ror_json.specs.Laws.{FormsHoldNoFloat, FormsNestNineDeep, TextsOfFormsAreRead, FormsHaveFewBlocks, BadShapesAreNear};
+ghost use Rattle.ror_json.specs.Laws.{TextsAreRead, BadJsonIsGiven, BadShapesOfTextsAreGiven, TextsAreOfOneReport, WrittenTextsAreReports};
 
 /// A value is read as these blocks exactly where it is their form: what was written is read again, and what is read was so
 /// written. What has a text in a report has a form.
@@ -30,4 +31,18 @@ pub fn texts_are_read()
     ensures read { TextsOfFormsAreRead }
     ensures few { FormsHaveFewBlocks }
     ensures near { BadShapesAreNear }
+{}
+
+/// Bytes are read as these blocks exactly where they are JSON of their form, which they are of one list of blocks at most. They
+/// are refused as no JSON exactly where they are JSON of no value, and else with the first bad block of that value.
+pub fn bytes_are_read()
+    ensures read { TextsAreRead }
+    ensures no_json { BadJsonIsGiven }
+    ensures bad_shape { BadShapesOfTextsAreGiven }
+    ensures one { TextsAreOfOneReport }
+{}
+
+/// The text that is written of blocks that have a form is read as these blocks, and so it is with a line feed behind it.
+pub fn written_is_read()
+    ensures { WrittenTextsAreReports }
 {}

@@ -1,6 +1,7 @@
 //! Reports as JSON: one value for each list of blocks, and back.
 //!
-//! [`to_value`] gives the form of a list of blocks, and [`from_value`] reads it back. A report is an object with `blocks`, its
+//! [`to_value`] gives the form of a list of blocks, and [`from_value`] reads it back; [`to_text`] and [`from_text`] do so
+//! with its text. A report is an object with `blocks`, its
 //! blocks in order, and `report`, which is 1. A block has `line`, the number of the session's line, and one of `added`,
 //! `withdrawn`, `replaced`, `undone`, `repaired`, `repair-wide`, `answers` and `refused`. All words, names and questions are
 //! those of the report's text, and so are the numbers of certificates, which stand as texts; other numbers stand as numbers,
@@ -27,7 +28,9 @@ mod question;
 mod repair;
 mod report;
 mod single;
+mod text;
 mod wide;
 
-pub use fault::JsonFault;
+pub use fault::{JsonFault, TextFault};
 pub use report::{from_value, to_value};
+pub use text::{from_text, to_text};
