@@ -6,7 +6,7 @@ use Rattle.ror_io.proofs.CountLemmas.{never_both}
 use Rattle.ror_frame.specs.declared.stop.Stop.{Stop}
 use Rattle.ror_frame.specs.declared.stop.Stop.TheVariants as stops
 use Rattle.ror_frame.specs.States.{ShelfState, SinkState, shelf_state}
-use Rattle.ror_frame.specs.Stops.{Outcome}
+use Rattle.ror_frame.specs.Stops.{Outcome, FilePlace, counted, last, IsPlace, place_of}
 use Rattle.ror_frame.specs.declared.stop.Refusal.{Refusal}
 use Rattle.ror_frame.specs.Inputs.{line_output}
 use Rattle.ror_frame.specs.Courses.{Output, Course, finish, fetch, Ending, missing, refused, done, Leads, Ends, MayRefuse, IsFirstMissing, OfToldFiles, Reaches, Writes, EndsAfter, LacksOne, CountsWrites, IsPure, Fetched, IsFetch, WritesDue, IsWork}
@@ -42,7 +42,7 @@ one_ending files (fetch A name Reads Refuses next) d e decided (inr here) (inr t
 -- ---- the work of a course
 
 -- where a file was read, the shelf counts one fetch more, and nothing else changed
-after_read : {A : Type 0} (name : List ℕ) (place : ℕ) (Reads : List ℕ → A → Type 0) (Refuses : List ℕ → Refusal → Type 0) (a b : ShelfState) (x : A) → IsFetch name place Reads Refuses a b (Ok x) → b ≡ shelf_state a.told a.faults (next_count a.fetches)
+after_read : {A : Type 0} (name : List ℕ) (place : FilePlace) (Reads : List ℕ → A → Type 0) (Refuses : List ℕ → Refusal → Type 0) (a b : ShelfState) (x : A) → IsFetch name place Reads Refuses a b (Ok x) → b ≡ shelf_state a.told a.faults (next_count a.fetches)
 after_read name place Reads Refuses a b x fetched =
     let told = fetched.told_stays in
     let faults = fetched.fetched.0 in
@@ -87,8 +87,8 @@ record IsStopped (course : Course) (name : List ℕ) (place : ℕ) (names : List
   nothing : Writes a.told a.faults b.faults course out.written out.written (Err e)
 
 -- the work stops at a file
-pub stopped : {A : Type 0} (name : List ℕ) (place : ℕ) (names : List (List ℕ)) (Reads : List ℕ → A → Type 0) (Refuses : List ℕ → Refusal → Type 0) (next : List ℕ → A → Course) (a b : ShelfState) (out : SinkState) (e : Stop) → IsFetch name (place + 1) Reads Refuses a b (Err e) → IsWork place (name ∷ names) (fetch A name Reads Refuses next) a b out out (Err e)
-stopped {A} name place names Reads Refuses next a b out e fetched =
+pub stopped : {A : Type 0} (name : List ℕ) (place : ℕ) (names : List (List ℕ)) (at : FilePlace) (Reads : List ℕ → A → Type 0) (Refuses : List ℕ → Refusal → Type 0) (next : List ℕ → A → Course) (a b : ShelfState) (out : SinkState) (e : Stop) → IsPlace at (place + 1) (place + length (name ∷ names)) → IsFetch name at Reads Refuses a b (Err e) → IsWork place (name ∷ names) (fetch A name Reads Refuses next) a b out out (Err e)
+stopped {A} name place names at Reads Refuses next a b out e placed fetched =
     let had = by e fetched.fetched in
     record {
       never_falls = fetched.never_falls;
@@ -106,9 +106,9 @@ stopped {A} name place names Reads Refuses next a b out e fetched =
       output = had.nothing;
     }
   where
-    by : (e : Stop) → Fetched {A = A} name (place + 1) Reads Refuses a.told a.faults b.faults (Err e) → IsStopped (fetch A name Reads Refuses next) name place names a b out e
+    by : (e : Stop) → Fetched {A = A} name at Reads Refuses a.told a.faults b.faults (Err e) → IsStopped (fetch A name Reads Refuses next) name place names a b out e
     by (stops.At r) had = record {
-      after = (had.1, omega arith);
+      after = (subst (λ (p : FilePlace). IsPlace p (place + 1) (place + length (name ∷ names))) (sym had.1) placed, omega arith);
       cause = λ is. absurd cc;
       rises = λ rose. absurd (let same = had.0 in omega (arith, same, rose));
       lacks_it = λ is. absurd cc;
@@ -171,9 +171,9 @@ finished place output shelf old new outcome due =
     by (Err stops.Memory) (inr due) = (omega arith, tt, (λ other. absurd (other refl)), due.0, inr (due.1, due.2, due.3, due.4, due.5))
 
 -- a file was read, and the work went on
-pub went_on : {A : Type 0} (name : List ℕ) (place : ℕ) (names : List (List ℕ)) (Reads : List ℕ → A → Type 0) (Refuses : List ℕ → Refusal → Type 0) (next : List ℕ → A → Course) (a b c : ShelfState) (old new : SinkState) (x : A) (outcome : Outcome) → (fetched : IsFetch name (place + 1) Reads Refuses a b (Ok x)) → IsWork (place + 1) names (next fetched.fetched.1 x) b c old new outcome → IsWork place (name ∷ names) (fetch A name Reads Refuses next) a c old new outcome
-went_on {A} name place names Reads Refuses next a b c old new x outcome fetched went =
-    let work = subst (λ (s : ShelfState). IsWork (place + 1) names (next fetched.fetched.1 x) s c old new outcome) (after_read name (place + 1) Reads Refuses a b x fetched) went in
+pub went_on : {A : Type 0} (name : List ℕ) (place : ℕ) (names : List (List ℕ)) (at : FilePlace) (Reads : List ℕ → A → Type 0) (Refuses : List ℕ → Refusal → Type 0) (next : List ℕ → A → Course) (a b c : ShelfState) (old new : SinkState) (x : A) (outcome : Outcome) → (fetched : IsFetch name at Reads Refuses a b (Ok x)) → IsWork (place + 1) names (next fetched.fetched.1 x) b c old new outcome → IsWork place (name ∷ names) (fetch A name Reads Refuses next) a c old new outcome
+went_on {A} name place names at Reads Refuses next a b c old new x outcome fetched went =
+    let work = subst (λ (s : ShelfState). IsWork (place + 1) names (next fetched.fetched.1 x) s c old new outcome) (after_read name at Reads Refuses a b x fetched) went in
     record {
       never_falls = work.never_falls;
       told_stays = work.told_stays;
@@ -194,9 +194,13 @@ went_on {A} name place names Reads Refuses next a b c old new x outcome fetched 
       output = written outcome work.output;
     }
   where
+    later : (p : FilePlace) (n : ℕ) → IsPlace p (place + 1 + n) (place + 1 + length names) → IsPlace p (place + suc n) (place + length (name ∷ names))
+    later (counted k) n had = omega (arith, had)
+    later last n had = omega (arith, had)
+
     after : (outcome : Outcome) (n : ℕ) → EndsAfter (place + 1) (length names) (Some outcome) n → EndsAfter place (length (name ∷ names)) (Some outcome) (suc n)
     after (Ok wide) n had = omega (arith, had)
-    after (Err (stops.At r)) n had = (omega (arith, had.0), omega (arith, had.1))
+    after (Err (stops.At r)) n had = (later (place_of r) n had.0, omega (arith, had.1))
     after (Err stops.ReadFault) n had = (omega arith, omega (arith, had.1))
     after (Err stops.WriteFault) n had = omega (arith, had)
     after (Err stops.Memory) n had = omega (arith, had)

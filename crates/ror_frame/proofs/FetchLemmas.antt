@@ -12,7 +12,7 @@ use Rattle.ror_frame.specs.declared.stop.Refusal.{Refusal}
 use Rattle.ror_frame.specs.declared.stop.Stop.{Stop}
 use Rattle.ror_frame.specs.declared.stop.Stop.TheVariants as stops
 use Rattle.ror_frame.specs.States.{ShelfState}
-use Rattle.ror_frame.specs.Stops.{stop_at_shelf, place_of, HidesNone}
+use Rattle.ror_frame.specs.Stops.{FilePlace, counted, stop_at_shelf, place_of, HidesNone}
 use Rattle.ror_frame.specs.Courses.{Fetched, IsFetch, IsWhole, IsTooLong, ReadAs}
 use Rattle.ror_frame.specs.declared.stop.Refusal.TheVariants as refusals
 use Rattle.ror_frame.specs.Inputs.{ReadsSession, RefusesSession, ReadsSuited, RefusesSuited}
@@ -26,7 +26,7 @@ pub record IsCalled (name : List ℕ) (before now : ShelfState) : Type 0 where
   pub counted : now.fetches ≡ next_count before.fetches
 
 -- a fetch that brought nothing
-pub brought_nothing : {A : Type 0} (name : List ℕ) (place : ℕ) (Reads : List ℕ → A → Type 0) (Refuses : List ℕ → Refusal → Type 0) (a b : ShelfState) (fault : ShelfFault) → IsCalled name a b → OnFailed (Err fault) (Rose a.faults b.faults ⊎ Lacks a.told name) → (Lacks a.told name → fault ≡ shelf_faults.Failed) → UnlessFailed (Err fault) (b.faults ≡ a.faults) → IsFetch {A = A} name place Reads Refuses a b (Err (stop_at_shelf fault))
+pub brought_nothing : {A : Type 0} (name : List ℕ) (place : FilePlace) (Reads : List ℕ → A → Type 0) (Refuses : List ℕ → Refusal → Type 0) (a b : ShelfState) (fault : ShelfFault) → IsCalled name a b → OnFailed (Err fault) (Rose a.faults b.faults ⊎ Lacks a.told name) → (Lacks a.told name → fault ≡ shelf_faults.Failed) → UnlessFailed (Err fault) (b.faults ≡ a.faults) → IsFetch {A = A} name place Reads Refuses a b (Err (stop_at_shelf fault))
 brought_nothing {A} name place Reads Refuses a b shelf_faults.Failed called failed missing other =
     record { never_falls = called.never_falls; told_stays = called.told_stays; counted = called.counted; missing = λ lacks. refl; fetched = failed }
 brought_nothing {A} name place Reads Refuses a b shelf_faults.Memory called failed missing other =
@@ -43,7 +43,7 @@ there told files name is kept =
     (found.0, found.1, subst (λ (t : Option Files). HasFile t name found.0) (sym is) found.1)
 
 -- one that brought the file
-pub brought_whole : {Y : Type 0} (name : List ℕ) (place most : ℕ) (why : Refusal) (a b : ShelfState) (got : Vec ℕ Y) → IsCalled name a b → b.faults ≡ a.faults → (Lacks a.told name → ⊥) → length got.items ≤ most → ((bytes : List ℕ) → HasFile a.told name bytes → DidNotRise a.faults b.faults → got.items ≡ bytes) → IsFetch name place (IsWhole most) (IsTooLong most why) a b (Ok got)
+pub brought_whole : {Y : Type 0} (name : List ℕ) (place : FilePlace) (most : ℕ) (why : Refusal) (a b : ShelfState) (got : Vec ℕ Y) → IsCalled name a b → b.faults ≡ a.faults → (Lacks a.told name → ⊥) → length got.items ≤ most → ((bytes : List ℕ) → HasFile a.told name bytes → DidNotRise a.faults b.faults → got.items ≡ bytes) → IsFetch name place (IsWhole most) (IsTooLong most why) a b (Ok got)
 brought_whole {Y} name place most why a b got called same kept within found = record {
   never_falls = called.never_falls;
   told_stays = called.told_stays;
@@ -81,7 +81,7 @@ brought_longer {A} name Reads most why a b pure called same kept found = record 
 }
 
 -- where nothing was read, it matters not as what it would have been
-pub stopped_there : {A B : Type 0} (name : List ℕ) (place : ℕ) (Had : List ℕ → A → Type 0) (Refused : List ℕ → Refusal → Type 0) (Reads : List ℕ → B → Type 0) (Refuses : List ℕ → Refusal → Type 0) (a b : ShelfState) (e : Stop) → ((bytes : List ℕ) (r : Refusal) → Refused bytes r → Refuses bytes r) → IsFetch name place Had Refused a b (Err e) → IsFetch name place Reads Refuses a b (Err e)
+pub stopped_there : {A B : Type 0} (name : List ℕ) (place : FilePlace) (Had : List ℕ → A → Type 0) (Refused : List ℕ → Refusal → Type 0) (Reads : List ℕ → B → Type 0) (Refuses : List ℕ → Refusal → Type 0) (a b : ShelfState) (e : Stop) → ((bytes : List ℕ) (r : Refusal) → Refused bytes r → Refuses bytes r) → IsFetch name place Had Refused a b (Err e) → IsFetch name place Reads Refuses a b (Err e)
 stopped_there {A} {B} name place Had Refused Reads Refuses a b e weaker fetch =
     record { never_falls = fetch.never_falls; told_stays = fetch.told_stays; counted = fetch.counted; missing = λ lacks. let p = fetch.missing lacks in cc; fetched = by e fetch.fetched }
   where
@@ -92,7 +92,7 @@ stopped_there {A} {B} name place Had Refused Reads Refuses a b e weaker fetch =
     by stops.Memory had = had
 
 -- and what was fetched whole was read
-pub read_there : {A Y : Type 0} (name : List ℕ) (place most : ℕ) (Refused : List ℕ → Refusal → Type 0) (Reads : List ℕ → A → Type 0) (Refuses : List ℕ → Refusal → Type 0) (a b : ShelfState) (got : Vec ℕ Y) (result : Result A Stop) → IsFetch name place (IsWhole most) Refused a b (Ok got) → ReadAs place Reads Refuses got.items result → IsFetch name place Reads Refuses a b result
+pub read_there : {A Y : Type 0} (name : List ℕ) (place : FilePlace) (most : ℕ) (Refused : List ℕ → Refusal → Type 0) (Reads : List ℕ → A → Type 0) (Refuses : List ℕ → Refusal → Type 0) (a b : ShelfState) (got : Vec ℕ Y) (result : Result A Stop) → IsFetch name place (IsWhole most) Refused a b (Ok got) → ReadAs place Reads Refuses got.items result → IsFetch name place Reads Refuses a b result
 read_there {A} {Y} name place most Refused Reads Refuses a b got result fetch reads =
     record { never_falls = fetch.never_falls; told_stays = fetch.told_stays; counted = fetch.counted; missing = λ lacks. absurd (let p = fetch.missing lacks in cc); fetched = by result (subst (λ (bytes : List ℕ). ReadAs place Reads Refuses bytes result) fetch.fetched.3.0 reads) }
   where
@@ -106,7 +106,7 @@ read_there {A} {Y} name place most Refused Reads Refuses a b got result fetch re
 -- ---- a session that was read
 
 -- has no unsuited line
-pub suited_there : (IsFirstUnsuited : List Line → ℕ → Type 0) (name : List ℕ) (a b : ShelfState) (s : Session) → ((line : ℕ) → IsFirstUnsuited s.lines line → ⊥) → IsFetch name 2 ReadsSession RefusesSession a b (Ok s) → IsFetch name 2 (ReadsSuited IsFirstUnsuited) (RefusesSuited IsFirstUnsuited) a b (Ok s)
+pub suited_there : (IsFirstUnsuited : List Line → ℕ → Type 0) (name : List ℕ) (a b : ShelfState) (s : Session) → ((line : ℕ) → IsFirstUnsuited s.lines line → ⊥) → IsFetch name (counted 2) ReadsSession RefusesSession a b (Ok s) → IsFetch name (counted 2) (ReadsSuited IsFirstUnsuited) (RefusesSuited IsFirstUnsuited) a b (Ok s)
 suited_there IsFirstUnsuited name a b s none fetch = record {
   never_falls = fetch.never_falls;
   told_stays = fetch.told_stays;
@@ -116,7 +116,7 @@ suited_there IsFirstUnsuited name a b s none fetch = record {
 }
 
 -- or has one
-pub unsuited_there : (IsFirstUnsuited : List Line → ℕ → Type 0) (name : List ℕ) (a b : ShelfState) (s : Session) (line : ℕ) → IsFirstUnsuited s.lines line → IsFetch name 2 ReadsSession RefusesSession a b (Ok s) → IsFetch {A = Session} name 2 (ReadsSuited IsFirstUnsuited) (RefusesSuited IsFirstUnsuited) a b (Err (stops.At (refusals.Unsuited line)))
+pub unsuited_there : (IsFirstUnsuited : List Line → ℕ → Type 0) (name : List ℕ) (a b : ShelfState) (s : Session) (line : ℕ) → IsFirstUnsuited s.lines line → IsFetch name (counted 2) ReadsSession RefusesSession a b (Ok s) → IsFetch {A = Session} name (counted 2) (ReadsSuited IsFirstUnsuited) (RefusesSuited IsFirstUnsuited) a b (Err (stops.At (refusals.Unsuited line)))
 unsuited_there IsFirstUnsuited name a b s line first fetch = record {
   never_falls = fetch.never_falls;
   told_stays = fetch.told_stays;

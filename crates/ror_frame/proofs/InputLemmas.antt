@@ -11,11 +11,12 @@ use Rattle.ror_session.specs.declared.session.Line.{Line}
 use Rattle.ror_bench.specs.declared.report.Accepted.{Accepted}
 use Rattle.ror_bench.specs.declared.report.Rejection.{Rejection}
 use Rattle.ror_session.specs.declared.session.SessionFault.TheVariants as session_faults
+use Rattle.ror_confidence.specs.declared.fault.LevelsFault.{LevelsFault}
 use Rattle.ror_words.specs.Words.{InputNames}
 use Rattle.ror_frame.specs.declared.stop.Refusal.{Refusal}
 use Rattle.ror_frame.specs.declared.stop.Refusal.TheVariants as refusals
 use Rattle.ror_frame.specs.Courses.{Output, Course, MayRefuse, IsTooLong}
-use Rattle.ror_frame.specs.Inputs.{ReadsTable, RefusesTable, RefusesSession, ReadsSession, ReadsSuited, RefusesSuited, over_inputs, over_suited, writing_chore, judging_chore, suited_writing_chore}
+use Rattle.ror_frame.specs.Inputs.{ReadsTable, RefusesTable, RefusesSession, ReadsSession, ReadsSuited, RefusesSuited, over_inputs, over_suited, writing_chore, judging_chore, suited_writing_chore, suited_judging_chore}
 use Rattle.ror_frame.proofs.CourseLemmas.{IsDecided}
 
 input_of-long : (bytes : List ℕ) (best_first : Bool) → MOST_TEXT_BYTES < length bytes → input_of bytes best_first ≡ Err (record { kind = kinds.TooLong; line = 0 })
@@ -102,3 +103,28 @@ judging_suits_all names report Proves Rejects output n (inl a) = let p = a.1.1 i
 judging_suits_all names report Proves Rejects output n (inr (bytes, i, read, inl a)) = let p = a.1.1 in cc
 judging_suits_all names report Proves Rejects output n (inr (bytes, i, read, inr (session, s, was, inl a))) = let p = a.1.1 in cc
 judging_suits_all names report Proves Rejects output n (inr (bytes, i, read, inr (session, s, was, inr rest))) = rest.3
+
+-- those that fetch no levels find none bad
+pub writing_has_no_levels : (names : InputNames) (output : Input → Session → Output) (f : LevelsFault) → MayRefuse (refusals.BadLevels f) (writing_chore names output).course → ⊥
+writing_has_no_levels names output f (inl a) = let p = a.1.1 in cc
+writing_has_no_levels names output f (inr (bytes, i, read, inl a)) = let p = a.1.1 in cc
+writing_has_no_levels names output f (inr (bytes, i, read, inr rest)) = rest.3
+
+pub judging_has_no_levels : (names : InputNames) (report : List ℕ) (Proves : Input → Session → List ℕ → Accepted → Type 0) (Rejects : Input → Session → List ℕ → Rejection → Type 0) (output : Input → Session → List ℕ → Accepted → Output) (f : LevelsFault) → MayRefuse (refusals.BadLevels f) (judging_chore names report Proves Rejects output).course → ⊥
+judging_has_no_levels names report Proves Rejects output f (inl a) = let p = a.1.1 in cc
+judging_has_no_levels names report Proves Rejects output f (inr (bytes, i, read, inl a)) = let p = a.1.1 in cc
+judging_has_no_levels names report Proves Rejects output f (inr (bytes, i, read, inr (session, s, was, inl a))) = let p = a.1.1 in cc
+judging_has_no_levels names report Proves Rejects output f (inr (bytes, i, read, inr (session, s, was, inr rest))) = rest.3
+
+pub suited_has_no_levels : (IsFirstUnsuited : List Line → ℕ → Type 0) (names : InputNames) (output : Input → Session → Output) (f : LevelsFault) → MayRefuse (refusals.BadLevels f) (suited_writing_chore IsFirstUnsuited names output).course → ⊥
+suited_has_no_levels IsFirstUnsuited names output f (inl a) = let p = a.1.1 in cc
+suited_has_no_levels IsFirstUnsuited names output f (inr (bytes, i, read, inl (other, inl a))) = let p = a.1 in cc
+suited_has_no_levels IsFirstUnsuited names output f (inr (bytes, i, read, inl (other, inr a))) = let p = a.4 in cc
+suited_has_no_levels IsFirstUnsuited names output f (inr (bytes, i, read, inr rest)) = rest.3
+
+pub suited_judging_has_no_levels : (IsFirstUnsuited : List Line → ℕ → Type 0) (names : InputNames) (report : List ℕ) (Proves : Input → Session → List ℕ → Accepted → Type 0) (Rejects : Input → Session → List ℕ → Rejection → Type 0) (output : Input → Session → List ℕ → Accepted → Output) (f : LevelsFault) → MayRefuse (refusals.BadLevels f) (suited_judging_chore IsFirstUnsuited names report Proves Rejects output).course → ⊥
+suited_judging_has_no_levels IsFirstUnsuited names report Proves Rejects output f (inl a) = let p = a.1.1 in cc
+suited_judging_has_no_levels IsFirstUnsuited names report Proves Rejects output f (inr (bytes, i, read, inl (other, inl a))) = let p = a.1 in cc
+suited_judging_has_no_levels IsFirstUnsuited names report Proves Rejects output f (inr (bytes, i, read, inl (other, inr a))) = let p = a.4 in cc
+suited_judging_has_no_levels IsFirstUnsuited names report Proves Rejects output f (inr (bytes, i, read, inr (session, s, was, inl a))) = let p = a.1.1 in cc
+suited_judging_has_no_levels IsFirstUnsuited names report Proves Rejects output f (inr (bytes, i, read, inr (session, s, was, inr rest))) = rest.3

@@ -8,7 +8,7 @@ use Rattle.ror_frame.specs.declared.stop.Refusal.{Refusal}
 use Rattle.ror_frame.specs.declared.stop.Stop.{Stop}
 use Rattle.ror_frame.specs.declared.stop.Stop.TheVariants as stops
 use Rattle.ror_frame.specs.States.{ShelfState, SinkState}
-use Rattle.ror_frame.specs.Stops.{Outcome, place_of, HidesNone}
+use Rattle.ror_frame.specs.Stops.{Outcome, FilePlace, IsPlace, place_of, HidesNone}
 
 -- What a command writes: the texts that it may write where it is done, with whether anything is too wide; those of which a front
 -- may stand there where a write failed; and whether one may where memory ran out. `tells` is whether anything is too wide, where
@@ -99,7 +99,7 @@ CountsWrites before now outcome = now ≡ before
 -- So many files are fetched after the first ones, where all have so many names: up to the one whose bytes are refused, at least
 -- one where one could not be read, any number where memory ran out, and all where the work was done or a write failed.
 abbrev pub EndsAfter : ℕ → ℕ → Option Outcome → ℕ → Type 0
-EndsAfter first all (Some (Err (stops.At r))) n = (place_of r ≡ first + n) × (n ≤ all)
+EndsAfter first all (Some (Err (stops.At r))) n = IsPlace (place_of r) (first + n) (first + all) × (n ≤ all)
 EndsAfter first all (Some (Err stops.ReadFault)) n = (1 ≤ n) × (n ≤ all)
 EndsAfter first all (Some (Err stops.Memory)) n = n ≤ all
 EndsAfter first all outcome n = n ≡ all
@@ -127,7 +127,7 @@ IsPure outcome = Unit {0}
 -- ---- steps of the work
 
 -- what came of fetching a file and reading its bytes
-abbrev pub Fetched : {A : Type 0} → List ℕ → ℕ → (List ℕ → A → Type 0) → (List ℕ → Refusal → Type 0)
+abbrev pub Fetched : {A : Type 0} → List ℕ → FilePlace → (List ℕ → A → Type 0) → (List ℕ → Refusal → Type 0)
     → Option Files → ℕ → ℕ → Result A Stop → Type 0
 Fetched name place Reads Refuses told before now (Ok x) = (now ≡ before) × (bytes : List ℕ)
     × OfToldFiles told before now (λ files. file files name ≡ Some bytes) × Reads bytes x
@@ -138,8 +138,8 @@ Fetched name place Reads Refuses told before now (Err stops.ReadFault) = Rose be
 Fetched name place Reads Refuses told before now (Err stops.WriteFault) = ⊥
 Fetched name place Reads Refuses told before now (Err stops.Memory) = now ≡ before
 
--- Fetching the file of this name, the one at this place, and reading it: what the shelf was and is, and what came of it.
-pub record IsFetch {A : Type 0} (name : List ℕ) (place : ℕ) (Reads : List ℕ → A → Type 0)
+-- Fetching the file of this name, the one at this place among those of the command, and reading it: what the shelf was and is, and what came of it.
+pub record IsFetch {A : Type 0} (name : List ℕ) (place : FilePlace) (Reads : List ℕ → A → Type 0)
     (Refuses : List ℕ → Refusal → Type 0) (before now : ShelfState) (result : Result A Stop) : Type 0 where
   pub never_falls : before.faults ≤ now.faults
   pub told_stays : now.told ≡ before.told
@@ -155,7 +155,7 @@ abbrev pub IsTooLong : ℕ → Refusal → List ℕ → Refusal → Type 0
 IsTooLong most why bytes r = (r ≡ why) × (most < length bytes)
 
 -- what came of reading bytes
-abbrev pub ReadAs : {A : Type 0} → ℕ → (List ℕ → A → Type 0) → (List ℕ → Refusal → Type 0) → List ℕ
+abbrev pub ReadAs : {A : Type 0} → FilePlace → (List ℕ → A → Type 0) → (List ℕ → Refusal → Type 0) → List ℕ
     → Result A Stop → Type 0
 ReadAs place Reads Refuses bytes (Ok x) = Reads bytes x
 ReadAs place Reads Refuses bytes (Err (stops.At r)) = (place_of r ≡ place) × HidesNone r × Refuses bytes r

@@ -16,6 +16,8 @@ use Rattle.ror_check.specs.declared.fault.RepairCheckFault.{RepairCheckFault}
 use Rattle.ror_check.specs.declared.fault.RepairCheckFault.TheVariants as repairs
 use Rattle.ror_discriminate.specs.declared.fault.OptimalFault.{OptimalFault}
 use Rattle.ror_discriminate.specs.declared.fault.OptimalFault.TheVariants as optima
+use Rattle.ror_confidence.specs.declared.fault.LevelsFault.{LevelsFault}
+use Rattle.ror_confidence.specs.declared.fault.LevelsFault.TheVariants as levels
 use Rattle.ror_table.specs.declared.fault.TableFault.{TableFault}
 use Rattle.ror_bench.specs.declared.report.Accepted.{Accepted}
 use Rattle.ror_bench.specs.declared.report.Rejection.{Rejection}
@@ -36,6 +38,7 @@ code_of statuses.WriteFault = 7
 code_of statuses.Memory = 8
 code_of statuses.DoneWide = 9
 code_of (statuses.Unsuited line) = 10
+code_of (statuses.BadLevels f) = 11
 
 abbrev pub what_text : What → List ℕ
 what_text whats.Alternatives = codes "Alternatives"
@@ -123,6 +126,8 @@ reason_text (reasons.Answer k f) = codes "answer " ++ decimal k ++ codes " " ++ 
 reason_text (reasons.Repair f) = codes "repair " ++ repair_fault_text f
 reason_text (reasons.Optimal f) = codes "optimal " ++ optimal_fault_text f
 reason_text (reasons.Contradiction r) = codes "contradiction " ++ reject_text r
+reason_text reasons.BadJson = codes "BadJson"
+reason_text reasons.BadShape = codes "BadShape"
 
 -- the lines of the refusals
 abbrev pub table_line : TableFault → List ℕ
@@ -144,6 +149,14 @@ rejection_line r =
 abbrev pub unsuited_line : ℕ → List ℕ
 unsuited_line n = codes "unsuited session: line " ++ decimal n ++ codes "\n"
 
+abbrev pub levels_line : LevelsFault → List ℕ
+levels_line levels.TooLong = codes "bad levels: TooLong\n"
+levels_line levels.NotUtf8 = codes "bad levels: NotUtf8\n"
+levels_line (levels.BadLine n) = codes "bad levels: BadLine line " ++ decimal n ++ codes "\n"
+levels_line (levels.Repeated n) = codes "bad levels: Repeated line " ++ decimal n ++ codes "\n"
+levels_line (levels.UnknownStatement n) = codes "bad levels: UnknownStatement line " ++ decimal n ++ codes "\n"
+levels_line levels.Memory = codes "bad levels: Memory\n"
+
 -- the line of a status; nothing where the work was done
 unfoldable pub status_text : Status → List ℕ
 status_text statuses.Done = []
@@ -156,6 +169,7 @@ status_text statuses.WriteFault = codes "write fault\n"
 status_text statuses.Memory = codes "memory\n"
 status_text statuses.DoneWide = []
 status_text (statuses.Unsuited line) = unsuited_line line
+status_text (statuses.BadLevels f) = levels_line f
 
 -- the line of an accepted report: how many answers were accepted, and how many answers and repairs are too wide
 unfoldable pub accepted_text : Accepted → List ℕ

@@ -1,11 +1,13 @@
 -- Where the work of a command stops, and the status that a run ends with there.
-use Rattle.std.specs.Prelude.{◌≢◌, ℕ, Bool, true, false, Option, Some, None, Result, Ok, Err}
+use Rattle.std.specs.Prelude.{◌≡◌, ◌≢◌, ℕ, Bool, true, false, Option, Some, None, Result, Ok, Err}
 use Rattle.ror_io.specs.declared.shelf.ShelfFault.{ShelfFault}
 use Rattle.ror_io.specs.declared.shelf.ShelfFault.TheVariants as shelf_faults
 use Rattle.ror_table.specs.declared.fault.TableError.{TableError}
 use Rattle.ror_table.specs.declared.fault.TableError.TheVariants as table_errors
 use Rattle.ror_session.specs.declared.session.SessionFault.{SessionFault}
 use Rattle.ror_session.specs.declared.session.SessionFault.TheVariants as session_faults
+use Rattle.ror_confidence.specs.declared.fault.LevelsFault.{LevelsFault}
+use Rattle.ror_confidence.specs.declared.fault.LevelsFault.TheVariants as levels_faults
 use Rattle.ror_bench.specs.declared.report.ReportError.{ReportError}
 use Rattle.ror_bench.specs.declared.report.ReportError.TheVariants as report_errors
 use Rattle.ror_bench.specs.Reports.{IsFreeOfMemory}
@@ -29,23 +31,39 @@ abbrev pub stop_at_session : SessionFault → Stop
 stop_at_session session_faults.Memory = stops.Memory
 stop_at_session fault = stops.At (refusals.BadSession fault)
 
+abbrev pub stop_at_levels : LevelsFault → Stop
+stop_at_levels levels_faults.Memory = stops.Memory
+stop_at_levels fault = stops.At (refusals.BadLevels fault)
+
 abbrev pub stop_at_report : ReportError → Stop
 stop_at_report (report_errors.Rejected rejection) = stops.At (refusals.Rejected rejection)
 stop_at_report report_errors.Memory = stops.Memory
 
 -- ---- refusals
 
--- the place of the file whose bytes are refused, in the order in which files are fetched; an unsuited line is one of the session
-abbrev pub place_of : Refusal → ℕ
-place_of (refusals.BadTable fault) = 1
-place_of (refusals.BadSession fault) = 2
-place_of (refusals.Rejected rejection) = 3
-place_of (refusals.Unsuited line) = 2
+-- Where a file stands in the order in which a command fetches its files: at this place, from 1, or last.
+pub data FilePlace : Type 0 where
+  counted : ℕ → FilePlace
+  last : FilePlace
+
+-- the place n of all so many is this one
+abbrev pub IsPlace : FilePlace → ℕ → ℕ → Type 0
+IsPlace (counted k) n all = n ≡ k
+IsPlace last n all = n ≡ all
+
+-- where the file stands whose bytes are refused: a report is the last, and an unsuited line is one of the session
+abbrev pub place_of : Refusal → FilePlace
+place_of (refusals.BadTable fault) = counted 1
+place_of (refusals.BadSession fault) = counted 2
+place_of (refusals.Rejected rejection) = last
+place_of (refusals.Unsuited line) = counted 2
+place_of (refusals.BadLevels fault) = counted 3
 
 -- want of memory is a stop of its own, and no refusal holds it
 abbrev pub HidesNone : Refusal → Type 0
 HidesNone (refusals.BadSession fault) = fault ≢ session_faults.Memory
 HidesNone (refusals.Rejected rejection) = IsFreeOfMemory rejection.reason
+HidesNone (refusals.BadLevels fault) = fault ≢ levels_faults.Memory
 HidesNone _ = Unit {0}
 
 abbrev pub refused_status : Refusal → Status
@@ -53,6 +71,7 @@ refused_status (refusals.BadTable fault) = statuses.BadTable fault
 refused_status (refusals.BadSession fault) = statuses.BadSession fault
 refused_status (refusals.Rejected rejection) = statuses.Rejected rejection
 refused_status (refusals.Unsuited line) = statuses.Unsuited line
+refused_status (refusals.BadLevels fault) = statuses.BadLevels fault
 
 -- ---- outcomes
 
@@ -84,3 +103,4 @@ outcome_of statuses.WriteFault = Some (Err stops.WriteFault)
 outcome_of statuses.Memory = Some (Err stops.Memory)
 outcome_of statuses.DoneWide = Some (Ok true)
 outcome_of (statuses.Unsuited line) = Some (Err (stops.At (refusals.Unsuited line)))
+outcome_of (statuses.BadLevels fault) = Some (Err (stops.At (refusals.BadLevels fault)))

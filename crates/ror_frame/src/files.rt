@@ -4,7 +4,7 @@ ghost use Rattle.std.specs.Prelude.{IfOk};
 ghost use Rattle.ror_value.specs.Over.{IsLawfulIn};
 ghost use Rattle.ror_session.specs.Sound.{IsSound};
 ghost use Rattle.ror_frame.specs.States.{shelf_state};
-ghost use Rattle.ror_frame.specs.Stops.{place_of, HidesNone};
+ghost use Rattle.ror_frame.specs.Stops.{counted, place_of, HidesNone};
 ghost use Rattle.ror_frame.specs.Courses.{IsFetch, IsWhole, IsTooLong, ReadAs};
 ghost use Rattle.ror_closing.specs.Closing.{AreSuited, IsFirstUnsuited};
 ghost use Rattle.ror_frame.specs.Inputs.{ReadsTable, RefusesTable, ReadsSession, RefusesSession, ReadsSuited, RefusesSuited};
@@ -53,7 +53,7 @@ pub fn fetch_table<F: Shelf>(
     names: &FileNames<'_>,
     shelf: &mut F,
 ) -> Result<Input, Stop>
-    ensures fetch { IsFetch names.now.table.now 1
+    ensures fetch { IsFetch names.now.table.now (counted 1)
         (ReadsTable names.now.best_first) (RefusesTable names.now.best_first)
         (shelf_state (F.told shelf.old) (F.faults shelf.old) (F.fetch_count shelf.old))
         (shelf_state (F.told shelf.new) (F.faults shelf.new) (F.fetch_count shelf.new)) result }
@@ -77,7 +77,7 @@ pub fn fetch_session<F: Shelf>(
     names: &FileNames<'_>,
     shelf: &mut F,
 ) -> Result<Session, Stop>
-    ensures fetch { IsFetch names.now.session.now 2 ReadsSession RefusesSession
+    ensures fetch { IsFetch names.now.session.now (counted 2) ReadsSession RefusesSession
         (shelf_state (F.told shelf.old) (F.faults shelf.old) (F.fetch_count shelf.old))
         (shelf_state (F.told shelf.new) (F.faults shelf.new) (F.fetch_count shelf.new)) result }
     ensures sound { IfOk result IsSound }
@@ -97,7 +97,7 @@ pub fn fetch_suited<F: Shelf>(
     names: &FileNames<'_>,
     shelf: &mut F,
 ) -> Result<Session, Stop>
-    ensures fetch { IsFetch names.now.session.now 2 (ReadsSuited IsFirstUnsuited) (RefusesSuited IsFirstUnsuited)
+    ensures fetch { IsFetch names.now.session.now (counted 2) (ReadsSuited IsFirstUnsuited) (RefusesSuited IsFirstUnsuited)
         (shelf_state (F.told shelf.old) (F.faults shelf.old) (F.fetch_count shelf.old))
         (shelf_state (F.told shelf.new) (F.faults shelf.new) (F.fetch_count shelf.new)) result }
     ensures sound { IfOk result IsSound }
@@ -112,7 +112,7 @@ pub fn fetch_suited<F: Shelf>(
 
 /// Reads the bytes of a table.
 fn table_in(alloc: Global, bytes: &[u8], best_first: bool) -> Result<Input, Stop>
-    ensures reads { ReadAs 1 (ReadsTable best_first) (RefusesTable best_first) bytes.now result }
+    ensures reads { ReadAs (counted 1) (ReadsTable best_first) (RefusesTable best_first) bytes.now result }
     ensures lawful { IfOk result (λ input. IsLawfulIn input.table input.opening) }
 {
     Ok(read_input(alloc, bytes, best_first)?)
@@ -120,7 +120,7 @@ fn table_in(alloc: Global, bytes: &[u8], best_first: bool) -> Result<Input, Stop
 
 /// Reads the bytes of a session.
 fn session_in(alloc: Global, bytes: &[u8]) -> Result<Session, Stop>
-    ensures reads { ReadAs 2 ReadsSession RefusesSession bytes.now result }
+    ensures reads { ReadAs (counted 2) ReadsSession RefusesSession bytes.now result }
     ensures sound { IfOk result IsSound }
 {
     Ok(read_session(alloc, bytes)?)

@@ -4,6 +4,7 @@ ghost use Rattle.std.specs.Prelude.{◌≡◌};
 
 use crate::stop::Stop;
 use ror_bench::Rejection;
+use ror_confidence::LevelsFault;
 use ror_session::SessionFault;
 use ror_table::TableFault;
 
@@ -30,6 +31,8 @@ pub enum Status {
     DoneWide,
     /// The session has a line that the command doesn't take: the first one's number.
     Unsuited(u32),
+    /// The session is suited, and the bytes of the levels file are no levels of its statements: the first fault.
+    BadLevels(LevelsFault),
 }
 
 impl Status {
@@ -62,6 +65,7 @@ impl Status {
             Status::Memory => 8,
             Status::DoneWide => 9,
             Status::Unsuited(_) => 10,
+            Status::BadLevels(_) => 11,
         }
     }
 }

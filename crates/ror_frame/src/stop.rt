@@ -4,6 +4,7 @@ ghost use Rattle.std.specs.Prelude.{◌≡◌};
 
 use crate::status::Status;
 use ror_bench::{Rejection, ReportError};
+use ror_confidence::LevelsFault;
 use ror_io::{ShelfFault, SinkFault};
 use ror_session::SessionFault;
 use ror_table::{TableError, TableFault};
@@ -20,6 +21,8 @@ pub enum Refusal {
     Rejected(Rejection),
     /// The session is one, and has a line that the command doesn't take: the first one's number.
     Unsuited(u32),
+    /// The bytes are no levels of the statements of a session that is suited.
+    BadLevels(LevelsFault),
 }
 
 /// Why the work came to no report, or to none that is accepted.
@@ -94,6 +97,19 @@ impl From<SessionFault> for Stop {
     }
 }
 
+impl From<LevelsFault> for Stop {
+    ghost use Rattle.ror_frame.specs.Stops.{stop_at_levels};
+
+    ghost from_gives = { λ fault stop. stop ≡ stop_at_levels fault };
+
+    fn from(fault: LevelsFault) -> Stop {
+        match fault {
+            LevelsFault::Memory => Stop::Memory,
+            fault => Stop::At(Refusal::BadLevels(fault)),
+        }
+    }
+}
+
 impl From<ReportError> for Stop {
     ghost use Rattle.ror_frame.specs.Stops.{stop_at_report};
 
@@ -118,6 +134,7 @@ impl From<Refusal> for Status {
             Refusal::BadSession(fault) => Status::BadSession(fault),
             Refusal::Rejected(rejection) => Status::Rejected(rejection),
             Refusal::Unsuited(line) => Status::Unsuited(line),
+            Refusal::BadLevels(fault) => Status::BadLevels(fault),
         }
     }
 }

@@ -6,13 +6,14 @@ ghost use Rattle.ror_frame.specs.Courses.{WritesDue};
 ghost use Rattle.ror_frame.specs.Inputs.{accepted_output};
 ghost use Rattle.ror_frame.specs.States.{sink_state};
 ghost use Rattle.ror_frame.specs.Printing.{Prints};
-ghost use Rattle.ror_frame.specs.Statuses.{kind_text, reject_text, fault_text, repair_fault_text, optimal_fault_text, reason_text, table_line, session_line, rejection_line, status_text, accepted_text};
+ghost use Rattle.ror_frame.specs.Statuses.{kind_text, reject_text, fault_text, repair_fault_text, optimal_fault_text, reason_text, table_line, session_line, levels_line, rejection_line, status_text, accepted_text};
 
 use crate::status::Status;
 use crate::stop::Stop;
 use itoa::{Buffer, Integer};
 use ror_bench::{Accepted, Reason, Rejection};
 use ror_check::{CheckFault, RepairCheckFault};
+use ror_confidence::LevelsFault;
 use ror_discriminate::OptimalFault;
 use ror_io::{Sink, SinkFault, write_all, write_pieces};
 use ror_session::SessionFault;
@@ -36,6 +37,7 @@ pub fn write_status<S: Sink>(sink: &mut S, status: &Status) -> Result<(), SinkFa
         Status::WriteFault => write_text(sink, b"write fault\n"),
         Status::Memory => write_text(sink, b"memory\n"),
         Status::Unsuited(line) => { write_numbered(sink, b"unsuited session: line ", *line, b"\n") }
+        Status::BadLevels(fault) => write_levels_fault(sink, fault),
     }
 }
 
@@ -221,6 +223,29 @@ fn write_session_fault<S: Sink>(sink: &mut S, fault: &SessionFault) -> Result<()
     }
 }
 
+fn write_levels_fault<S: Sink>(sink: &mut S, fault: &LevelsFault) -> Result<(), SinkFault>
+    ensures { Prints (S.faults sink.old) (S.faults sink.new)
+        (S.written sink.old) (S.written sink.new) (levels_line fault.now) result }
+{
+    match fault {
+        LevelsFault::TooLong => write_text(sink, b"bad levels: TooLong\n"),
+        LevelsFault::NotUtf8 => write_text(sink, b"bad levels: NotUtf8\n"),
+        LevelsFault::BadLine(line) => {
+            write_numbered(sink, b"bad levels: BadLine line ", *line, b"\n")
+        }
+        LevelsFault::Repeated(line) => {
+            write_numbered(sink, b"bad levels: Repeated line ", *line, b"\n")
+        }
+        LevelsFault::UnknownStatement(line) => write_numbered(
+            sink,
+            b"bad levels: UnknownStatement line ",
+            *line,
+            b"\n",
+        ),
+        LevelsFault::Memory => write_text(sink, b"bad levels: Memory\n"),
+    }
+}
+
 fn write_rejection<S: Sink>(sink: &mut S, rejection: &Rejection) -> Result<(), SinkFault>
     ensures { Prints (S.faults sink.old) (S.faults sink.new)
         (S.written sink.old) (S.written sink.new) (rejection_line rejection.now) result }
@@ -253,6 +278,8 @@ fn write_reason<S: Sink>(sink: &mut S, reason: &Reason) -> Result<(), SinkFault>
             write_optimal_fault(sink, fault)
         }
         Reason::Contradiction(reject) => write_reject(sink, b"contradiction ", b"", b"", reject),
+        Reason::BadJson => write_text(sink, b"BadJson"),
+        Reason::BadShape => write_text(sink, b"BadShape"),
     }
 }
 

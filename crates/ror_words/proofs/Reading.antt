@@ -21,18 +21,18 @@ use Rattle.ror_words.proofs.WordLemmas.{both, has_few, found_keeps}
 pub record IsRead (app : App) (words : List Text) (given : Given) : Type 0 where
   pub taken : takes app words ≡ true
   pub names : all_of (codes "names") (matches_of app words) ≡ Some given.names
-  pub few : length given.names ≤ 3
+  pub few : length given.names ≤ 4
   pub bits : first_of (codes "bits") (matches_of app words) ≡ option_map width_text given.bits
   pub best_first : Tells (one_of (codes "best-first") (matches_of app words)) given.best_first
 
 abbrev IsShape : List ℕ → Bool → Bool → List Text → Option Bits → Bool → Type 0
 IsShape word bits best_first names b f = IsRead (app_by word bits best_first (length names)) (normal_form (record { names = names; bits = b; best_first = f })) (record { names = names; bits = b; best_first = f })
 
--- words of each shape that a row may have: one to three names, and each option
-shape : (word : List ℕ) (tb tf : Bool) (names : List Text) (b : Option Bits) (f : Bool) → (tb || not (is_some b)) ≡ true → (tf || not f) ≡ true → 0 < length names → length names ≤ 3 → IsShape word tb tf names b f
+-- words of each shape that a row may have: one to four names, and each option
+shape : (word : List ℕ) (tb tf : Bool) (names : List Text) (b : Option Bits) (f : Bool) → (tb || not (is_some b)) ≡ true → (tf || not f) ≡ true → 0 < length names → length names ≤ 4 → IsShape word tb tf names b f
 unfolding clap_on_literals
 shape word tb tf [] b f bits best some few = absurd (omega (arith, some))
-shape word tb tf (x ∷ y ∷ z ∷ w ∷ names) b f bits best some few = absurd (omega (arith, few))
+shape word tb tf (x ∷ y ∷ z ∷ w ∷ v ∷ names) b f bits best some few = absurd (omega (arith, few))
 shape word false tf names (Some b) f bits best some few = absurd cc
 shape word tb false names b true bits best some few = absurd cc
 shape word false false names None false bits best some few = record { taken = refl; names = refl; few = few; bits = refl; best_first = inr (refl, refl) }
@@ -47,12 +47,12 @@ shape word true true names (Some b) true bits best some few = record { taken = r
 
 form_read : (row : Row) (given : Given) → has_few row ≡ true → suits row given ≡ true → IsRead (app_for row) (normal_form given) given
 form_read row given few taken =
-    let some = both (nat_lt 0 (length row.names)) (nat_lt (length row.names) 4) few in
+    let some = both (nat_lt 0 (length row.names)) (nat_lt (length row.names) 5) few in
     let a = both (length given.names == length row.names) _ taken in
     let b = both (not row.numbers || list_all is_number given.names) _ a.1 in
     let c = both (row.bits || not (is_some given.bits)) (row.best_first || not given.best_first) b.1 in
     let same = eqb-true (length given.names) (length row.names) a.0 in
-    let most = ltb-true (length row.names) 4 some.1 in
+    let most = ltb-true (length row.names) 5 some.1 in
     let least = ltb-true 0 (length row.names) some.0 in
     subst (λ (n : ℕ). IsRead (app_by row.word row.bits row.best_first n) (normal_form given) given) same (shape row.word row.bits row.best_first given.names given.bits given.best_first c.0 c.1 (omega arith) (omega arith))
 

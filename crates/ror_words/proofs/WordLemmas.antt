@@ -18,9 +18,9 @@ both a b e = (grind arith, grind arith)
 
 -- ---- the rows
 
--- a row has one to three names
+-- a row has one to four names
 abbrev pub has_few : Row → Bool
-has_few row = nat_lt 0 (length row.names) && nat_lt (length row.names) 4
+has_few row = nat_lt 0 (length row.names) && nat_lt (length row.names) 5
 
 pub found_keeps : {A : Type 0} (p q : A → Bool) (xs : List A) (x : A) → list_all q xs ≡ true → find p xs ≡ Some x → (p x && q x) ≡ true
 found_keeps {A} p q [] x all is = absurd cc
@@ -30,6 +30,11 @@ found_keeps {A} p q (y ∷ ys) x all is =
       | inl hit ↦ let here : Some y ≡ Some x = rw hit at is in let same : y ≡ x = cc in subst (λ (z : A). (p z && q z) ≡ true) same (rw hit a.0)
       | inr miss ↦ let later : find p ys ≡ Some x = rw miss at is in found_keeps p q ys x a.1 later
     ]
+
+-- words whose command doesn't take what is given are not in the table
+pub unsuited : (words : List (List ℕ)) (word : List ℕ) (rest : List (List ℕ)) (row : Row) (given : Given) → words ≡ word ∷ rest → row_for word ≡ Some row → given_in rest ≡ Some given → suits row given ≡ false → task_of words ≡ None
+unfolding task_of
+unsuited words word rest row given is found read unfit = rw (is, found, read, unfit) refl
 
 -- ---- what is written gives what is defined
 

@@ -53,7 +53,7 @@ Tells text flag = (text ≡ Some (if flag then codes "true" else codes "false"))
 -- this is found
 pub record IsFound (given : Given) (found : Found) : Type 0 where
   pub names : option_map raw_values (matched_of found (codes "names")) ≡ Some given.names
-  pub few : length given.names ≤ 3
+  pub few : length given.names ≤ 4
   pub bits : first_value found (codes "bits") ≡ option_map width_text given.bits
   pub best_first : Tells (one_text found (codes "best-first")) given.best_first
 

@@ -80,10 +80,10 @@ inputs_in given = record { table = name_at 0 given; session = name_at 1 given; b
 abbrev pub none_given : Given
 none_given = record { names = []; bits = None; best_first = false }
 
--- no command has more than three names
+-- no command has more than four names
 abbrev pub with_name : List ℕ → Given → Option Given
 with_name name given =
-    if nat_lt (length given.names) 3 then Some (record given { names = given.names ++ name ∷ [] }) else None
+    if nat_lt (length given.names) 4 then Some (record given { names = given.names ++ name ∷ [] }) else None
 
 -- an option stands at most once
 abbrev pub with_best_first : Given → Option Given

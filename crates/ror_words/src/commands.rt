@@ -44,7 +44,7 @@ fn matches_in<'w>(alloc: Global, row: Row, words: &'w [&'w str]) -> Result<ArgMa
 }
 
 /// The names that were found.
-fn names_found<'w>(matches: &ArgMatches<'w>) -> ArrayVec<&'w str, 3>
+fn names_found<'w>(matches: &ArgMatches<'w>) -> ArrayVec<&'w str, 4>
     ensures { (given : Given) → IsFound given (found_of matches.now) → map (λ name. name.now) result.items ≡ given.names }
 {
     let mut names = ArrayVec::new();

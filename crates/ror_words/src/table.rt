@@ -24,6 +24,14 @@ pub enum CommandWord {
     Discriminate,
     /// Such a report is checked.
     CheckDiscriminate,
+    /// The report of the spans of a session's pairs over levels of confidence is written.
+    Levels,
+    /// Such a report is checked.
+    CheckLevels,
+    /// The report of a session is written as JSON.
+    ReplayJson,
+    /// Such a report is checked.
+    CheckJson,
 }
 
 /// A row of the table of commands.
@@ -42,8 +50,8 @@ pub struct Row {
     pub best_first: bool,
 }
 
-/// The commands. None has more than three names.
-const TABLE: [Row; 7] = [
+/// The commands. None has more than four names.
+const TABLE: [Row; 11] = [
     Row {
         command: CommandWord::Replay,
         word: "replay",
@@ -100,13 +108,45 @@ const TABLE: [Row; 7] = [
         bits: false,
         best_first: true,
     },
+    Row {
+        command: CommandWord::Levels,
+        word: "levels",
+        names: &["TABLE", "SESSION", "LEVELS"],
+        numbers: false,
+        bits: true,
+        best_first: true,
+    },
+    Row {
+        command: CommandWord::CheckLevels,
+        word: "check-levels",
+        names: &["TABLE", "SESSION", "LEVELS", "REPORT"],
+        numbers: false,
+        bits: false,
+        best_first: true,
+    },
+    Row {
+        command: CommandWord::ReplayJson,
+        word: "replay-json",
+        names: &["TABLE", "SESSION"],
+        numbers: false,
+        bits: true,
+        best_first: true,
+    },
+    Row {
+        command: CommandWord::CheckJson,
+        word: "check-json",
+        names: &["TABLE", "SESSION", "REPORT"],
+        numbers: false,
+        bits: false,
+        best_first: true,
+    },
 ];
 
 /// The usage line: the commands of the table, each with its names and options.
 pub fn usage() -> &'static str
     ensures { result.now ≡ usage_text }
 {
-    "usage: ror replay TABLE SESSION [--bits 15|31|63|127] [--best-first] | ror check TABLE SESSION REPORT [--best-first] | ror generate NUMBER | ror group TABLE SESSION [--bits 15|31|63|127] [--best-first] | ror check-group TABLE SESSION REPORT [--best-first] | ror discriminate TABLE SESSION [--bits 15|31|63|127] [--best-first] | ror check-discriminate TABLE SESSION REPORT [--best-first]\n"
+    "usage: ror replay TABLE SESSION [--bits 15|31|63|127] [--best-first] | ror check TABLE SESSION REPORT [--best-first] | ror generate NUMBER | ror group TABLE SESSION [--bits 15|31|63|127] [--best-first] | ror check-group TABLE SESSION REPORT [--best-first] | ror discriminate TABLE SESSION [--bits 15|31|63|127] [--best-first] | ror check-discriminate TABLE SESSION REPORT [--best-first] | ror levels TABLE SESSION LEVELS [--bits 15|31|63|127] [--best-first] | ror check-levels TABLE SESSION LEVELS REPORT [--best-first] | ror replay-json TABLE SESSION [--bits 15|31|63|127] [--best-first] | ror check-json TABLE SESSION REPORT [--best-first]\n"
 }
 
 /// The row of the command with this word.

@@ -23,11 +23,11 @@ pub struct FileNames<'a> {
     pub best_first: bool,
 }
 
-/// What the words after a command give: names, of which no command has more than three, and options.
+/// What the words after a command give: names, of which no command has more than four, and options.
 #[derive(Drop)]
 pub struct Arguments<'a> {
     /// The names, in order.
-    pub(crate) names: ArrayVec<&'a str, 3>,
+    pub(crate) names: ArrayVec<&'a str, 4>,
     /// The width, where one is given.
     pub(crate) bits: Option<Bits>,
     /// Whether `--best-first` is given.

@@ -24,7 +24,7 @@ use Rattle.ror_frame.specs.declared.stop.Refusal.{Refusal}
 use Rattle.ror_frame.specs.declared.stop.Refusal.TheVariants as refusals
 use Rattle.ror_frame.specs.declared.stop.Stop.TheVariants as stops
 use Rattle.ror_frame.specs.States.{SinkState}
-use Rattle.ror_frame.specs.Stops.{Outcome, stop_at_report}
+use Rattle.ror_frame.specs.Stops.{last, Outcome, stop_at_report}
 use Rattle.ror_frame.specs.Courses.{finish, fetch, IsTooLong, ReadAs, WritesDue}
 use Rattle.ror_frame.specs.Inputs.{bench_for}
 use Rattle.ror_frame.proofs.CourseLemmas.{IsDecided}
@@ -64,7 +64,7 @@ pub long_report : (i : Input) (s : Session) (bytes : List ℕ) (r : Refusal) →
 long_report i s bytes r long = (record { block = 0; reason = TooLong }, long.0, too_long long.1 refl)
 
 -- what is refused of the bytes is a rejection
-pub rejected_as : (i : Input) (s : Session) (bench : Workbench) (lines : List Line) (bytes : List ℕ) (error : ReportError) → HoldTheSame bench (bench_for i s) → lines ≡ s.lines → length bytes ≤ MOST_REPORT_BYTES → IfRejected (IsRejectedFor bench lines bytes) error → HoldsNoMemory error → ReadAs {A = Accepted} 3 (ProvesReport i s) (RefusesReport i s) bytes (Err (stop_at_report error))
+pub rejected_as : (i : Input) (s : Session) (bench : Workbench) (lines : List Line) (bytes : List ℕ) (error : ReportError) → HoldTheSame bench (bench_for i s) → lines ≡ s.lines → length bytes ≤ MOST_REPORT_BYTES → IfRejected (IsRejectedFor bench lines bytes) error → HoldsNoMemory error → ReadAs {A = Accepted} last (ProvesReport i s) (RefusesReport i s) bytes (Err (stop_at_report error))
 rejected_as i s bench lines bytes (report_errors.Rejected rejection) held same short why pure =
     (refl, pure, (rejection, refl, at_fault short (rejected_same bench (bench_for i s) held s.lines bytes rejection (subst (λ (ls : List Line). IsRejectedFor bench ls bytes rejection) same why))))
 rejected_as i s bench lines bytes report_errors.Memory held same short why pure = tt

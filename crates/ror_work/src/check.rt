@@ -6,6 +6,7 @@ ghost use Rattle.ror_session.specs.Sound.{IsSound};
 ghost use Rattle.ror_words.specs.Named.{inputs_of};
 ghost use Rattle.ror_frame.specs.States.{shelf_state, sink_state};
 ghost use Rattle.ror_frame.specs.Courses.{IsFetch, ReadAs, IsWork};
+ghost use Rattle.ror_frame.specs.Stops.{last};
 ghost use Rattle.ror_work.specs.Checking.{ProvesReport, RefusesReport, check_chore};
 
 use ror_bench::{Accepted, Bench, MOST_REPORT_BYTES, Reason, Rejection, check_report};
@@ -52,7 +53,7 @@ fn fetch_report<F: Shelf>(
 ) -> Result<Accepted, Stop>
     requires lawful { IsLawfulIn input.table input.opening }
     requires sound { IsSound session.now }
-    ensures { IsFetch report.now 3 (ProvesReport input session.now) (RefusesReport input session.now)
+    ensures { IsFetch report.now last (ProvesReport input session.now) (RefusesReport input session.now)
         (shelf_state (F.told shelf.old) (F.faults shelf.old) (F.fetch_count shelf.old))
         (shelf_state (F.told shelf.new) (F.faults shelf.new) (F.fetch_count shelf.new)) result }
 {
@@ -74,7 +75,7 @@ fn answers_in(
     requires lawful { IsLawfulIn input.table input.opening }
     requires sound { IsSound session.now }
     requires within { length bytes.now ≤ MOST_REPORT_BYTES }
-    ensures { ReadAs 3 (ProvesReport input session.now) (RefusesReport input session.now) bytes.now result }
+    ensures { ReadAs last (ProvesReport input session.now) (RefusesReport input session.now) bytes.now result }
 {
     let desks = session.desks.len() as u32;
     let bench = Bench::new(alloc, input, desks)?;

@@ -23,7 +23,7 @@ use Rattle.ror_entries.specs.Headed.{IsAcceptedHeaded, IsRejectedHeaded}
 use Rattle.ror_entries.proofs.HeadedLemmas.{headed_is_accepted}
 use Rattle.ror_frame.specs.declared.stop.Refusal.{Refusal}
 use Rattle.ror_frame.specs.declared.stop.Refusal.TheVariants as refusals
-use Rattle.ror_frame.specs.Stops.{stop_at_report}
+use Rattle.ror_frame.specs.Stops.{last, stop_at_report}
 use Rattle.ror_frame.specs.Courses.{IsTooLong, ReadAs}
 use Rattle.ror_frame.specs.Inputs.{bench_for}
 use Rattle.ror_work_discriminate.specs.Entries.{RefusesBody, RefusesEntry, at_fault}
@@ -43,7 +43,7 @@ pub long_report : (i : Input) (s : Session) (bytes : List ℕ) (r : Refusal) →
 long_report i s bytes r long = (record { block = 0; reason = reasons.TooLong }, long.0, commands.too_long long.1 refl)
 
 module _ (i : Input) (s : Session) (bytes : List ℕ) (few : length bytes ≤ MOST_REPORT_BYTES) (lists : List (List Statement)) (closing : AreClosingLists (bench_for i s) s.lines lists) where
-  pub report_refused : (e : ReportError) → IfRejected (IsRejectedHeaded header_text (kind_over i s lists) bytes) e → HoldsNoMemory e → ReadAs {A = Accepted} 3 (ProvesBest i s) (RefusesBest i s) bytes (Err (stop_at_report e))
+  pub report_refused : (e : ReportError) → IfRejected (IsRejectedHeaded header_text (kind_over i s lists) bytes) e → HoldsNoMemory e → ReadAs {A = Accepted} last (ProvesBest i s) (RefusesBest i s) bytes (Err (stop_at_report e))
   report_refused (report_errors.Rejected r) why pure = (refl, pure, (r, refl, commands.at_fault few (record { lists = lists; closing = closing; holds = why })))
   report_refused report_errors.Memory why pure = tt
 

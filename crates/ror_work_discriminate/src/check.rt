@@ -8,6 +8,7 @@ ghost use Rattle.ror_closing.specs.Closing.{AreSuited};
 ghost use Rattle.ror_words.specs.Named.{inputs_of};
 ghost use Rattle.ror_frame.specs.States.{shelf_state, sink_state};
 ghost use Rattle.ror_frame.specs.Courses.{IsFetch, ReadAs, IsWork};
+ghost use Rattle.ror_frame.specs.Stops.{last};
 ghost use Rattle.ror_work_discriminate.specs.Discriminate.{ProvesBest, RefusesBest, check_discriminate_chore};
 
 use crate::judge::BestJudge;
@@ -59,7 +60,7 @@ fn fetch_report<F: Shelf>(
     requires lawful { IsLawfulIn input.table input.opening }
     requires sound { IsSound session }
     requires suited { AreSuited session.lines }
-    ensures { IsFetch report.now 3 (ProvesBest input session) (RefusesBest input session)
+    ensures { IsFetch report.now last (ProvesBest input session) (RefusesBest input session)
         (shelf_state (F.told shelf.old) (F.faults shelf.old) (F.fetch_count shelf.old))
         (shelf_state (F.told shelf.new) (F.faults shelf.new) (F.fetch_count shelf.new)) result }
 {
@@ -77,7 +78,7 @@ fn entries_in(alloc: Global, input: Input, session: Session, bytes: &[u8]) -> Re
     requires sound { IsSound session }
     requires suited { AreSuited session.lines }
     requires within { length bytes.now ≤ MOST_REPORT_BYTES }
-    ensures { ReadAs 3 (ProvesBest input session) (RefusesBest input session) bytes.now result }
+    ensures { ReadAs last (ProvesBest input session) (RefusesBest input session) bytes.now result }
 {
     let (bench, lists) = closed_desks(alloc, input, &session)?;
     let mut judge = BestJudge::new(bench, session.desks, lists, bytes);

@@ -32,7 +32,7 @@ use Rattle.ror_frame.specs.declared.stop.Refusal.{Refusal}
 use Rattle.ror_frame.specs.declared.stop.Refusal.TheVariants as refusals
 use Rattle.ror_frame.specs.declared.stop.Stop.{Stop}
 use Rattle.ror_frame.specs.declared.stop.Stop.TheVariants as stops
-use Rattle.ror_frame.specs.Stops.{stop_at_report}
+use Rattle.ror_frame.specs.Stops.{last, stop_at_report}
 use Rattle.ror_frame.specs.Courses.{IsTooLong, ReadAs}
 use Rattle.ror_frame.specs.Inputs.{bench_for}
 use Rattle.ror_work_group.specs.Entries.{group_kind, IsOnPairAt, IsProvedEntry, RefusesEntry, at_fault}
@@ -54,20 +54,20 @@ pub long_group : (i : Input) (s : Session) (bytes : List ℕ) (r : Refusal) → 
 long_group i s bytes r long = (record { block = 0; reason = reasons.TooLong }, long.0, too_long long.1 refl)
 
 module _ (i : Input) (s : Session) (bytes : List ℕ) (few : length bytes ≤ MOST_REPORT_BYTES) where
-  pub no_text : ¬ (IsUtf8 bytes) → ReadAs {A = Accepted} 3 (ProvesGroup i s) (RefusesGroup i s) bytes (Err (stops.At (refusals.Rejected (record { block = 0; reason = reasons.NotUtf8 }))))
+  pub no_text : ¬ (IsUtf8 bytes) → ReadAs {A = Accepted} last (ProvesGroup i s) (RefusesGroup i s) bytes (Err (stops.At (refusals.Rejected (record { block = 0; reason = reasons.NotUtf8 }))))
   no_text bad = (refl, tt, (record { block = 0; reason = reasons.NotUtf8 }, refl, not_utf8 few bad refl))
 
-  head_refused : (f : HeadFault) (stop : Stop) → IsUtf8 bytes → whole_head_at s.desks bytes ≡ Err f → stop ≡ stops.At (refusals.Rejected (record { block = 0; reason = head_reason bytes f })) → ReadAs {A = Accepted} 3 (ProvesGroup i s) (RefusesGroup i s) bytes (Err (stops.At (refusals.Rejected (record { block = 0; reason = head_reason bytes f })))) → ReadAs {A = Accepted} 3 (ProvesGroup i s) (RefusesGroup i s) bytes (Err stop)
-  head_refused f stop utf8 read is had = subst (λ (x : Stop). ReadAs {A = Accepted} 3 (ProvesGroup i s) (RefusesGroup i s) bytes (Err x)) (sym is) had
+  head_refused : (f : HeadFault) (stop : Stop) → IsUtf8 bytes → whole_head_at s.desks bytes ≡ Err f → stop ≡ stops.At (refusals.Rejected (record { block = 0; reason = head_reason bytes f })) → ReadAs {A = Accepted} last (ProvesGroup i s) (RefusesGroup i s) bytes (Err (stops.At (refusals.Rejected (record { block = 0; reason = head_reason bytes f })))) → ReadAs {A = Accepted} last (ProvesGroup i s) (RefusesGroup i s) bytes (Err stop)
+  head_refused f stop utf8 read is had = subst (λ (x : Stop). ReadAs {A = Accepted} last (ProvesGroup i s) (RefusesGroup i s) bytes (Err x)) (sym is) had
 
-  pub refused_head : (fault : HeadFault) (stop : Stop) → IsUtf8 bytes → IfSome (head_fault fault) (λ f. whole_head_at s.desks bytes ≡ Err f) → IfSome (head_fault fault) (λ f. stop ≡ stops.At (refusals.Rejected (record { block = 0; reason = head_reason bytes f }))) → (head_fault fault ≡ None → stop ≡ stops.Memory) → ReadAs {A = Accepted} 3 (ProvesGroup i s) (RefusesGroup i s) bytes (Err stop)
+  pub refused_head : (fault : HeadFault) (stop : Stop) → IsUtf8 bytes → IfSome (head_fault fault) (λ f. whole_head_at s.desks bytes ≡ Err f) → IfSome (head_fault fault) (λ f. stop ≡ stops.At (refusals.Rejected (record { block = 0; reason = head_reason bytes f }))) → (head_fault fault ≡ None → stop ≡ stops.Memory) → ReadAs {A = Accepted} last (ProvesGroup i s) (RefusesGroup i s) bytes (Err stop)
   refused_head (heads.Line (lines.BadLine p)) stop utf8 read is none = head_refused (heads.Line (lines.BadLine p)) stop utf8 read is (refl, tt, (record { block = 0; reason = head_reason bytes (heads.Line (lines.BadLine p)) }, refl, in_head few utf8 (heads.Line (lines.BadLine p)) read refl))
   refused_head (heads.Line (lines.BadNumber p)) stop utf8 read is none = head_refused (heads.Line (lines.BadNumber p)) stop utf8 read is (refl, tt, (record { block = 0; reason = head_reason bytes (heads.Line (lines.BadNumber p)) }, refl, in_head few utf8 (heads.Line (lines.BadNumber p)) read refl))
-  refused_head (heads.Line lines.Memory) stop utf8 read is none = subst (λ (x : Stop). ReadAs {A = Accepted} 3 (ProvesGroup i s) (RefusesGroup i s) bytes (Err x)) (sym (none refl)) tt
+  refused_head (heads.Line lines.Memory) stop utf8 read is none = subst (λ (x : Stop). ReadAs {A = Accepted} last (ProvesGroup i s) (RefusesGroup i s) bytes (Err x)) (sym (none refl)) tt
   refused_head heads.WrongBlock stop utf8 read is none = head_refused heads.WrongBlock stop utf8 read is (refl, tt, (record { block = 0; reason = reasons.WrongBlock }, refl, in_head few utf8 heads.WrongBlock read refl))
 
   module _ (after : Cursor) (lists : List (List Statement)) (utf8 : IsUtf8 bytes) (read : whole_head_at s.desks bytes ≡ Ok after) (closing : AreClosingLists (bench_for i s) s.lines lists) where
-    pub entries_refused : (e : ReportError) → IfRejected (IsRejectedEntries (group_kind i.table lists) bytes after.place) e → HoldsNoMemory e → ReadAs {A = Accepted} 3 (ProvesGroup i s) (RefusesGroup i s) bytes (Err (stop_at_report e))
+    pub entries_refused : (e : ReportError) → IfRejected (IsRejectedEntries (group_kind i.table lists) bytes after.place) e → HoldsNoMemory e → ReadAs {A = Accepted} last (ProvesGroup i s) (RefusesGroup i s) bytes (Err (stop_at_report e))
     entries_refused (report_errors.Rejected r) why pure = (refl, pure, (r, refl, in_entries few utf8 after read lists closing why))
     entries_refused report_errors.Memory why pure = tt
 

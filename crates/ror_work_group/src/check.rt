@@ -9,6 +9,7 @@ ghost use Rattle.ror_closing.specs.Closing.{AreSuited, AreClosingLists};
 ghost use Rattle.ror_words.specs.Named.{inputs_of};
 ghost use Rattle.ror_frame.specs.States.{shelf_state, sink_state};
 ghost use Rattle.ror_frame.specs.Courses.{IsFetch, ReadAs, IsWork};
+ghost use Rattle.ror_frame.specs.Stops.{last};
 ghost use Rattle.ror_work_group.specs.Group.{ProvesGroup, RefusesGroup, check_group_chore, head_reason};
 
 use crate::judge::GroupJudge;
@@ -61,7 +62,7 @@ fn fetch_report<F: Shelf>(
     requires lawful { IsLawfulIn input.table input.opening }
     requires sound { IsSound session.now }
     requires suited { AreSuited session.now.lines }
-    ensures { IsFetch report.now 3 (ProvesGroup input session.now) (RefusesGroup input session.now)
+    ensures { IsFetch report.now last (ProvesGroup input session.now) (RefusesGroup input session.now)
         (shelf_state (F.told shelf.old) (F.faults shelf.old) (F.fetch_count shelf.old))
         (shelf_state (F.told shelf.new) (F.faults shelf.new) (F.fetch_count shelf.new)) result }
 {
@@ -84,7 +85,7 @@ fn answers_in(
     requires sound { IsSound session.now }
     requires suited { AreSuited session.now.lines }
     requires within { length bytes.now ≤ MOST_REPORT_BYTES }
-    ensures { ReadAs 3 (ProvesGroup input session.now) (RefusesGroup input session.now) bytes.now result }
+    ensures { ReadAs last (ProvesGroup input session.now) (RefusesGroup input session.now) bytes.now result }
 {
     if !is_utf8(bytes) {
         return Err(rejected(Reason::NotUtf8));

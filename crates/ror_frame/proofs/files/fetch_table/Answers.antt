@@ -1,4 +1,5 @@
 use Rattle.std.proofs.lemmas.Result.{err_from_is_err_and}
+use Rattle.ror_frame.specs.Stops.{counted}
 use Rattle.ror_frame.proofs.FetchLemmas.{stopped_there}
 use Rattle.ror_frame.proofs.InputLemmas.{long_table}
 use Rattle.ror_frame.proofs.files.fetch_table.Goals as goal
@@ -6,4 +7,4 @@ use Rattle.ror_frame.proofs.files.fetch_table.Goals as goal
 pub returns-in_err-bytes-clause-fetch : goal.returns-in_err-bytes-clause-fetch
 returns-in_err-bytes-clause-fetch g c =
     let p = err_from_is_err_and c.from_residual.result c.from_residual.ensures.1 in
-    rw (p.1, p.2) (stopped_there _ 1 _ _ _ _ _ _ _ (long_table c.args.names.now.best_first) c.in_err-bytes.ensures)
+    rw (p.1, p.2) (stopped_there _ (counted 1) _ _ _ _ _ _ _ (long_table c.args.names.now.best_first) c.in_err-bytes.ensures)

@@ -1,3 +1,4 @@
+use Rattle.std.proofs.Common.{refl}
 use Rattle.std.specs.Prelude.{nat_lt}
 use Rattle.std.proofs.lemmas.Result.{err_from_is_err_and}
 use Rattle.ror_xmcda.proofs.TableLemmas.{input_table}
@@ -10,17 +11,17 @@ use Rattle.ror_work_discriminate.proofs.check.check_discriminate_files.Goals as 
 pub returns-in_err-input : goal.returns-in_err-input
 returns-in_err-input g c =
     let p = err_from_is_err_and c.from_residual.result c.from_residual.ensures.1 in
-    rw (p.1, p.2) (stopped _ 0 _ _ _ _ _ _ _ _ c.in_err-input.ensures.fetch)
+    rw (p.1, p.2) (stopped _ 0 _ _ _ _ _ _ _ _ _ refl c.in_err-input.ensures.fetch)
 
 pub returns-in_err-session : goal.returns-in_err-session
 returns-in_err-session g c =
     let p = err_from_is_err_and c.from_residual-in_err-session.result c.from_residual-in_err-session.ensures.1 in
-    rw (p.1, p.2) (went_on _ 0 _ _ _ _ _ _ _ _ _ _ _ c.in_ok-input.ensures.fetch (stopped _ 1 _ _ _ _ _ _ _ _ c.in_err-session.ensures.fetch))
+    rw (p.1, p.2) (went_on _ 0 _ _ _ _ _ _ _ _ _ _ _ _ c.in_ok-input.ensures.fetch (stopped _ 1 _ _ _ _ _ _ _ _ _ refl c.in_err-session.ensures.fetch))
 
 pub returns-in_err-accepted : goal.returns-in_err-accepted
 returns-in_err-accepted g c =
     let p = err_from_is_err_and c.from_residual-in_err-accepted.result c.from_residual-in_err-accepted.ensures.1 in
-    rw (p.1, p.2) (went_on _ 0 _ _ _ _ _ _ _ _ _ _ _ c.in_ok-input.ensures.fetch (went_on _ 1 _ _ _ _ _ _ _ _ _ _ _ c.in_ok-session.ensures.fetch (stopped _ 2 _ _ _ _ _ _ _ _ c.in_err-accepted.ensures)))
+    rw (p.1, p.2) (went_on _ 0 _ _ _ _ _ _ _ _ _ _ _ _ c.in_ok-input.ensures.fetch (went_on _ 1 _ _ _ _ _ _ _ _ _ _ _ _ c.in_ok-session.ensures.fetch (stopped _ 2 _ _ _ _ _ _ _ _ _ refl c.in_err-accepted.ensures)))
 
 pub returns : goal.returns
 returns g c =
@@ -33,4 +34,4 @@ returns g c =
     let bytes = third.fetched.1 in
     let holds = accepted_too i s bytes x table c.in_ok-input.ensures.lawful c.in_ok-session.ensures.sound third.fetched.3 in
     let due = line_holds (nat_lt 0 x.wide) (accepted_text x) (IsAcceptedBest i s bytes x) _ _ c.conclude.result holds c.conclude.ensures in
-    went_on _ 0 _ _ _ _ _ _ _ _ _ _ _ first (went_on _ 1 _ _ _ _ _ _ _ _ _ _ _ c.in_ok-session.ensures.fetch (went_on _ 2 _ _ _ _ _ _ _ _ _ _ _ third (finished 3 _ _ _ _ _ due)))
+    went_on _ 0 _ _ _ _ _ _ _ _ _ _ _ _ first (went_on _ 1 _ _ _ _ _ _ _ _ _ _ _ _ c.in_ok-session.ensures.fetch (went_on _ 2 _ _ _ _ _ _ _ _ _ _ _ _ third (finished 3 _ _ _ _ _ due)))

@@ -1,3 +1,4 @@
+use Rattle.ror_frame.specs.Stops.{last}
 use Rattle.std.proofs.Common.{sym, subst, List, ℕ, ◌≤◌, length, ◌≡◌, ◌∙◌}
 use Rattle.std.proofs.lemmas.Result.{err_from_is_err_and}
 use Rattle.ror_bench.specs.declared.report.TheConstants.{MOST_REPORT_BYTES}
@@ -10,7 +11,7 @@ use Rattle.ror_work_discriminate.proofs.check.fetch_report.Goals as goal
 pub returns-in_err-bytes : goal.returns-in_err-bytes
 returns-in_err-bytes g c =
     let p = err_from_is_err_and c.from_residual.result c.from_residual.ensures.1 in
-    rw (p.1, p.2) (stopped_there _ 3 _ _ _ _ _ _ _ (long_report c.args.input c.args.session) c.in_err-bytes.ensures)
+    rw (p.1, p.2) (stopped_there _ last _ _ _ _ _ _ _ (long_report c.args.input c.args.session) c.in_err-bytes.ensures)
 
 pub entries_in-requires-clause-within : goal.entries_in-requires-clause-within
 entries_in-requires-clause-within g c =
@@ -20,4 +21,4 @@ entries_in-requires-clause-within g c =
 
 pub returns : goal.returns
 returns g c =
-    read_there _ 3 MOST_REPORT_BYTES _ _ _ _ _ c.in_ok-bytes.bytes _ c.in_ok-bytes.ensures (subst (λ (bytes : List ℕ). ReadAs 3 (ProvesBest c.args.input c.args.session) (RefusesBest c.args.input c.args.session) bytes c.entries_in.result) c.as_slice.ensures.value c.entries_in.ensures)
+    read_there _ last MOST_REPORT_BYTES _ _ _ _ _ c.in_ok-bytes.bytes _ c.in_ok-bytes.ensures (subst (λ (bytes : List ℕ). ReadAs last (ProvesBest c.args.input c.args.session) (RefusesBest c.args.input c.args.session) bytes c.entries_in.result) c.as_slice.ensures.value c.entries_in.ensures)

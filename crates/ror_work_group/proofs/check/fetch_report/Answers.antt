@@ -1,3 +1,4 @@
+use Rattle.ror_frame.specs.Stops.{last}
 use Rattle.std.proofs.Common.{sym, subst, List, ℕ, ◌≤◌, length, ◌≡◌, ◌∙◌}
 use Rattle.std.proofs.lemmas.Result.{err_from_is_err_and}
 use Rattle.ror_bench.specs.declared.report.TheConstants.{MOST_REPORT_BYTES}
@@ -10,7 +11,7 @@ use Rattle.ror_work_group.proofs.check.fetch_report.Goals as goal
 pub returns-in_err-bytes : goal.returns-in_err-bytes
 returns-in_err-bytes g c =
     let p = err_from_is_err_and c.from_residual.result c.from_residual.ensures.1 in
-    rw (p.1, p.2) (stopped_there _ 3 _ _ _ _ _ _ _ (long_group c.args.input c.args.session.now) c.in_err-bytes.ensures)
+    rw (p.1, p.2) (stopped_there _ last _ _ _ _ _ _ _ (long_group c.args.input c.args.session.now) c.in_err-bytes.ensures)
 
 pub answers_in-requires-clause-within : goal.answers_in-requires-clause-within
 answers_in-requires-clause-within g c =
@@ -20,4 +21,4 @@ answers_in-requires-clause-within g c =
 
 pub returns : goal.returns
 returns g c =
-    read_there _ 3 MOST_REPORT_BYTES _ _ _ _ _ c.in_ok-bytes.bytes _ c.in_ok-bytes.ensures (subst (λ (bytes : List ℕ). ReadAs 3 (ProvesGroup c.args.input c.args.session.now) (RefusesGroup c.args.input c.args.session.now) bytes c.answers_in.result) c.as_slice.ensures.value c.answers_in.ensures)
+    read_there _ last MOST_REPORT_BYTES _ _ _ _ _ c.in_ok-bytes.bytes _ c.in_ok-bytes.ensures (subst (λ (bytes : List ℕ). ReadAs last (ProvesGroup c.args.input c.args.session.now) (RefusesGroup c.args.input c.args.session.now) bytes c.answers_in.result) c.as_slice.ensures.value c.answers_in.ensures)
