@@ -1,0 +1,5 @@
+pub mod Suiting
+pub mod Entries
+pub mod Levels
+pub mod Steps
+pub mod Laws
