@@ -1,0 +1,6 @@
+pub mod BlockFaults
+pub mod Checking
+pub mod Rejections
+pub mod Truth
+pub mod Writing
+pub mod Judging

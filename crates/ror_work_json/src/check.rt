@@ -1,0 +1,87 @@
+//! A check of a report as JSON: the three files are fetched in order, and the report is accepted or rejected.
+
+ghost use Rattle.std.specs.Prelude.{◌≡◌, ◌≤◌, length};
+ghost use Rattle.ror_value.specs.Over.{IsLawfulIn};
+ghost use Rattle.ror_session.specs.Sound.{IsSound};
+ghost use Rattle.ror_words.specs.Named.{inputs_of};
+ghost use Rattle.ror_frame.specs.States.{shelf_state, sink_state};
+ghost use Rattle.ror_frame.specs.Courses.{IsFetch, ReadAs, IsWork};
+ghost use Rattle.ror_frame.specs.Stops.{last};
+ghost use Rattle.ror_work_json.specs.Json.{ProvesJson, RefusesJson, check_json_chore};
+
+use crate::blocks::check_text;
+use ror_bench::{Accepted, Bench, MOST_REPORT_BYTES, Reason, Rejection};
+use ror_frame::{Refusal, Stop, conclude, fetch_session, fetch_table, fetch_whole};
+use ror_io::{Shelf, Sink};
+use ror_session::Session;
+use ror_words::FileNames;
+use ror_xmcda::Input;
+use std::alloc::Global;
+
+/// Fetches the three files in order, each once those before it were read, and writes the line of a report as JSON that is
+/// accepted. It says whether anything is too wide.
+///
+/// # Errors
+///
+/// The first file whose bytes are refused is, and what is at fault in it; or a fault of the outside. Of a report that is first its
+/// length, then that it is no JSON, then the first block of a bad shape, all in this order, and then what the first block at
+/// fault is rejected for, or that a block is missing or one too many.
+pub fn check_json_files<F: Shelf, O: Sink>(
+    alloc: Global,
+    names: &FileNames<'_>,
+    report: &str,
+    shelf: &mut F,
+    out: &mut O,
+) -> Result<bool, Stop>
+    ensures { IsWork 0 (check_json_chore (inputs_of names.now) report.now).files
+        (check_json_chore (inputs_of names.now) report.now).course
+        (shelf_state (F.told shelf.old) (F.faults shelf.old) (F.fetch_count shelf.old))
+        (shelf_state (F.told shelf.new) (F.faults shelf.new) (F.fetch_count shelf.new))
+        (sink_state (O.written out.old) (O.faults out.old))
+        (sink_state (O.written out.new) (O.faults out.new)) result }
+{
+    let input = fetch_table(alloc, names, shelf)?;
+    let session = fetch_session(alloc, names, shelf)?;
+    let accepted = fetch_report(alloc, report, shelf, input, &session)?;
+    conclude(out, accepted)
+}
+
+/// Fetches and checks the report, and counts its answers.
+fn fetch_report<F: Shelf>(
+    alloc: Global,
+    report: &str,
+    shelf: &mut F,
+    input: Input,
+    session: &Session,
+) -> Result<Accepted, Stop>
+    requires lawful { IsLawfulIn input.table input.opening }
+    requires sound { IsSound session.now }
+    ensures { IsFetch report.now last (ProvesJson input session.now) (RefusesJson input session.now)
+        (shelf_state (F.told shelf.old) (F.faults shelf.old) (F.fetch_count shelf.old))
+        (shelf_state (F.told shelf.new) (F.faults shelf.new) (F.fetch_count shelf.new)) result }
+{
+    let too_long = Refusal::Rejected(Rejection {
+        block: 0,
+        reason: Reason::TooLong,
+    });
+    let bytes = fetch_whole(alloc, report, MOST_REPORT_BYTES, too_long, shelf)?;
+    answers_in(alloc, input, session, bytes.as_slice())
+}
+
+/// Checks the bytes of a report, and counts its answers.
+fn answers_in(
+    alloc: Global,
+    input: Input,
+    session: &Session,
+    bytes: &[u8],
+) -> Result<Accepted, Stop>
+    requires lawful { IsLawfulIn input.table input.opening }
+    requires sound { IsSound session.now }
+    requires within { length bytes.now ≤ MOST_REPORT_BYTES }
+    ensures { ReadAs last (ProvesJson input session.now) (RefusesJson input session.now) bytes.now result }
+{
+    let desks = session.desks.len() as u32;
+    let bench = Bench::new(alloc, input, desks)?;
+    let lines = session.lines.as_slice();
+    Ok(check_text(alloc, bench, lines, bytes)?)
+}
