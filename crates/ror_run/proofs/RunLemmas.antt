@@ -15,7 +15,7 @@ use Rattle.ror_run.specs.Chores.{chore_of}
 use Rattle.ror_run.specs.Running.{files_named, WritesBy, IsRun}
 use Rattle.ror_frame.proofs.CourseLemmas.{one_ending, unbegun}
 use Rattle.ror_io.proofs.CountLemmas.{never_both}
-use Rattle.ror_run.proofs.ChoreLemmas.{decided_chore, judges_it, suits_it}
+use Rattle.ror_run.proofs.ChoreLemmas.{decided_chore, judges_it, suits_it, levels_it}
 
 -- ---- a status tells the outcome
 
@@ -48,6 +48,7 @@ completed (Err (stops.At (refusals.BadTable fault))) tells ends kept counts = ab
 completed (Err (stops.At (refusals.BadSession fault))) tells ends kept counts = absurd (ends (λ is. absurd cc))
 completed (Err (stops.At (refusals.Rejected rejection))) tells ends kept counts = absurd (ends (λ is. absurd cc))
 completed (Err (stops.At (refusals.Unsuited line))) tells ends kept counts = absurd (ends (λ is. absurd cc))
+completed (Err (stops.At (refusals.BadLevels fault))) tells ends kept counts = absurd (ends (λ is. absurd cc))
 completed (Err stops.ReadFault) tells ends kept counts = absurd (ends (λ is. absurd cc))
 completed (Err stops.WriteFault) tells ends {old} {new} kept counts = absurd (never_both old new counts.1 kept)
 completed (Err stops.Memory) tells ends kept counts = inr (inr refl)
@@ -80,6 +81,7 @@ worked_run words task before now old new o is work = record {
   refuses = λ r refused. (task, is, work.refuses r (told_by o (Err (stops.At r)) _ refused (refusal_told r)));
   rejects = λ n refused. (task, is, judges_it task.command task.given n (work.refuses (refusals.Rejected n) (told_by o (Err (stops.At (refusals.Rejected n))) _ refused refl)));
   suits = λ line refused. (task, is, suits_it task.command task.given line (work.refuses (refusals.Unsuited line) (told_by o (Err (stops.At (refusals.Unsuited line))) _ refused refl)));
+  levels = λ fault refused. (task, is, levels_it task.command task.given fault (work.refuses (refusals.BadLevels fault) (told_by o (Err (stops.At (refusals.BadLevels fault))) _ refused refl)));
   shows = shows;
   decided = decided;
   completes = λ files mine tells told named stayed kept leads.
@@ -125,6 +127,7 @@ usage_run words shelf out none = record {
   refuses = λ r refused. let p = ap outcome_of refused ∙ refusal_told r in absurd cc;
   rejects = λ n refused. absurd cc;
   suits = λ line refused. absurd cc;
+  levels = λ fault refused. absurd cc;
   shows = λ files task told named stayed. absurd cc;
   decided = λ files task told named stayed. absurd cc;
   completes = λ files task tells told named. absurd cc;

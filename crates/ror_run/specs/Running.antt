@@ -3,6 +3,7 @@ use Rattle.std.specs.Prelude.{◌≡◌, ◌≢◌, ℕ, ◌<◌, ◌≤◌, ◌
 use Rattle.ror_io.specs.Files.{Files}
 use Rattle.ror_io.specs.Counts.{Rose, DidNotRise, next_count, count_after}
 use Rattle.ror_io.specs.Writing.{Grew, GrewShort}
+use Rattle.ror_confidence.specs.declared.fault.LevelsFault.{LevelsFault}
 use Rattle.ror_bench.specs.declared.report.Rejection.{Rejection}
 use Rattle.ror_frame.specs.declared.status.Status.{Status}
 use Rattle.ror_frame.specs.declared.status.Status.TheVariants as statuses
@@ -12,7 +13,7 @@ use Rattle.ror_frame.specs.Stops.{Outcome, outcome_of, refused_status, HidesNone
 use Rattle.ror_frame.specs.Statuses.{status_text}
 use Rattle.ror_frame.specs.Courses.{Ending, done, Leads, Ends, MayRefuse, IsFirstMissing, OfToldFiles, Writes, EndsAfter, LacksOne, LacksFirst}
 use Rattle.ror_words.specs.Words.{Task, task_of}
-use Rattle.ror_run.specs.Chores.{chore_of, judges, wants_suited}
+use Rattle.ror_run.specs.Chores.{chore_of, judges, wants_suited, wants_levels}
 
 -- the names of the files that a task has
 abbrev pub files_named : Option Task → List (List ℕ)
@@ -88,14 +89,16 @@ pub record IsRun (words : List (List ℕ)) (before now : ShelfState) (old new : 
   -- a file that isn't there is the last that is fetched
   pub ends_at_missing : status ≡ statuses.ReadFault → OfToldFiles before.told before.faults now.faults
       (λ files. (n : ℕ) × IsFirstMissing files (files_named (task_of words)) n × (now.fetches ≡ count_after n before.fetches))
-  -- The refusal is one of the command's own: only a command that judges a report rejects, and only one that wants suited sessions
-  -- finds a line unsuited.
+  -- The refusal is one of the command's own: only a command that judges a report rejects, only one that wants suited sessions
+  -- finds a line unsuited, and only one that reads levels finds them bad.
   pub refuses : (refusal : Refusal) → status ≡ refused_status refusal
       → (task : Task) × (task_of words ≡ Some task) × MayRefuse refusal (chore_of task).course
   pub rejects : (rejection : Rejection) → status ≡ statuses.Rejected rejection
       → (task : Task) × (task_of words ≡ Some task) × (judges task.command ≡ true)
   pub suits : (line : ℕ) → status ≡ statuses.Unsuited line
       → (task : Task) × (task_of words ≡ Some task) × (wants_suited task.command ≡ true)
+  pub levels : (fault : LevelsFault) → status ≡ statuses.BadLevels fault
+      → (task : Task) × (task_of words ≡ Some task) × (wants_levels task.command ≡ true)
   -- what the files lead to, which is one thing, and decides the status
   pub shows : ShowsFiles before.told before.faults now.faults words status
   pub decided : DecidesStatus before.told before.faults now.faults words status

@@ -17,6 +17,8 @@ use ror_words::{Arguments, CommandWord, Row, read_arguments, words_in_table};
 use ror_work::{check_files, replay_files};
 use ror_work_discriminate::{check_discriminate_files, discriminate_files};
 use ror_work_group::{check_group_files, group_files};
+use ror_work_json::{check_json_files, replay_json_files};
+use ror_work_levels::{check_levels_files, levels_files};
 use std::alloc::Global;
 
 /// Runs the command that the words name, over files, standard output and standard error.
@@ -100,26 +102,24 @@ fn work_on<F: Shelf, O: Sink>(
         (sink_state (O.written out.old) (O.faults out.old))
         (sink_state (O.written out.new) (O.faults out.new)) result }
 {
+    let inputs = arguments.inputs();
+    let bits = arguments.width();
+    let third = arguments.name(2);
     match command {
-        CommandWord::Replay => {
-            replay_files(alloc, &arguments.inputs(), arguments.width(), shelf, out)
-        }
-        CommandWord::Check => {
-            check_files(alloc, &arguments.inputs(), arguments.name(2), shelf, out)
-        }
+        CommandWord::Replay => replay_files(alloc, &inputs, bits, shelf, out),
+        CommandWord::Check => check_files(alloc, &inputs, third, shelf, out),
         CommandWord::Generate => generate(alloc, arguments.number(), out),
-        CommandWord::Group => {
-            group_files(alloc, &arguments.inputs(), arguments.width(), shelf, out)
-        }
-        CommandWord::CheckGroup => {
-            check_group_files(alloc, &arguments.inputs(), arguments.name(2), shelf, out)
-        }
-        CommandWord::Discriminate => {
-            discriminate_files(alloc, &arguments.inputs(), arguments.width(), shelf, out)
-        }
+        CommandWord::Group => group_files(alloc, &inputs, bits, shelf, out),
+        CommandWord::CheckGroup => check_group_files(alloc, &inputs, third, shelf, out),
+        CommandWord::Discriminate => discriminate_files(alloc, &inputs, bits, shelf, out),
         CommandWord::CheckDiscriminate => {
-            let report = arguments.name(2);
-            check_discriminate_files(alloc, &arguments.inputs(), report, shelf, out)
+            check_discriminate_files(alloc, &inputs, third, shelf, out)
         }
+        CommandWord::Levels => levels_files(alloc, &inputs, third, bits, shelf, out),
+        CommandWord::CheckLevels => {
+            check_levels_files(alloc, &inputs, third, arguments.name(3), shelf, out)
+        }
+        CommandWord::ReplayJson => replay_json_files(alloc, &inputs, bits, shelf, out),
+        CommandWord::CheckJson => check_json_files(alloc, &inputs, third, shelf, out),
     }
 }
