@@ -1,5 +1,5 @@
 -- What is left of a report, block by block, that reading it is a function, and what a rejected one is.
-use Rattle.std.proofs.Common.{length-set, append-nil, inl, inr, rules, ◌≡◌, ◌≢◌, ℕ, zero, suc, ◌+◌, ◌<◌, ◌≤◌, ◌^◌, true, false, List, [], ◌∷◌, ◌++◌, length, drop, get_or, Some, Result, Ok, Err, refl, sym, ap, ◌∙◌, subst, append_assoc, length-append, zero-add, add-one, drop-cons, arith}
+use Rattle.std.proofs.Common.{length-set, append-nil, inl, inr, rules, ◌≡◌, ◌≢◌, ℕ, zero, suc, ◌+◌, ◌<◌, ◌≤◌, ◌^◌, true, false, List, [], ◌∷◌, ◌++◌, length, drop, get_or, Some, Option, Result, Ok, Err, refl, sym, ap, ◌∙◌, subst, append_assoc, length-append, zero-add, add-one, drop-cons, arith}
 use Rattle.std.specs.Prelude.{codes, IfErr, IfSome, ◌==◌, ◌⊎◌, slice_set, slice_index_or}
 use Rattle.std.proofs.lemmas.Bool.{cases_lt}
 use Rattle.std.specs.List.{AllByRecursion, flat_map, sum_by, filter}
@@ -8,6 +8,7 @@ use Rattle.std.proofs.lemmas.List.{append_cancel_left, drop_all, length-drop}
 use Rattle.std.proofs.lemmas.List.{get_or-set_same, get_or-set_other}
 use Rattle.std.proofs.lemmas.List.Elements.{filter-append}
 use Rattle.std.proofs.lemmas.List.Sums.{sum_by-append, fold-append}
+use Rattle.ror_statement.specs.declared.statement.Numbered.{Numbered}
 use Rattle.ror_session.specs.declared.session.Line.{Line}
 use Rattle.ror_table.specs.Table.{DecisionTable, IsTable}
 use Rattle.ror_text.specs.FirstFault.{IsRefusedBy}
@@ -36,6 +37,9 @@ use Rattle.ror_bench.specs.Faults.{FailsBlock, IsEarlierBlockFault}
 use Rattle.ror_bench.specs.Reports.{IsProvedReport, NamesADesk, EachHolds, accepted_of, at_desk, revisions_after, revisions_then, IfRejected, RejectsNext, RejectsEnd, IsRejectedFrom, IsRejectedFor, end_misread, ends_early, block_misread, refused, miscounted, one_too_many, at_line, at_end, later, not_utf8, no_header, in_blocks}
 use Rattle.ror_bench.specs.declared.report.ReportError.{ReportError}
 use Rattle.ror_bench.specs.declared.report.ReportError.TheVariants as errors
+use Rattle.ror_bench.specs.declared.kept.Keep.{Keep}
+use Rattle.ror_bench.specs.declared.kept.KeptLine.{KeptLine}
+use Rattle.ror_bench.specs.Kept.{keep_at, standing_for, kept_of, kept_at, kept_from, IsProvedKeeping}
 use Rattle.ror_bench.specs.Steps.{IsEarlyEnd, IsLateBlock, IsNextBlock, IsRest, with_passed, misread_error, refused_block_error}
 use Rattle.ror_bench.specs.Laws.{RejectedIsNotProved}
 use Rattle.ror_bench.proofs.AnswerLemmas.{block_passes}
@@ -247,11 +251,12 @@ header_within bytes place header =
     omega (arith, long, is.0, length-append header_text (drop place bytes))
 
 -- what is read from a place on completes the report, and what is at fault from there on is its first fault
-pub record IsWay (start : Workbench) (lines : List Line) (bytes : List ℕ) (place : ℕ) (bench : Workbench) (left : List Line) (from : ℕ) (accepted : Accepted) (count : ℕ) : Type 0 where
+pub record IsWay (start : Workbench) (lines : List Line) (bytes : List ℕ) (place : ℕ) (bench : Workbench) (left : List Line) (from : ℕ) (keep : List Keep) (kept : List KeptLine) (accepted : Accepted) (count : ℕ) : Type 0 where
   pub before : List (Line × Block)
   pub counted : length before ≡ count
   pub after : IsAfter start before bench
-  pub completes : (x : Accepted) → IsRest start before left (length lines) (drop from bytes) x → IsProvedReport start lines bytes (record { answers = accepted.answers + x.answers; wide = accepted.wide + x.wide })
+  pub completes : (x : Accepted) (rest : IsRest start before left (length lines) (drop from bytes) x)
+      → IsProvedKeeping start lines bytes keep (record { answers = accepted.answers + x.answers; wide = accepted.wide + x.wide }) (kept ++ kept_from start keep before left rest.blocks)
   pub rejects : (rejection : Rejection) → IsRejectedFrom start bytes rejection before left from → IsRejectedFrom start bytes rejection [] lines place
 
 -- there is a block for each line
@@ -264,8 +269,8 @@ as_many P bench before (x ∷ xs) (y ∷ ys) all = let others = as_many P bench 
 from_nothing : (x : Accepted) → record { answers = 0 + x.answers; wide = 0 + x.wide } ≡ x
 from_nothing x = ap (λ n. record { answers = n; wide = 0 + x.wide }) (zero-add x.answers) ∙ ap (λ n. record { answers = x.answers; wide = n }) (zero-add x.wide)
 
-pub way_begins : (start : Workbench) (lines : List Line) (bytes : List ℕ) (place : ℕ) → header_at bytes ≡ Some place → IsWay start lines bytes place start lines place (record { answers = 0; wide = 0 }) 0
-way_begins start lines bytes place header =
+pub way_begins : (start : Workbench) (lines : List Line) (bytes : List ℕ) (place : ℕ) (keep : List Keep) → header_at bytes ≡ Some place → IsWay start lines bytes place start lines place keep [] (record { answers = 0; wide = 0 }) 0
+way_begins start lines bytes place keep header =
     let t = start.table in
     let is = header_is_text bytes place header in
     record {
@@ -275,11 +280,14 @@ way_begins start lines bytes place header =
       completes = λ x rest.
           let count = as_many (IsProvedBlock t) start [] lines rest.blocks rest.proved in
           record {
-            blocks = rest.blocks;
-            text = is.1 ∙ ap (λ (l : List ℕ). header_text ++ l) (rest.text ∙ ap (λ m. flat_map (block_text t) rest.blocks ++ end_text m) count);
-            printable = rest.printable;
-            proved = rest.proved;
-            counted = from_nothing x ∙ rest.counted;
+            report = record {
+              blocks = rest.blocks;
+              text = is.1 ∙ ap (λ (l : List ℕ). header_text ++ l) (rest.text ∙ ap (λ m. flat_map (block_text t) rest.blocks ++ end_text m) count);
+              printable = rest.printable;
+              proved = rest.proved;
+              counted = from_nothing x ∙ rest.counted;
+            };
+            chosen = refl;
           };
       rejects = λ rejection from. from;
     }
@@ -289,10 +297,10 @@ record IsNextHere (start : Workbench) (before : List (Line × Block)) (line : Li
   read : block_at start.table (cursor_at bytes from) ≡ Ok (block, cursor_at bytes after)
   proved : IsProvedBlock start.table (revisions_then start before line.desk) line block
 
-next_here : (start : Workbench) (before : List (Line × Block)) (bench moved : Workbench) (line : Line) (bytes : List ℕ) (from : ℕ) (passed : Passed) (after : ℕ) → IsAfter start before bench → line.desk < length start.state → (next : IsNextBlock bench moved line bytes from passed after) → IsNextHere start before line bytes from next.block after
-next_here start before bench moved line bytes from passed after is within next = record {
-  read = subst (λ (t : DecisionTable). block_at t (cursor_at bytes from) ≡ Ok (next.block, cursor_at bytes after)) is.table next.read;
-  proved = subst (λ (t : DecisionTable). IsProvedBlock t (revisions_then start before line.desk) line next.block) is.table (subst (λ (r : Revisions). IsProvedBlock bench.table r line next.block) (is.holds line.desk within) next.proved);
+next_here : (start : Workbench) (before : List (Line × Block)) (bench moved : Workbench) (line : Line) (bytes : List ℕ) (from : ℕ) (block : Block) (passed : Passed) (after : ℕ) → IsAfter start before bench → line.desk < length start.state → (next : IsNextBlock bench moved line bytes from block passed after) → IsNextHere start before line bytes from block after
+next_here start before bench moved line bytes from block passed after is within next = record {
+  read = subst (λ (t : DecisionTable). block_at t (cursor_at bytes from) ≡ Ok (block, cursor_at bytes after)) is.table next.read;
+  proved = subst (λ (t : DecisionTable). IsProvedBlock t (revisions_then start before line.desk) line block) is.table (subst (λ (r : Revisions). IsProvedBlock bench.table r line block) (is.holds line.desk within) next.proved);
 }
 
 abbrev numbers_of : ℕ → ℕ → Accepted
@@ -304,35 +312,56 @@ both_ways a x p q e =
     let wide : p.wide ≡ q.wide = ap (λ (y : Passed). y.wide) (sym e) in
     same_accepted (numbers_of (a.answers + (x.answers + p.answers)) (a.wide + (x.wide + p.wide))) (numbers_of ((a.answers + q.answers) + x.answers) ((a.wide + q.wide) + x.wide)) (omega arith) (omega arith)
 
-pub way_goes_on : (start : Workbench) (lines : List Line) (bytes : List ℕ) (place : ℕ) (bench moved : Workbench) (line : Line) (left : List Line) (from : ℕ) (accepted : Accepted) (count : ℕ) (passed : Passed) (after : ℕ) → IsTable start.table → line.desk < length start.state
-    → IsWay start lines bytes place bench (line ∷ left) from accepted count → IsNextBlock bench moved line bytes from passed after → IsWay start lines bytes place moved left after (record { answers = accepted.answers + passed.answers; wide = accepted.wide + passed.wide }) (count + 1)
-way_goes_on start lines bytes place bench moved line left from accepted count passed after table within way next =
+-- the chosen one of the next line is added to those before
+kept_on : (start : Workbench) (keep : List Keep) (before : List (Line × Block)) (line : Line) (left : List Line) (block : Block) (blocks : List Block) (kept more : List KeptLine) → more ≡ kept_at start keep before line block
+    → kept ++ kept_from start keep before (line ∷ left) (block ∷ blocks) ≡ (kept ++ more) ++ kept_from start keep (before ++ (line, block) ∷ []) left blocks
+kept_on start keep before line left block blocks kept more is =
+    ap (λ (l : List KeptLine). kept ++ (l ++ kept_from start keep (before ++ (line, block) ∷ []) left blocks)) (sym is) ∙ sym (append_assoc kept more (kept_from start keep (before ++ (line, block) ∷ []) left blocks))
+
+-- what was kept of a line is what is kept of the one at its place
+pub kept_here : (keep : List Keep) (r : Revisions) (place i : ℕ) (here : Keep) (list : Option (List Numbered)) (block : Block) → place ≡ i → here ≡ keep_at keep place → list ≡ standing_for here r
+    → kept_of place here list block ≡ kept_of i (keep_at keep i) (standing_for (keep_at keep i) r) block
+kept_here keep r place i here list block e f g =
+    let same = f ∙ ap (keep_at keep) e in
+    ap (λ n. kept_of n here list block) e ∙ ap (λ k. kept_of i k list block) same ∙ ap (λ l. kept_of i (keep_at keep i) l block) (g ∙ ap (λ k. standing_for k r) same)
+
+pub way_goes_on : (start : Workbench) (lines : List Line) (bytes : List ℕ) (place : ℕ) (bench moved : Workbench) (line : Line) (left : List Line) (from : ℕ) (keep : List Keep) (kept more : List KeptLine) (accepted : Accepted) (count : ℕ) (block : Block) (passed : Passed) (after : ℕ) → IsTable start.table → line.desk < length start.state
+    → IsWay start lines bytes place bench (line ∷ left) from keep kept accepted count → IsNextBlock bench moved line bytes from block passed after → more ≡ kept_of count (keep_at keep count) (standing_for (keep_at keep count) (revisions_at bench line.desk)) block
+    → IsWay start lines bytes place moved left after keep (kept ++ more) (record { answers = accepted.answers + passed.answers; wide = accepted.wide + passed.wide }) (count + 1)
+unfolding rest_with
+way_goes_on start lines bytes place bench moved line left from keep kept more accepted count block passed after table within way next is_more =
     let t = start.table in
-    let here = next_here start way.before bench moved line bytes from passed after way.after within next in
-    let is = (is_read_iff_text t (cursor_at bytes from) next.block (cursor_at bytes after) table).0 here.read in
+    let here = next_here start way.before bench moved line bytes from block passed after way.after within next in
+    let is = (is_read_iff_text t (cursor_at bytes from) block (cursor_at bytes after) table).0 here.read in
+    let chosen : more ≡ kept_at start keep way.before line block =
+    is_more ∙ ap (λ (r : Revisions). kept_of count (keep_at keep count) (standing_for (keep_at keep count) r) block) (way.after.holds line.desk within)
+    ∙ ap (λ (n : ℕ). kept_of n (keep_at keep n) (standing_for (keep_at keep n) (revisions_then start way.before line.desk)) block) (sym way.counted) in
     record {
-      before = way.before ++ (line, next.block) ∷ [];
-      counted = let c = way.counted in omega (arith, c, length-append way.before ((line, next.block) ∷ []));
-      after = after_block start way.before bench moved line next.block way.after within next.moved_on;
+      before = way.before ++ (line, block) ∷ [];
+      counted = let c = way.counted in omega (arith, c, length-append way.before ((line, block) ∷ []));
+      after = after_block start way.before bench moved line block way.after within next.moved_on;
       completes = λ x rest.
-          let whole = way.completes (with_passed x (passed_of next.block.body)) (rest_with start way.before line left (length lines) (drop from bytes) (drop after bytes) next.block x is.text is.printable here.proved rest) in
-          subst (IsProvedReport start lines bytes) (both_ways accepted x (passed_of next.block.body) passed next.counted) whole;
-      rejects = λ rejection rest. way.rejects rejection (later way.before line left from next.block after next.no_end here.read here.proved rest);
+          let whole = way.completes (with_passed x (passed_of block.body)) (rest_with start way.before line left (length lines) (drop from bytes) (drop after bytes) block x is.text is.printable here.proved rest) in
+          let on = kept_on start keep way.before line left block rest.blocks kept more chosen in
+          subst (λ (ks : List KeptLine). IsProvedKeeping start lines bytes keep (numbers_of ((accepted.answers + passed.answers) + x.answers) ((accepted.wide + passed.wide) + x.wide)) ks) on
+          (subst (λ (a : Accepted). IsProvedKeeping start lines bytes keep a (kept ++ kept_from start keep way.before (line ∷ left) (block ∷ rest.blocks))) (both_ways accepted x (passed_of block.body) passed next.counted) whole);
+      rejects = λ rejection rest. way.rejects rejection (later way.before line left from block after next.no_end here.read here.proved rest);
     }
 
 -- the next block is rejected, and so the report
-pub way_breaks : (start : Workbench) (lines : List Line) (bytes : List ℕ) (place : ℕ) (bench : Workbench) (line : Line) (left : List Line) (from : ℕ) (accepted : Accepted) (count : ℕ) (rejection : Rejection) → line.desk < length start.state → IsWay start lines bytes place bench (line ∷ left) from accepted count
+pub way_breaks : (start : Workbench) (lines : List Line) (bytes : List ℕ) (place : ℕ) (bench : Workbench) (line : Line) (left : List Line) (from : ℕ) {keep : List Keep} {kept : List KeptLine} (accepted : Accepted) (count : ℕ) (rejection : Rejection) → line.desk < length start.state → IsWay start lines bytes place bench (line ∷ left) from keep kept accepted count
     → rejection.block ≡ count + 1 → RejectsNext bench.table (revisions_at bench line.desk) line bytes from rejection.reason → IsRejectedFrom start bytes rejection [] lines place
 way_breaks start lines bytes place bench line left from accepted count rejection within way number rejects =
     let held = subst (λ (t : DecisionTable). RejectsNext t (revisions_then start way.before line.desk) line bytes from rejection.reason) way.after.table
     (subst (λ (r : Revisions). RejectsNext bench.table r line bytes from rejection.reason) (way.after.holds line.desk within) rejects) in
     way.rejects rejection (at_line way.before line left from (let c = way.counted in omega arith) held)
 
-pub way_ends : (start : Workbench) (lines : List Line) (bytes : List ℕ) (place : ℕ) (bench : Workbench) (from : ℕ) (accepted : Accepted) (count : ℕ) → IsWay start lines bytes place bench [] from accepted count → drop from bytes ≡ end_text (length lines) → IsProvedReport start lines bytes accepted
-way_ends start lines bytes place bench from accepted count way text =
-    subst (IsProvedReport start lines bytes) (same_accepted (record { answers = accepted.answers + 0; wide = accepted.wide + 0 }) accepted (omega arith) (omega arith)) (way.completes (record { answers = 0; wide = 0 }) (no_rest start way.before (length lines) (drop from bytes) text))
+pub way_ends : (start : Workbench) (lines : List Line) (bytes : List ℕ) (place : ℕ) (bench : Workbench) (from : ℕ) (keep : List Keep) (kept : List KeptLine) (accepted : Accepted) (count : ℕ) → IsWay start lines bytes place bench [] from keep kept accepted count → drop from bytes ≡ end_text (length lines) → IsProvedKeeping start lines bytes keep accepted kept
+way_ends start lines bytes place bench from keep kept accepted count way text =
+    subst (λ (ks : List KeptLine). IsProvedKeeping start lines bytes keep accepted ks) (append-nil kept)
+    (subst (λ (a : Accepted). IsProvedKeeping start lines bytes keep a (kept ++ [])) (same_accepted (record { answers = accepted.answers + 0; wide = accepted.wide + 0 }) accepted (omega arith) (omega arith)) (way.completes (record { answers = 0; wide = 0 }) (no_rest start way.before (length lines) (drop from bytes) text)))
 
-pub way_ends_badly : (start : Workbench) (lines : List Line) (bytes : List ℕ) (place : ℕ) (bench : Workbench) (from : ℕ) (accepted : Accepted) (count : ℕ) (rejection : Rejection) → IsWay start lines bytes place bench [] from accepted count → rejection.block ≡ count + 1 → RejectsEnd bench.table bytes from count rejection.reason → IsRejectedFrom start bytes rejection [] lines place
+pub way_ends_badly : (start : Workbench) (lines : List Line) (bytes : List ℕ) (place : ℕ) (bench : Workbench) (from : ℕ) {keep : List Keep} {kept : List KeptLine} (accepted : Accepted) (count : ℕ) (rejection : Rejection) → IsWay start lines bytes place bench [] from keep kept accepted count → rejection.block ≡ count + 1 → RejectsEnd bench.table bytes from count rejection.reason → IsRejectedFrom start bytes rejection [] lines place
 way_ends_badly start lines bytes place bench from accepted count rejection way number rejects =
     let c = way.counted in
     let held : RejectsEnd start.table bytes from (length way.before) rejection.reason = subst (λ (t : DecisionTable). RejectsEnd t bytes from (length way.before) rejection.reason) way.after.table (subst (λ (n : ℕ). RejectsEnd bench.table bytes from n rejection.reason) (sym c) rejects) in
@@ -414,16 +443,16 @@ pub one_fewer : (lines : List Line) (i : ℕ) → i < length lines → length (d
 one_fewer lines i within = rw (length-drop i lines, length-drop (i + 1) lines) (omega arith)
 
 -- the next of the lines that are left
-pub way_at : (start : Workbench) (lines : List Line) (bytes : List ℕ) (bench : Workbench) (i : ℕ) (line : Line) (place from : ℕ) (accepted : Accepted) (count : ℕ) → i < length lines → line ≡ get_or lines i line
-    → IsWay start lines bytes place bench (drop i lines) from accepted count → IsWay start lines bytes place bench (line ∷ drop (i + 1) lines) from accepted count
-way_at start lines bytes bench i line place from accepted count within is way =
+pub way_at : (start : Workbench) (lines : List Line) (bytes : List ℕ) (bench : Workbench) (i : ℕ) (line : Line) (place from : ℕ) (keep : List Keep) (kept : List KeptLine) (accepted : Accepted) (count : ℕ) → i < length lines → line ≡ get_or lines i line
+    → IsWay start lines bytes place bench (drop i lines) from keep kept accepted count → IsWay start lines bytes place bench (line ∷ drop (i + 1) lines) from keep kept accepted count
+way_at start lines bytes bench i line place from keep kept accepted count within is way =
     let e : drop i lines ≡ line ∷ drop (i + 1) lines = rw add-one (drop-cons lines i line within ∙ ap (λ (x : Line). x ∷ drop (suc i) lines) (sym is)) in
-    subst (λ (left : List Line). IsWay start lines bytes place bench left from accepted count) e way
+    subst (λ (left : List Line). IsWay start lines bytes place bench left from keep kept accepted count) e way
 
 -- none of the lines is left
-pub way_over : (start : Workbench) (lines : List Line) (bytes : List ℕ) (bench : Workbench) (i place from : ℕ) (accepted : Accepted) (count : ℕ) → length lines ≤ i → IsWay start lines bytes place bench (drop i lines) from accepted count → IsWay start lines bytes place bench [] from accepted count
-way_over start lines bytes bench i place from accepted count past way =
-    subst (λ (left : List Line). IsWay start lines bytes place bench left from accepted count) (drop_all i lines past) way
+pub way_over : (start : Workbench) (lines : List Line) (bytes : List ℕ) (bench : Workbench) (i place from : ℕ) (keep : List Keep) (kept : List KeptLine) (accepted : Accepted) (count : ℕ) → length lines ≤ i → IsWay start lines bytes place bench (drop i lines) from keep kept accepted count → IsWay start lines bytes place bench [] from keep kept accepted count
+way_over start lines bytes bench i place from keep kept accepted count past way =
+    subst (λ (left : List Line). IsWay start lines bytes place bench left from keep kept accepted count) (drop_all i lines past) way
 
 -- ---- the errors of a check
 
@@ -468,11 +497,11 @@ end_rejects t bytes from block count forms.Memory begins bad = tt
 pub last_read : (bytes : List ℕ) (from n : ℕ) → end_at (cursor_at bytes from) ≡ Ok n → drop from bytes ≡ end_text n
 last_read bytes from n read = (end_is_text (cursor_at bytes from) n read).0
 
-pub rejected_blocks : (bench : Workbench) (lines : List Line) (bytes : List ℕ) (place : ℕ) (result : Result Accepted ReportError) → IsUtf8 bytes → header_at bytes ≡ Some place → IfErr result (IfRejected (λ rejection. IsRejectedFrom bench bytes rejection [] lines place)) → IfErr result (IfRejected (IsRejectedFor bench lines bytes))
+pub rejected_blocks : (bench : Workbench) (lines : List Line) (bytes : List ℕ) (place : ℕ) {X : Type 0} (result : Result X ReportError) → IsUtf8 bytes → header_at bytes ≡ Some place → IfErr result (IfRejected (λ rejection. IsRejectedFrom bench bytes rejection [] lines place)) → IfErr result (IfRejected (IsRejectedFor bench lines bytes))
 rejected_blocks bench lines bytes place (Ok x) text header h = tt
 rejected_blocks bench lines bytes place (Err e) text header h = rejects_by (λ rejection. IsRejectedFrom bench bytes rejection [] lines place) (IsRejectedFor bench lines bytes) e (λ rejection from. in_blocks text place header from) h
 
-pub none_proved_where : (bench : Workbench) (lines : List Line) (bytes : List ℕ) (result : Result Accepted ReportError) → IsTable bench.table → length bytes ≤ MOST_REPORT_BYTES → IfErr result (IfRejected (IsRejectedFor bench lines bytes)) → IfErr result (λ e. e ≢ errors.Memory → (x : Accepted) → IsProvedReport bench lines bytes x → ⊥)
+pub none_proved_where : (bench : Workbench) (lines : List Line) (bytes : List ℕ) {X : Type 0} (result : Result X ReportError) → IsTable bench.table → length bytes ≤ MOST_REPORT_BYTES → IfErr result (IfRejected (IsRejectedFor bench lines bytes)) → IfErr result (λ e. e ≢ errors.Memory → (x : Accepted) → IsProvedReport bench lines bytes x → ⊥)
 none_proved_where bench lines bytes (Ok x) table short h = tt
 none_proved_where bench lines bytes (Err (errors.Rejected rejection)) table short h = λ ne x report. rejected_not_proved bench lines bytes rejection x table short h report
 none_proved_where bench lines bytes (Err errors.Memory) table short h = λ ne. absurd (ne refl)

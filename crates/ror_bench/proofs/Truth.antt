@@ -10,7 +10,10 @@ use Rattle.ror_bench.specs.declared.report.ReportError.{ReportError}
 use Rattle.ror_bench.specs.Bench.{Workbench, IsLawfulBench, IsLawfulThroughout}
 use Rattle.ror_bench.specs.Allowed.{proved_unless_wide}
 use Rattle.ror_bench.specs.Blocks.{IsProvedBlock, IsBodyOf, IsTrueBlock}
-use Rattle.ror_bench.specs.Reports.{EachHolds, revisions_then, IsProvedReport, IsAcceptedReport}
+use Rattle.ror_bench.specs.declared.kept.Keep.{Keep}
+use Rattle.ror_bench.specs.declared.kept.KeptLine.{KeptLine}
+use Rattle.ror_bench.specs.Kept.{IsProvedKeeping, IsAcceptedKeeping}
+use Rattle.ror_bench.specs.Reports.{EachHolds, revisions_then}
 use Rattle.ror_bench.specs.Laws.{ProvedBlocksAreTrue, ProvedReportsAreTrue}
 use Rattle.ror_bench.proofs.AnswerLemmas.{block_true}
 use Rattle.ror_bench.proofs.LawfulLemmas.{lawful_now, moved_lawful}
@@ -27,7 +30,7 @@ lawful_at P (r ∷ rs) (suc desk) none h all = lawful_at P rs desk none h all.1
 
 -- ---- a report
 
-true_after : (bench : Workbench) (before : List (Line × Block)) (lines : List Line) (blocks : List Block) → ((desk : ℕ) → IsLawfulThroughout bench.table (revisions_then bench before desk))
+pub true_after : (bench : Workbench) (before : List (Line × Block)) (lines : List Line) (blocks : List Block) → ((desk : ℕ) → IsLawfulThroughout bench.table (revisions_then bench before desk))
     → EachHolds (IsProvedBlock bench.table) bench before lines blocks → EachHolds (λ r line block. IsTrueBlock bench.table r block) bench before lines blocks
 true_after bench before [] [] lawful h = tt
 true_after bench before [] (block ∷ blocks) lawful h = absurd h
@@ -45,6 +48,6 @@ pub report_true : ProvedReportsAreTrue
 report_true bench lines bytes x lawful report =
     true_after bench [] lines report.blocks (λ desk. lawful_at (IsLawfulThroughout bench.table) bench.state desk (record { opening = []; surviving = [] }) (nothing_lawful bench.table) lawful) report.proved
 
-pub report_accepted : (bench : Workbench) (lines : List Line) (bytes : List ℕ) (result : Result Accepted ReportError) → IsLawfulBench bench → IfOk result (IsProvedReport bench lines bytes) → IfOk result (IsAcceptedReport bench lines bytes)
-report_accepted bench lines bytes (Ok x) lawful proved = record { proved = proved; blocks_true = report_true bench lines bytes x lawful proved }
-report_accepted bench lines bytes (Err e) lawful proved = tt
+pub keeping_accepted : (bench : Workbench) (lines : List Line) (bytes : List ℕ) (keep : List Keep) {V : Type 0} (items : V → List KeptLine) (result : Result (Accepted × V) ReportError) → IsLawfulBench bench → IfOk result (λ x. IsProvedKeeping bench lines bytes keep x.0 (items x.1)) → IfOk result (λ x. IsAcceptedKeeping bench lines bytes keep x.0 (items x.1))
+keeping_accepted bench lines bytes keep items (Ok x) lawful proved = record { report = record { proved = proved.report; blocks_true = report_true bench lines bytes x.0 lawful proved.report }; chosen = proved.chosen }
+keeping_accepted bench lines bytes keep items (Err e) lawful proved = tt

@@ -131,7 +131,7 @@ module _ (t : DecisionTable) (r : Revisions) (line : Line) (block : Block) where
   one_of_stage (faults.Repair f) (faults.Answer k g) first second stage place = absurd (no_answer_of_repair t r block.body k g f second first)
   one_of_stage f g first second stage place = absurd (omega arith)
 
-  one_block_fault : (f g : BlockFault) → IsFirst (FailsBlock t r line block) IsEarlierBlockFault f → IsFirst (FailsBlock t r line block) IsEarlierBlockFault g → f ≡ g
+  pub one_block_fault : (f g : BlockFault) → IsFirst (FailsBlock t r line block) IsEarlierBlockFault f → IsFirst (FailsBlock t r line block) IsEarlierBlockFault g → f ≡ g
   one_block_fault f g first second =
       let at = first_at (FailsBlock t r line block) block_stage block_place f g first second in
       one_of_stage f g first.fails second.fails at.0 at.1

@@ -4,6 +4,7 @@ pub mod Blocks
 pub mod Desks
 pub mod Faults
 pub mod Generated
+pub mod Kept
 pub mod Laws
 pub mod Lines
 pub mod Names

@@ -140,11 +140,10 @@ fault_of_answers checks.Memory = faults.Memory
 
 -- ---- a report
 
--- a block of the line stands at the place and ends at the other, it is proved with so many answers, and the bench holds what
+-- the block of the line stands at the place and ends at the other, it is proved with so many answers, and the bench holds what
 -- it leaves
 pub record IsNextBlock (bench moved : Workbench) (line : Line) (bytes : List ℕ) (from : ℕ)
-    (passed : Passed) (after : ℕ) : Type 0 where
-  pub block : Block
+    (block : Block) (passed : Passed) (after : ℕ) : Type 0 where
   pub no_end : begins_end (drop from bytes) ≡ false
   pub read : block_at bench.table (cursor_at bytes from) ≡ Ok (block, cursor_at bytes after)
   pub proved : IsProvedBlock bench.table (revisions_at bench line.desk) line block

@@ -21,12 +21,19 @@
 mod bench;
 mod desk;
 mod generated;
+mod kept;
 pub mod laws;
 mod names;
 mod report;
 mod stop;
+mod wide;
 
 pub use bench::{Bench, BlockFault, Passed};
 pub use generated::{Generated, MOST_GENERATED, generate_input};
+pub use kept::{Keep, KeptLine};
 pub use names::{MOST_RELATED, statement_of};
-pub use report::{Accepted, MOST_REPORT_BYTES, Reason, Rejection, ReportError, check_report};
+pub use report::{
+    Accepted, MOST_REPORT_BYTES, Reason, Rejection, ReportError, check_report,
+    check_report_keeping, refused_block,
+};
+pub use wide::has_wide;

@@ -8,18 +8,20 @@ ghost use Rattle.ror_report.specs.Text.{end_text};
 ghost use Rattle.ror_report.specs.Reading.{header_at};
 ghost use Rattle.ror_bench.specs.Bench.{revisions_at, HoldTheSame, LeavesNumbers};
 ghost use Rattle.ror_bench.specs.Reports.{IsProvedReport, IsAcceptedReport, IsRejectedFor, IsRejectedFrom, RejectsNext, RejectsEnd, IfRejected, NamesADesk, HoldsNoMemory};
+ghost use Rattle.ror_bench.specs.Kept.{IsProvedKeeping, IsAcceptedKeeping};
 ghost use Rattle.ror_bench.specs.Steps.{IsEarlyEnd, IsLateBlock, IsNextBlock, misread_error, refused_block_error, rejected};
 
 use crate::bench::{Bench, BlockFault, Passed};
+use crate::kept::{Keep, KeptLine, keep_at, push_kept, standing_for};
 use ror_check::{CheckFault, RepairCheckFault};
 use ror_discriminate::OptimalFault;
 use ror_proof::ProofFault;
-use ror_report::{begins_end, read_block, read_end, read_header};
+use ror_report::{Block, begins_end, read_block, read_end, read_header};
 use ror_session::Line;
 use ror_system::Reject;
 use ror_table::Table;
 use ror_text::lines::{is_utf8, line_number};
-use std::alloc::Global;
+use std::alloc::{AllocError, Global};
 use thiserror::Error;
 
 /// How many bytes a report may have.
@@ -67,6 +69,16 @@ pub enum ReportError {
     Memory,
 }
 
+impl From<AllocError> for ReportError {
+    ghost use Rattle.ror_bench.specs.declared.report.ReportError.TheVariants.{Memory};
+
+    ghost from_gives = { λ _ error. error ≡ Memory };
+
+    fn from(_error: AllocError) -> ReportError {
+        ReportError::Memory
+    }
+}
+
 /// What an accepted report holds.
 #[derive(Clone, Copy, Debug, PartialEq, Eq)]
 pub struct Accepted {
@@ -100,6 +112,35 @@ pub fn check_report(
         → (x : Accepted) → IsProvedReport bench lines.now bytes.now x → ⊥) }
     ensures pure { IfErr result HoldsNoMemory }
 {
+    let mut bench = bench;
+    let (accepted, _none) = check_report_keeping(alloc, &mut bench, lines, bytes, &[])?;
+    Ok(accepted)
+}
+
+/// Checks a report as `check_report` does, and keeps of each line what `keep` says at the line's place, from 0; nothing of those
+/// past its end. It gives the lines of which something is kept, in order. The bench keeps its table; what its desks hold then is
+/// not said.
+///
+/// # Errors
+///
+/// Those of `check_report`.
+pub fn check_report_keeping(
+    alloc: Global,
+    bench: &mut Bench,
+    lines: &[Line],
+    bytes: &[u8],
+    keep: &[Keep],
+) -> Result<(Accepted, Vec<KeptLine>), ReportError>
+    requires desks { AllByRecursion (NamesADesk (length bench.old.state)) lines.now }
+    requires numbers { AllByRecursion (LeavesNumbers (length lines.now)) bench.old.state }
+    requires length { length bytes.now ≤ MOST_REPORT_BYTES }
+    ensures accepted { IfOk result (λ x. IsAcceptedKeeping bench.old lines.now bytes.now keep.now x.0 x.1.items) }
+    ensures table { bench.new.table ≡ bench.old.table }
+    ensures rejected { IfErr result (IfRejected (IsRejectedFor bench.old lines.now bytes.now)) }
+    ensures not_proved { IfErr result (λ e. e ≢ ReportError.Memory
+        → (x : Accepted) → IsProvedReport bench.old lines.now bytes.now x → ⊥) }
+    ensures pure { IfErr result HoldsNoMemory }
+{
     // What is read back is what was written only over a table, and each table has alternatives.
     prove!(bench.table().alternatives() > 0);
     if !is_utf8(bytes) {
@@ -114,23 +155,24 @@ pub fn check_report(
             reason: Reason::BadLine(1),
         }));
     };
-    let mut bench = bench;
-    check_blocks(alloc, &mut bench, lines, bytes, start)
+    check_blocks(alloc, bench, lines, bytes, keep, start)
 }
 
-/// Checks the blocks of a report, which begin at a place, and its last line.
+/// Checks the blocks of a report, which begin at a place, and its last line, and keeps the chosen ones.
 fn check_blocks(
     alloc: Global,
     bench: &mut Bench,
     lines: &[Line],
     bytes: &[u8],
+    keep: &[Keep],
     start: usize,
-) -> Result<Accepted, ReportError>
+) -> Result<(Accepted, Vec<KeptLine>), ReportError>
     requires desks { AllByRecursion (NamesADesk (length bench.old.state)) lines.now }
     requires numbers { AllByRecursion (LeavesNumbers (length lines.now)) bench.old.state }
     requires length { length bytes.now ≤ MOST_REPORT_BYTES }
     requires header { header_at bytes.now ≡ Some start }
-    ensures accepted { IfOk result (IsProvedReport bench.old lines.now bytes.now) }
+    ensures accepted { IfOk result (λ x. IsProvedKeeping bench.old lines.now bytes.now keep.now x.0 x.1.items) }
+    ensures table { bench.new.table ≡ bench.old.table }
     ensures rejected { IfErr result (IfRejected
         (λ rejection. IsRejectedFrom bench.old bytes.now rejection [] lines.now start)) }
     ensures pure { IfErr result HoldsNoMemory }
@@ -142,19 +184,24 @@ fn check_blocks(
         answers: 0,
         wide: 0,
     };
+    let mut kept = Vec::new(alloc);
     let mut block: u32 = 1;
     for line in lines {
-        let (passed, after) = check_next(alloc, bench, line, bytes, next, block)?;
+        let place = block as usize - 1;
+        let here = keep_at(keep, place);
+        let standing = standing_for(bench, line.desk, here)?;
+        let (found, passed, after) = check_next(alloc, bench, line, bytes, next, block)?;
+        push_kept(&mut kept, place, here, standing, found)?;
         accepted.answers += passed.answers as u64;
         accepted.wide += passed.wide as u64;
         next = after;
         block += 1;
     }
     check_end(alloc, bench.table(), bytes, next, block)?;
-    Ok(accepted)
+    Ok((accepted, kept))
 }
 
-/// Reads the block that stands at a place and checks it for a line: how many answers it has, and where it ends.
+/// Reads the block that stands at a place and checks it for a line: the block, how many answers it has, and where it ends.
 fn check_next(
     alloc: Global,
     bench: &mut Bench,
@@ -162,16 +209,16 @@ fn check_next(
     bytes: &[u8],
     from: usize,
     block: u32,
-) -> Result<(Passed, usize), ReportError>
+) -> Result<(Block, Passed, usize), ReportError>
     requires table { IsTable bench.old.table }
     requires desk { NamesADesk (length bench.old.state) line.now }
     requires number { LeavesNumbers 1 (revisions_at bench.old line.now.desk) }
     requires within { from ≤ length bytes.now }
     requires length { length bytes.now ≤ MOST_REPORT_BYTES }
     ensures next { IfOk result
-        (λ x. IsNextBlock bench.old bench.new line.now bytes.now from x.0 x.1) }
-    ensures onward { IfOk result (λ x. from < x.1) }
-    ensures within { IfOk result (λ x. x.1 ≤ length bytes.now) }
+        (λ x. IsNextBlock bench.old bench.new line.now bytes.now from x.0 x.1 x.2) }
+    ensures onward { IfOk result (λ x. from < x.2) }
+    ensures within { IfOk result (λ x. x.2 ≤ length bytes.now) }
     ensures rejected { IfErr result (IfRejected (λ rejection. (rejection.block ≡ block)
         × RejectsNext bench.old.table (revisions_at bench.old line.now.desk) line.now bytes.now from
         rejection.reason)) }
@@ -181,13 +228,15 @@ fn check_next(
     if begins_end(bytes, from) {
         return Err(early_end(bytes, from, block));
     }
-    match read_block(alloc, bench.table(), bytes, from) {
-        Ok((found, after)) => match bench.check_line(line, &found) {
-            Ok(passed) => Ok((passed, after)),
-            Err(fault) => Err(refused_block(block, fault)),
-        },
-        Err(fault) => Err(misread(bytes, block, fault)),
-    }
+    let (found, after) = match read_block(alloc, bench.table(), bytes, from) {
+        Ok((found, after)) => (found, after),
+        Err(fault) => return Err(misread(bytes, block, fault)),
+    };
+    let passed = match bench.check_line(line, &found) {
+        Ok(passed) => passed,
+        Err(fault) => return Err(refused_block(block, fault)),
+    };
+    Ok((found, passed, after))
 }
 
 /// Checks that the last line stands at a place, with the number of blocks before this one, and nothing after it.
@@ -253,8 +302,8 @@ fn wrong_block(block: u32) -> ReportError
     })
 }
 
-/// The error of a block that its line refuses.
-fn refused_block(block: u32, fault: BlockFault) -> ReportError
+/// The error of a block that its line refuses, by the block's number, from 1.
+pub fn refused_block(block: u32, fault: BlockFault) -> ReportError
     ensures { result ≡ refused_block_error block fault }
 {
     let reason = match fault {

@@ -21,7 +21,7 @@ use Rattle.ror_bench.proofs.CommandLemmas.{one_refusal}
 use Rattle.ror_bench.proofs.ReplayLemmas.{block_proved, each_by}
 use Rattle.ror_bench.proofs.ReportProofs.{number_cases, then_at_own, then_at_other}
 use Rattle.ror_bench.proofs.SameLemmas.{same_back}
-use Rattle.ror_closing.specs.Closing.{AreSuited, revision_lines, lists_after}
+use Rattle.ror_closing.specs.Closing.{IsUnsuited, AreSuited, revision_lines, lists_after}
 use Rattle.ror_closing.specs.Laws.{OneClosing, ClosesReports, ClosesReplays, OneFirstUnsuited}
 use Rattle.ror_closing.proofs.ClosingLemmas.{lists_by, closing_same}
 
@@ -164,28 +164,30 @@ closes_replays most bench lines blocks lists suited made closing =
     (each_by (IsBlockOf (given_at most) bench.table) (IsProvedBlock bench.table) (λ r line block of. block_proved most bench.table r line block of) bench [] lines blocks made.given)
     closing
 
--- ---- the first unsuited line
+-- ---- the first line of a kind
 
-first_split : (lines before other_before : List Line) (line other : Line) (after other_after : List Line) → lines ≡ before ++ line ∷ after → lines ≡ other_before ++ other ∷ other_after → AreSuited before → AreSuited other_before → line.command ≡ Repair → other.command ≡ Repair → line ≡ other
-first_split lines [] [] line other after other_after one two suited likewise is too = (let both = sym one ∙ two in cc)
-first_split lines [] (y ∷ ys) line other after other_after one two suited likewise is too =
+pub first_split : (P : Line → Type 0) (lines before other_before : List Line) (line other : Line) (after other_after : List Line) → lines ≡ before ++ line ∷ after → lines ≡ other_before ++ other ∷ other_after → AllByRecursion (λ l. ¬ (P l)) before → AllByRecursion (λ l. ¬ (P l)) other_before → P line → P other → line ≡ other
+first_split P lines [] [] line other after other_after one two fit likewise is too = (let both = sym one ∙ two in cc)
+first_split P lines [] (y ∷ ys) line other after other_after one two fit likewise is too =
     let same : line ≡ y = (let both = sym one ∙ two in cc) in
-    absurd (likewise.0 (subst (λ (l : Line). l.command ≡ Repair) same is))
-first_split lines (x ∷ xs) [] line other after other_after one two suited likewise is too =
+    absurd (likewise.0 (subst P same is))
+first_split P lines (x ∷ xs) [] line other after other_after one two fit likewise is too =
     let same : other ≡ x = (let both = sym two ∙ one in cc) in
-    absurd (suited.0 (subst (λ (l : Line). l.command ≡ Repair) same too))
-first_split lines (x ∷ xs) (y ∷ ys) line other after other_after one two suited likewise is too =
+    absurd (fit.0 (subst P same too))
+first_split P lines (x ∷ xs) (y ∷ ys) line other after other_after one two fit likewise is too =
     let rest : xs ++ line ∷ after ≡ ys ++ other ∷ other_after = (let both = sym one ∙ two in cc) in
-    first_split (xs ++ line ∷ after) xs ys line other after other_after refl rest suited.1 likewise.1 is too
+    first_split P (xs ++ line ∷ after) xs ys line other after other_after refl rest fit.1 likewise.1 is too
 
-no_line : (before : List Line) (line : Line) (after : List Line) → line.command ≡ Repair → AreSuited (before ++ line ∷ after) → ⊥
-no_line [] line after is suited = suited.0 is
-no_line (x ∷ xs) line after is suited = no_line xs line after is suited.1
+pub no_line : (P : Line → Type 0) (before : List Line) (line : Line) (after : List Line) → P line → AllByRecursion (λ l. ¬ (P l)) (before ++ line ∷ after) → ⊥
+no_line P [] line after is fit = fit.0 is
+no_line P (x ∷ xs) line after is fit = no_line P xs line after is fit.1
+
+-- ---- the first unsuited line
 
 pub one_first_unsuited : OneFirstUnsuited
 one_first_unsuited = record {
   one = λ lines m n first second. first.number_is
-      ∙ ap (λ (l : Line). l.number) (first_split lines first.before second.before first.line second.line first.after second.after first.split second.split first.suited_before second.suited_before first.unsuited second.unsuited)
+      ∙ ap (λ (l : Line). l.number) (first_split IsUnsuited lines first.before second.before first.line second.line first.after second.after first.split second.split first.suited_before second.suited_before first.unsuited second.unsuited)
       ∙ sym second.number_is;
-  not_suited = λ lines n first suited. no_line first.before first.line first.after first.unsuited (subst AreSuited first.split suited);
+  not_suited = λ lines n first suited. no_line IsUnsuited first.before first.line first.after first.unsuited (subst AreSuited first.split suited);
 }

@@ -1,7 +1,6 @@
 -- What is left of a report behind an entry, and that what is rejected is not proved.
-use Rattle.std.proofs.Common.{◌≡◌, ℕ, ◌+◌, ◌<◌, ◌^◌, true, List, [], ◌∷◌, ◌++◌, length, drop, Result, Ok, refl, sym, ap, ◌∙◌, subst, append_assoc, zero-add, arith}
-use Rattle.std.specs.List.{AllByRecursion, flat_map, sum_by}
-use Rattle.std.proofs.lemmas.List.Sums.{sum_by-append}
+use Rattle.std.proofs.Common.{◌≡◌, ℕ, ◌+◌, ◌<◌, ◌^◌, true, List, [], ◌∷◌, ◌++◌, length, drop, Result, Ok, refl, sym, ap, ◌∙◌, subst, append_assoc, arith}
+use Rattle.std.specs.List.{AllByRecursion, flat_map}
 use Rattle.ror_text.specs.Cursor.{Cursor, cursor_at}
 use Rattle.ror_proof.specs.declared.read.ProofFault.{ProofFault}
 use Rattle.ror_report.specs.Reading.{begins_end, end_at}
@@ -12,14 +11,12 @@ use Rattle.ror_bench.specs.declared.report.Accepted.{Accepted}
 use Rattle.ror_bench.specs.declared.report.Rejection.{Rejection}
 use Rattle.ror_bench.specs.declared.report.Reason.{Reason}
 use Rattle.ror_bench.specs.Steps.{with_passed}
+use Rattle.ror_bench.proofs.ReportProofs.{sums}
 use Rattle.ror_entries.specs.Kind.{Kind, IsKind}
 use Rattle.ror_entries.specs.Reports.{EachAt, accepted_of, IsProvedEntries, RejectsNext, RejectsEnd, IsRejectedFrom, IsRejectedEntries, end_misread, ends_early, entry_misread, refused, miscounted, one_too_many, at_entry, at_end, later}
 use Rattle.ror_entries.specs.Steps.{IsRest}
 
 -- ---- numbers
-
-sums : {X : Type 0} (f : X → ℕ) (x : X) (xs : List X) → sum_by f (x ∷ xs) ≡ f x + sum_by f xs
-sums f x xs = sum_by-append f (x ∷ []) xs ∙ ap (λ n. n + sum_by f xs) (zero-add (f x))
 
 same_accepted : (x y : Accepted) → x.answers ≡ y.answers → x.wide ≡ y.wide → x ≡ y
 same_accepted x y a w = ap (λ n. record { answers = n; wide = x.wide }) a ∙ ap (λ n. record { answers = y.answers; wide = n }) w

@@ -56,9 +56,9 @@ one_more : (n count : ℕ) → count_after n (next_count count) ≡ next_count (
 one_more zero count = refl
 one_more (suc n) count = ap next_count (one_more n count)
 
--- memory ran out before anything was fetched
-pub unbegun : (names : List (List ℕ)) (course : Course) (shelf : ShelfState) (out : SinkState) → IsWork 0 names course shelf shelf out out (Err stops.Memory)
-unbegun names course shelf out = record {
+-- memory ran out before a next file was fetched
+pub ran_short : (place : ℕ) (names : List (List ℕ)) (course : Course) (shelf : ShelfState) (out : SinkState) → IsWork place names course shelf shelf out out (Err stops.Memory)
+ran_short place names course shelf out = record {
   never_falls = omega arith;
   told_stays = refl;
   fetched = (0, omega arith, refl);
@@ -73,6 +73,10 @@ unbegun names course shelf out = record {
   writes = refl;
   output = inl refl;
 }
+
+-- and before anything was
+pub unbegun : (names : List (List ℕ)) (course : Course) (shelf : ShelfState) (out : SinkState) → IsWork 0 names course shelf shelf out out (Err stops.Memory)
+unbegun names course shelf out = ran_short 0 names course shelf out
 
 -- what is said of work that stops at its first file
 record IsStopped (course : Course) (name : List ℕ) (place : ℕ) (names : List (List ℕ)) (a b : ShelfState) (out : SinkState) (e : Stop) : Type 0 where

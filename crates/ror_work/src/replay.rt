@@ -1,13 +1,12 @@
 //! The report of a session: its header, the block of each line, each written before the next line is taken, and its end.
 
 ghost use Rattle.std.specs.Prelude.{◌≡◌, ◌≤◌, length, OnOk};
-ghost use Rattle.std.specs.List.{AllByRecursion, list_any};
-ghost use Rattle.ror_check.specs.Proof.{is_wide};
+ghost use Rattle.std.specs.List.{AllByRecursion};
 ghost use Rattle.ror_session.specs.declared.limits.TheConstants.{MOST_LINES};
 ghost use Rattle.ror_session.specs.Sound.{IsSound};
 ghost use Rattle.ror_value.specs.Over.{IsLawfulIn};
 ghost use Rattle.ror_bench.specs.Bench.{IsLawfulBench, LeavesNumbers};
-ghost use Rattle.ror_bench.specs.Blocks.{HasText, has_wide};
+ghost use Rattle.ror_bench.specs.Blocks.{HasText};
 ghost use Rattle.ror_bench.specs.Reports.{NamesADesk};
 ghost use Rattle.ror_report.specs.Text.{block_text};
 ghost use Rattle.ror_words.specs.Named.{inputs_of};
@@ -17,12 +16,11 @@ ghost use Rattle.ror_frame.specs.Inputs.{bench_for};
 ghost use Rattle.ror_pivot.specs.Answers.{most_of};
 ghost use Rattle.ror_work.specs.Replaying.{report_output, replay_chore, WritesText, MakesBlocks};
 
-use ror_bench::Bench;
+use ror_bench::{Bench, has_wide};
 use ror_frame::{Stop, fetch_session, fetch_table};
 use ror_io::{Shelf, Sink, write_all};
 use ror_pivot::Bits;
-use ror_proof::{Answer, Verdict};
-use ror_report::{Block, Body, header, print_block, print_end};
+use ror_report::{Block, header, print_block, print_end};
 use ror_session::{Line, Session};
 use ror_table::Table;
 use ror_words::FileNames;
@@ -139,24 +137,4 @@ fn write_block<O: Sink>(
     let text = print_block(alloc, table, block)?;
     write_all(out, text.as_slice())?;
     Ok(())
-}
-
-/// Whether an answer of the block is too wide, or its repair.
-fn has_wide(block: &Block) -> bool
-    ensures { result ≡ has_wide block.now }
-{
-    match &block.body {
-        Body::Answers(answers) => has_wide_answer(answers.as_slice()),
-        Body::RepairWide(_, _) => true,
-        _ => false,
-    }
-}
-
-/// Whether one of the answers is too wide.
-fn has_wide_answer(answers: &[Answer]) -> bool
-    ensures { result ≡ list_any (λ x. is_wide x.verdict) answers.now }
-{
-    answers
-        .iter()
-        .any(|answer| matches!(answer.verdict, Verdict::Wide { .. }))
 }

@@ -1,7 +1,6 @@
 -- What is written of a group is proved, and where nothing of it is too wide no word is wide.
-use Rattle.std.proofs.Common.{◌≡◌, ℕ, ◌+◌, true, false, List, [], ◌∷◌, refl, sym, ap, ◌∙◌, subst, arith, zero-add}
+use Rattle.std.proofs.Common.{◌≡◌, ℕ, ◌+◌, true, false, List, [], ◌∷◌, refl, sym, ap, ◌∙◌, subst, arith}
 use Rattle.std.specs.Prelude.{cond, count_by}
-use Rattle.std.proofs.lemmas.List.Sums.{sum_by-append}
 use Rattle.std.specs.Bool.{beq}
 use Rattle.std.specs.List.{AllByRecursion, sum_by}
 use Rattle.ror_statement.specs.declared.statement.Statement.{Statement}
@@ -12,6 +11,7 @@ use Rattle.ror_proof.specs.declared.answer.Verdict.TheVariants as verdicts
 use Rattle.ror_check.specs.Proof.{is_wide}
 use Rattle.ror_bench.specs.Blocks.{answers_passed}
 use Rattle.ror_bench.specs.declared.report.Accepted.{Accepted}
+use Rattle.ror_bench.proofs.ReportProofs.{sums}
 use Rattle.ror_group.specs.declared.entry.Entry.{Entry}
 use Rattle.ror_group.specs.declared.quartet.Word4.TheVariants as words
 use Rattle.ror_group.specs.Combining.{one_says}
@@ -31,9 +31,6 @@ pub written_not_rejected : WrittenAreNotRejected
 written_not_rejected most i s bytes accepted rejection table lawful suited few report rejects = not_both i s table lawful suited bytes rejection accepted rejects (written_proved most i s bytes accepted few report)
 
 -- ---- and says nothing wide where no answer is
-
-sums : {A : Type 0} (f : A → ℕ) (x : A) (xs : List A) → sum_by f (x ∷ xs) ≡ f x + sum_by f xs
-sums f x xs = sum_by-append f (x ∷ []) xs ∙ ap (λ n. n + sum_by f xs) (zero-add (f x))
 
 both_none : {A : Type 0} (f : A → ℕ) (x : A) (xs : List A) → sum_by f (x ∷ xs) ≡ 0 → (f x ≡ 0) × (sum_by f xs ≡ 0)
 both_none f x xs none = let split = sums f x xs in (omega (arith, split, none), omega (arith, split, none))

@@ -3,6 +3,7 @@ use Rattle.std.proofs.Common.{◌≡◌, ℕ, zero, suc, false, List, [], ◌∷
 use Rattle.std.specs.Prelude.{slice_get, codes}
 use Rattle.std.specs.List.{AllByRecursion}
 use Rattle.ror_text.specs.FirstFault.{IsFirst}
+use Rattle.ror_text.proofs.Everywhere.{all_at}
 use Rattle.ror_text.proofs.FirstFaultLemmas.{first_at}
 use Rattle.ror_statement.specs.declared.statement.Statement.{Statement}
 use Rattle.ror_table.specs.Table.{DecisionTable, IsTable}
@@ -30,18 +31,13 @@ use Rattle.ror_work_group.specs.Entries.{pairs_of, IsOnPairAt, IsProvedEntry, Is
 
 -- ---- the pair at a place
 
-member : (n : ℕ) (ps : List (ℕ × ℕ)) (k : ℕ) (p : ℕ × ℕ) → AllByRecursion (AreDifferentOf n) ps → slice_get ps k ≡ Some p → AreDifferentOf n p
-member n [] k p all at = absurd cc
-member n (q ∷ qs) zero p all at = let same : q ≡ p = cc in subst (AreDifferentOf n) same all.0
-member n (q ∷ qs) (suc k) p all at = member n qs k p all.1 at
-
 -- is one of two alternatives of the table
 pub on_pair : (t : DecisionTable) (place : ℕ) (x : Entry) → IsOnPairAt t place x → AreDifferentOf (length t.alternatives) (x.first, x.second)
-on_pair t place x at = member (length t.alternatives) (pairs_of t) place (x.first, x.second) (ordered_pairs-different (length t.alternatives)) at
+on_pair t place x at = all_at (AreDifferentOf (length t.alternatives)) (pairs_of t) place (x.first, x.second) (ordered_pairs-different (length t.alternatives)) at
 
 -- and so is the pair that stands there
 pub pair_there : (t : DecisionTable) (pairs : List (ℕ × ℕ)) (place : ℕ) (p : ℕ × ℕ) → pairs ≡ pairs_of t → slice_get pairs place ≡ Some p → AreDifferentOf (length t.alternatives) p
-pair_there t pairs place p same at = member (length t.alternatives) (pairs_of t) place p (ordered_pairs-different (length t.alternatives)) (ap (λ (ps : List (ℕ × ℕ)). slice_get ps place) (sym same) ∙ at)
+pair_there t pairs place p same at = all_at (AreDifferentOf (length t.alternatives)) (pairs_of t) place p (ordered_pairs-different (length t.alternatives)) (ap (λ (ps : List (ℕ × ℕ)). slice_get ps place) (sym same) ∙ at)
 
 pub entry_there : (t : DecisionTable) (pairs : List (ℕ × ℕ)) (place : ℕ) (p : ℕ × ℕ) (x : Entry) → pairs ≡ pairs_of t → slice_get pairs place ≡ Some p → x.first ≡ p.0 → x.second ≡ p.1 → IsOnPairAt t place x
 entry_there t pairs place p x same at first second =

@@ -1,4 +1,3 @@
-pub mod BlockFaults
 pub mod Checking
 pub mod Rejections
 pub mod Truth

@@ -29,7 +29,7 @@ use Rattle.ror_bench.proofs.SameLemmas.{each_same, then_same}
 use Rattle.ror_work_json.specs.Json.{IsProvedJson, IsAcceptedJson, IsRejectedAmong, missing, one_too_many, refused, later, IsRejectedJson, no_json, no_report, in_blocks}
 use Rattle.ror_work_json.specs.Steps.{AreProvedBlocks, RefusesText, RefusesBlock}
 use Rattle.ror_work_json.specs.Steps as steps
-use Rattle.ror_work_json.proofs.BlockFaults.{one_block_fault}
+use Rattle.ror_bench.proofs.UniqueLemmas.{one_block_fault}
 
 -- ---- what is rejected is not proved
 

@@ -15,7 +15,7 @@ ghost use Rattle.ror_work_json.specs.Json.{IsProvedJson, IsRejectedJson, IsRejec
 ghost use Rattle.ror_work_json.specs.Steps.{AreProvedBlocks, RefusesText, RefusesBlock};
 
 use ror_bench::{
-    Accepted, Bench, BlockFault, MOST_REPORT_BYTES, Passed, Reason, Rejection, ReportError,
+    Accepted, Bench, MOST_REPORT_BYTES, Passed, Reason, Rejection, ReportError, refused_block,
 };
 use ror_json::{TextFault, from_text};
 use ror_report::Block;
@@ -125,18 +125,6 @@ fn check_block(
     match bench.check_line(line, found) {
         Ok(passed) => Ok(passed),
         Err(fault) => Err(refused_block(block, fault)),
-    }
-}
-
-/// The error of a block that its line refuses.
-fn refused_block(block: u32, fault: BlockFault) -> ReportError
-    ensures { result ≡ refused_block_error block fault }
-{
-    match fault {
-        BlockFault::WrongBlock => rejected(block, Reason::WrongBlock),
-        BlockFault::Answer(answer, fault) => rejected(block, Reason::Answer(answer, fault)),
-        BlockFault::Repair(fault) => rejected(block, Reason::Repair(fault)),
-        BlockFault::Memory => ReportError::Memory,
     }
 }
 

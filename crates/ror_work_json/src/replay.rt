@@ -2,7 +2,6 @@
 
 ghost use Rattle.std.specs.Prelude.{◌≡◌, ◌≤◌, ◌++◌, [], ◌∷◌, length, string_bytes, nat_lt, IfOk};
 ghost use Rattle.std.specs.List.{AllByRecursion, list_any};
-ghost use Rattle.ror_check.specs.Proof.{is_wide};
 ghost use Rattle.ror_session.specs.Sound.{IsSound};
 ghost use Rattle.ror_value.specs.Over.{IsLawfulIn};
 ghost use Rattle.ror_bench.specs.Bench.{IsLawfulBench, LeavesNumbers};
@@ -17,13 +16,12 @@ ghost use Rattle.ror_pivot.specs.Answers.{most_of};
 ghost use Rattle.ror_work_json.specs.Json.{json_output, replay_json_chore};
 ghost use Rattle.ror_work_json.specs.Steps.{IsJsonText};
 
-use ror_bench::Bench;
+use ror_bench::{Bench, has_wide};
 use ror_frame::{Stop, fetch_session, fetch_table};
 use ror_io::{Shelf, Sink, write_pieces};
 use ror_json::to_text;
 use ror_pivot::Bits;
-use ror_proof::{Answer, Verdict};
-use ror_report::{Block, Body};
+use ror_report::Block;
 use ror_session::{Line, Session};
 use ror_words::FileNames;
 use ror_xmcda::Input;
@@ -122,25 +120,5 @@ fn blocks_of(
 fn has_wide_block(blocks: &[Block]) -> bool
     ensures { result ≡ list_any has_wide blocks.now }
 {
-    blocks.iter().any(has_wide)
-}
-
-/// Whether an answer of the block is too wide, or its repair.
-fn has_wide(block: &Block) -> bool
-    ensures { result ≡ has_wide block.now }
-{
-    match &block.body {
-        Body::Answers(answers) => has_wide_answer(answers.as_slice()),
-        Body::RepairWide(_, _) => true,
-        _ => false,
-    }
-}
-
-/// Whether one of the answers is too wide.
-fn has_wide_answer(answers: &[Answer]) -> bool
-    ensures { result ≡ list_any (λ x. is_wide x.verdict) answers.now }
-{
-    answers
-        .iter()
-        .any(|answer| matches!(answer.verdict, Verdict::Wide { .. }))
+    blocks.iter().any(|block| has_wide(block))
 }

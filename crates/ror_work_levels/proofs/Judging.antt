@@ -119,21 +119,3 @@ read_as_well {A} name place Had Reads Refused Refuses a b x weaker fetch = recor
 pub went_on_as : {A : Type 0} (name : List ℕ) (place : ℕ) (names : List (List ℕ)) (at : FilePlace) (Had Reads : List ℕ → A → Type 0) (Refused Refuses : List ℕ → Refusal → Type 0) (next : List ℕ → A → Course) (a b c : ShelfState) (old new : SinkState) (x : A) (outcome : Outcome) → ((bytes : List ℕ) → Had bytes x → Reads bytes x) → (fetched : IsFetch name at Had Refused a b (Ok x)) → IsWork (place + 1) names (next fetched.fetched.1 x) b c old new outcome → IsWork place (name ∷ names) (Courses.fetch A name Reads Refuses next) a c old new outcome
 went_on_as {A} name place names at Had Reads Refused Refuses next a b c old new x outcome weaker fetched went =
     went_on name place names at Reads Refuses next a b c old new x outcome (read_as_well name at Had Reads Refused Refuses a b x weaker fetched) went
-
--- memory ran out between two files
-pub ran_short : (place : ℕ) (names : List (List ℕ)) (course : Course) (shelf : ShelfState) (out : SinkState) → IsWork place names course shelf shelf out out (Err stops.Memory)
-ran_short place names course shelf out = record {
-  never_falls = omega arith;
-  told_stays = refl;
-  fetched = (0, omega arith, refl);
-  read_fault = λ is. absurd cc;
-  rose = λ rose. absurd (omega (arith, rose));
-  lacking = λ lacks. refl;
-  first_lacking = λ lacks. inr (refl, refl);
-  ends_at_missing = λ is. absurd cc;
-  refuses = λ r is. absurd cc;
-  pure = tt;
-  shows = λ files is stayed other. absurd (other refl);
-  writes = refl;
-  output = inl refl;
-}

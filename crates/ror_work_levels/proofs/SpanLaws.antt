@@ -1,11 +1,11 @@
 -- What is written of spans is proved, and nothing of it is too wide where no number is.
-use Rattle.std.proofs.Common.{◌≡◌, ℕ, ◌+◌, List, [], ◌∷◌, refl, sym, ap, ◌∙◌, subst, arith, zero-add}
+use Rattle.std.proofs.Common.{◌≡◌, ℕ, ◌+◌, List, [], ◌∷◌, refl, sym, ap, ◌∙◌, subst, arith}
 use Rattle.std.specs.List.{sum_by}
-use Rattle.std.proofs.lemmas.List.Sums.{sum_by-append}
 use Rattle.ror_statement.specs.declared.statement.Numbered.{Numbered}
 use Rattle.ror_statement.specs.declared.statement.Statement.{Statement}
 use Rattle.ror_table.specs.Table.{DecisionTable}
 use Rattle.ror_bench.specs.declared.report.Accepted.{Accepted}
+use Rattle.ror_bench.proofs.ReportProofs.{sums}
 use Rattle.ror_confidence.specs.Finding.{HasNoWideQuestions}
 use Rattle.ror_confidence.specs.Levels.{level_lists}
 use Rattle.ror_confidence.proofs.Searches.{none_wide}
@@ -42,9 +42,6 @@ pub first_unfit_lines : OneFirstUnfit
 first_unfit_lines = record { one = suits.one_first_unfit; not_fit = suits.not_fit; fit_or = suits.fit_or }
 
 -- ---- nothing is too wide
-
-sums : {A : Type 0} (f : A → ℕ) (x : A) (xs : List A) → sum_by f (x ∷ xs) ≡ f x + sum_by f xs
-sums f x xs = sum_by-append f (x ∷ []) xs ∙ ap (λ n. n + sum_by f xs) (zero-add (f x))
 
 module _ (most : ℕ) (t : DecisionTable) (lists : List (List Statement)) (none : (a b : ℕ) → HasNoWideQuestions most t lists a b) where
   known : (place : ℕ) (x : Entry) → IsGivenEntry most t lists place x → (entry_passed x).wide ≡ 0

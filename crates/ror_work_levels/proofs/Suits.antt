@@ -6,6 +6,7 @@ use Rattle.ror_text.proofs.Everywhere.{all-append, all-by}
 use Rattle.ror_session.specs.declared.session.Line.{Line}
 use Rattle.ror_closing.specs.Closing.{AreSuited}
 use Rattle.ror_closing.proofs.ClosingLemmas.{took}
+use Rattle.ror_closing.proofs.LawLemmas.{first_split, no_line}
 use Rattle.ror_work_levels.specs.Suiting.{first_desk, IsUnfitAt, IsUnfit, AreFit, IsFirstUnfit}
 
 -- ---- line by line
@@ -39,27 +40,11 @@ fit_suited lines fit = all-by (λ line. ¬ (IsUnfit lines line)) (λ line. ¬ (l
 
 -- ---- the first unfit line
 
-first_split : (P : Line → Type 0) (lines before other_before : List Line) (line other : Line) (after other_after : List Line) → lines ≡ before ++ line ∷ after → lines ≡ other_before ++ other ∷ other_after → AllByRecursion (λ l. ¬ (P l)) before → AllByRecursion (λ l. ¬ (P l)) other_before → P line → P other → line ≡ other
-first_split P lines [] [] line other after other_after one two fit likewise is too = (let both = sym one ∙ two in cc)
-first_split P lines [] (y ∷ ys) line other after other_after one two fit likewise is too =
-    let same : line ≡ y = (let both = sym one ∙ two in cc) in
-    absurd (likewise.0 (subst P same is))
-first_split P lines (x ∷ xs) [] line other after other_after one two fit likewise is too =
-    let same : other ≡ x = (let both = sym two ∙ one in cc) in
-    absurd (fit.0 (subst P same too))
-first_split P lines (x ∷ xs) (y ∷ ys) line other after other_after one two fit likewise is too =
-    let rest : xs ++ line ∷ after ≡ ys ++ other ∷ other_after = (let both = sym one ∙ two in cc) in
-    first_split P (xs ++ line ∷ after) xs ys line other after other_after refl rest fit.1 likewise.1 is too
-
 pub one_first_unfit : (lines : List Line) (m n : ℕ) → IsFirstUnfit lines m → IsFirstUnfit lines n → m ≡ n
 one_first_unfit lines m n first second =
     first.number_is
     ∙ ap (λ (l : Line). l.number) (first_split (IsUnfit lines) lines first.before second.before first.line second.line first.after second.after first.split second.split first.fit_before second.fit_before first.unfit second.unfit)
     ∙ sym second.number_is
-
-no_line : (P : Line → Type 0) (before : List Line) (line : Line) (after : List Line) → P line → AllByRecursion (λ l. ¬ (P l)) (before ++ line ∷ after) → ⊥
-no_line P [] line after is fit = fit.0 is
-no_line P (x ∷ xs) line after is fit = no_line P xs line after is fit.1
 
 -- fit lines have none
 pub not_fit : (lines : List Line) (n : ℕ) → IsFirstUnfit lines n → AreFit lines → ⊥

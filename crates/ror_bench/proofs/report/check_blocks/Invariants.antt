@@ -12,5 +12,5 @@ invariant-loop-line l = record {
   fits : l.accepted.answers ≤ l.line-index * 4294967296;
   wide_fits : l.accepted.wide ≤ l.line-index * 4294967296;
   numbers : AllByRecursion (LeavesNumbers (length (drop l.line-index l.lines))) l.bench.state;
-  way : IsWay l.initial.bench l.lines l.bytes l.start l.bench (drop l.line-index l.lines) l.next l.accepted l.line-index;
+  way : IsWay l.initial.bench l.lines l.bytes l.start l.bench (drop l.line-index l.lines) l.next l.keep l.kept.items l.accepted l.line-index;
 }

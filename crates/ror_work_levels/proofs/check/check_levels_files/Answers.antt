@@ -6,11 +6,11 @@ use Rattle.ror_xmcda.proofs.TableLemmas.{input_table}
 use Rattle.ror_confidence.specs.Levels.{level_lists}
 use Rattle.ror_frame.specs.Statuses.{accepted_text}
 use Rattle.ror_frame.specs.Stops.{counted, last}
-use Rattle.ror_frame.proofs.CourseLemmas.{stopped, went_on, finished, line_holds}
+use Rattle.ror_frame.proofs.CourseLemmas.{stopped, went_on, finished, line_holds, ran_short}
 use Rattle.ror_frame.proofs.FetchLemmas.{stopped_there}
 use Rattle.ror_work_levels.specs.Levels.{IsAcceptedSpans}
 use Rattle.ror_work_levels.specs.Steps.{ProvesOver, RejectsOver, ReadsOver, RefusesOver}
-use Rattle.ror_work_levels.proofs.Judging.{accepted_too, proves_spans, ran_short, read_as_well, went_on_as, reads_levels, refuses_levels, rejects_spans}
+use Rattle.ror_work_levels.proofs.Judging.{accepted_too, proves_spans, read_as_well, went_on_as, reads_levels, refuses_levels, rejects_spans}
 use Rattle.ror_work_levels.proofs.check.check_levels_files.Goals as goal
 
 pub returns-in_err-input : goal.returns-in_err-input

@@ -6,11 +6,11 @@ use Rattle.ror_xmcda.proofs.TableLemmas.{input_table}
 use Rattle.ror_confidence.specs.Levels.{level_lists}
 use Rattle.ror_frame.specs.States.{sink_state}
 use Rattle.ror_frame.specs.Stops.{counted}
-use Rattle.ror_frame.proofs.CourseLemmas.{stopped, went_on, finished}
+use Rattle.ror_frame.proofs.CourseLemmas.{stopped, went_on, finished, ran_short}
 use Rattle.ror_frame.proofs.FetchLemmas.{stopped_there}
 use Rattle.ror_work_levels.specs.Steps.{ReadsOver, RefusesOver, WritesOver}
 use Rattle.ror_work_levels.proofs.LevelCourses.{kind_of}
-use Rattle.ror_work_levels.proofs.Judging.{ran_short, read_as_well, reads_levels, refuses_levels}
+use Rattle.ror_work_levels.proofs.Judging.{read_as_well, reads_levels, refuses_levels}
 use Rattle.ror_work_levels.proofs.Writing.{written_over}
 use Rattle.ror_work_levels.proofs.write.levels_files.Goals as goal
 
