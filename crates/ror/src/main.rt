@@ -1,9 +1,7 @@
 //! The program: writes the report of a session over a table, and checks one.
 #![tactic(auto)]
 
-mod host;
-
-use crate::host::{FileShelf, StreamSink};
+use ror_host::{FileShelf, StreamSink};
 use ror_run::{Status, run};
 use std::alloc::AllocFailed;
 use std::env;
