@@ -1,108 +1,28 @@
 -- How a run ends by what came of the work.
-use Rattle.std.proofs.Common.{◌≡◌, ◌≢◌, ℕ, ◌<◌, ◌≤◌, ◌⊎◌, ◌∙◌, Bool, true, false, List, length, Option, Some, None, Ok, Err, IsErr, refl, sym, ap, subst, inl, inr, arith}
-use Rattle.ror_io.specs.Files.{Files}
-use Rattle.ror_io.specs.Counts.{DidNotRise}
-use Rattle.ror_frame.specs.declared.status.Status.{Status}
+use Rattle.std.proofs.Common.{◌≡◌, ℕ, List, Some, None, Err, refl}
 use Rattle.ror_frame.specs.declared.status.Status.TheVariants as statuses
-use Rattle.ror_frame.specs.declared.stop.Refusal.{Refusal}
 use Rattle.ror_frame.specs.declared.stop.Refusal.TheVariants as refusals
 use Rattle.ror_frame.specs.declared.stop.Stop.TheVariants as stops
 use Rattle.ror_frame.specs.States.{ShelfState, SinkState}
-use Rattle.ror_frame.specs.Stops.{Outcome, status_after, outcome_of, refused_status}
-use Rattle.ror_frame.specs.Courses.{Ending, done, Leads, Ends, IsFirstMissing, CountsWrites, EndsAfter, LacksOne, LacksFirst, IsPure, IsWork}
+use Rattle.ror_frame.specs.Stops.{Outcome, status_after}
+use Rattle.ror_frame.specs.Courses.{IsWork}
+use Rattle.ror_frame.proofs.CourseLemmas.{unbegun}
 use Rattle.ror_words.specs.Words.{Task, task_of}
+use Rattle.ror_runs.proofs.AnyRun as any
+use Rattle.ror_runs.proofs.AnyRun.{told_by}
 use Rattle.ror_run.specs.Chores.{chore_of}
-use Rattle.ror_run.specs.Running.{files_named, WritesBy, IsRun}
-use Rattle.ror_frame.proofs.CourseLemmas.{one_ending, unbegun}
-use Rattle.ror_io.proofs.CountLemmas.{never_both}
+use Rattle.ror_run.specs.Running.{IsRun}
 use Rattle.ror_run.proofs.ChoreLemmas.{decided_chore, judges_it, suits_it, levels_it}
-
--- ---- a status tells the outcome
-
-outcome_after : (o : Outcome) → outcome_of (status_after o) ≡ Some o
-outcome_after o = grind arith
-
-told_by : (o p : Outcome) (s : Status) → status_after o ≡ s → outcome_of s ≡ Some p → o ≡ p
-told_by o p s is tells = let q = sym (outcome_after o) ∙ ap outcome_of is ∙ tells in cc
-
-never : (o : Outcome) (s : Status) → status_after o ≡ s → outcome_of s ≡ None → ⊥
-never o s is tells = let q = sym (outcome_after o) ∙ ap outcome_of is ∙ tells in cc
-
-refusal_told : (r : Refusal) → outcome_of (refused_status r) ≡ Some (Err (stops.At r))
-refusal_told r = outcome_after (Err (stops.At r))
-
--- ---- what standard output counts
-
-never_falls : (before now : ℕ) (o : Outcome) → CountsWrites before now o → before ≤ now
-never_falls before now o counts = grind (arith, counts)
-
-where_rose : (before now : ℕ) (o : Outcome) → CountsWrites before now o → before < now → o ≡ Err stops.WriteFault
-where_rose before now o counts rose = grind (arith, counts, rose)
-
--- ---- the end
-
-completed : (o : Outcome) (tells : Option Bool) → (status_after o ≢ statuses.Memory → Ends (done tells) (Some o)) → {old new : ℕ} → DidNotRise old new → CountsWrites old new o → (status_after o ≡ statuses.Done) ⊎ (status_after o ≡ statuses.DoneWide) ⊎ (status_after o ≡ statuses.Memory)
-completed (Ok false) tells ends kept counts = inl refl
-completed (Ok true) tells ends kept counts = inr (inl refl)
-completed (Err (stops.At (refusals.BadTable fault))) tells ends kept counts = absurd (ends (λ is. absurd cc))
-completed (Err (stops.At (refusals.BadSession fault))) tells ends kept counts = absurd (ends (λ is. absurd cc))
-completed (Err (stops.At (refusals.Rejected rejection))) tells ends kept counts = absurd (ends (λ is. absurd cc))
-completed (Err (stops.At (refusals.Unsuited line))) tells ends kept counts = absurd (ends (λ is. absurd cc))
-completed (Err (stops.At (refusals.BadLevels fault))) tells ends kept counts = absurd (ends (λ is. absurd cc))
-completed (Err stops.ReadFault) tells ends kept counts = absurd (ends (λ is. absurd cc))
-completed (Err stops.WriteFault) tells ends {old} {new} kept counts = absurd (never_both old new counts.1 kept)
-completed (Err stops.Memory) tells ends kept counts = inr (inr refl)
-
--- ---- the run
 
 -- the words ask for the task: the run is the work on it
 pub worked_run : (words : List (List ℕ)) (task : Task) (before now : ShelfState) (old new : SinkState) (o : Outcome) → task_of words ≡ Some task → IsWork 0 (chore_of task).files (chore_of task).course before now old new o → IsRun words before now old new (status_after o)
 worked_run words task before now old new o is work = record {
-  usage = (λ usage. absurd (never o _ usage refl), λ none. absurd cc);
-  read_fault = λ fault. elim (work.read_fault (told_by o _ _ fault refl)) [ inl rose ↦ inl rose | inr lacks ↦ inr (subst (λ (t : Option Task). LacksOne before.told (files_named t)) (sym is) lacks) ];
-  write_fault = λ fault. (subst (CountsWrites old.faults new.faults) (told_by o (Err stops.WriteFault) _ fault refl) work.writes).1;
-  shelf_rose = λ rose. ap status_after (work.rose rose);
-  out_rose = λ rose. ap status_after (where_rose old.faults new.faults o work.writes rose);
-  shelf_never_falls = work.never_falls;
-  out_never_falls = never_falls old.faults new.faults o work.writes;
-  told_stays = work.told_stays;
-  fetched = (work.fetched.0, rw (outcome_after o) (subst (λ (t : Option Task). EndsAfter 0 (length (files_named t)) (Some o) work.fetched.0) (sym is) work.fetched.1), work.fetched.2);
-  lacking = λ lacks.
-      let failed = work.lacking (subst (λ (t : Option Task). LacksOne before.told (files_named t)) is lacks) in
-      (λ done. not_done (told_by o (Ok false) _ done refl) failed, λ done. not_done (told_by o (Ok true) _ done refl) failed);
-  no_table = λ lacks. elim (work.first_lacking (subst (λ (t : Option Task). LacksFirst before.told (files_named t)) is lacks)) [
-    | inl fault ↦ inl (ap status_after fault.0, fault.1)
-    | inr memory ↦ inr (ap status_after memory.0, memory.1)
-  ];
-  pure = λ r refused. subst IsPure (told_by o (Err (stops.At r)) _ refused (refusal_told r)) work.pure;
-  ends_at_missing = λ fault files told stayed.
-      let found = work.ends_at_missing (told_by o _ _ fault refl) files told stayed in
-      (found.0, subst (λ (t : Option Task). IsFirstMissing files (files_named t) found.0) (sym is) found.1, found.2);
-  refuses = λ r refused. (task, is, work.refuses r (told_by o (Err (stops.At r)) _ refused (refusal_told r)));
+  by = any.worked_run chore_of (task_of words) task before now old new o is (decided_chore task.command task.given) work;
+  usage = λ none. absurd cc;
   rejects = λ n refused. (task, is, judges_it task.command task.given n (work.refuses (refusals.Rejected n) (told_by o (Err (stops.At (refusals.Rejected n))) _ refused refl)));
   suits = λ line refused. (task, is, suits_it task.command task.given line (work.refuses (refusals.Unsuited line) (told_by o (Err (stops.At (refusals.Unsuited line))) _ refused refl)));
   levels = λ fault refused. (task, is, levels_it task.command task.given fault (work.refuses (refusals.BadLevels fault) (told_by o (Err (stops.At (refusals.BadLevels fault))) _ refused refl)));
-  shows = shows;
-  decided = decided;
-  completes = λ files mine tells told named stayed kept leads.
-      completed o tells (λ other. rw (outcome_after o) at (decided files mine told named stayed other (done tells) leads)) kept work.writes;
-  one_ending = λ files mine d e named first second. one_ending files (chore_of mine).course d e (decided_chore mine.command mine.given) first second;
-  output = rw (outcome_after o) (subst (λ (t : Option Task). WritesBy before.told before.faults now.faults t old.written new.written (Some o)) (sym is) work.output);
 }
-  where
-    not_done : {wide : Bool} → o ≡ Ok wide → IsErr o → ⊥
-    not_done is failed = let f = subst IsErr is failed in cc
-
-    shows : (files : Files) (mine : Task) → before.told ≡ Some files → task_of words ≡ Some mine → DidNotRise before.faults now.faults → status_after o ≢ statuses.Memory → (e : Ending) × Leads files (chore_of mine).course e × Ends e (outcome_of (status_after o))
-    shows files mine told named stayed other =
-        let same : task ≡ mine = cc in
-        let shown = work.shows files told stayed (λ memory. other (ap status_after memory)) in
-        (shown.0, subst (λ (t : Task). Leads files (chore_of t).course shown.0) same shown.1, rw (outcome_after o) shown.2)
-
-    decided : (files : Files) (mine : Task) → before.told ≡ Some files → task_of words ≡ Some mine → DidNotRise before.faults now.faults → status_after o ≢ statuses.Memory → (e : Ending) → Leads files (chore_of mine).course e → Ends e (outcome_of (status_after o))
-    decided files mine told named stayed other e leads =
-        let shown = shows files mine told named stayed other in
-        subst (λ (d : Ending). Ends d (outcome_of (status_after o))) (one_ending files (chore_of mine).course shown.0 e (decided_chore mine.command mine.given) shown.1 leads) shown.2
 
 -- memory ran out while the words were read: nothing is fetched or written
 pub memory_run : (words : List (List ℕ)) (task : Task) (shelf : ShelfState) (out : SinkState) → task_of words ≡ Some task → IsRun words shelf shelf out out statuses.Memory
@@ -111,26 +31,9 @@ memory_run words task shelf out is = worked_run words task shelf shelf out out (
 -- the words ask for nothing: nothing is fetched or written
 pub usage_run : (words : List (List ℕ)) (shelf : ShelfState) (out : SinkState) → task_of words ≡ None → IsRun words shelf shelf out out statuses.Usage
 usage_run words shelf out none = record {
-  usage = (λ usage. none, λ other. refl);
-  read_fault = λ fault. absurd cc;
-  write_fault = λ fault. absurd cc;
-  shelf_rose = λ rose. absurd (omega (arith, rose));
-  out_rose = λ rose. absurd (omega (arith, rose));
-  shelf_never_falls = omega arith;
-  out_never_falls = omega arith;
-  told_stays = refl;
-  fetched = (0, subst (λ (t : Option Task). EndsAfter 0 (length (files_named t)) None 0) (sym none) refl, refl);
-  lacking = λ lacks. absurd (subst (λ (t : Option Task). LacksOne shelf.told (files_named t)) none lacks);
-  no_table = λ lacks. absurd (subst (λ (t : Option Task). LacksFirst shelf.told (files_named t)) none lacks);
-  pure = λ r refused. let p = ap outcome_of refused ∙ refusal_told r in absurd cc;
-  ends_at_missing = λ fault. absurd cc;
-  refuses = λ r refused. let p = ap outcome_of refused ∙ refusal_told r in absurd cc;
+  by = any.usage_run chore_of (task_of words) shelf out none;
+  usage = λ none. refl;
   rejects = λ n refused. absurd cc;
   suits = λ line refused. absurd cc;
   levels = λ fault refused. absurd cc;
-  shows = λ files task told named stayed. absurd cc;
-  decided = λ files task told named stayed. absurd cc;
-  completes = λ files task tells told named. absurd cc;
-  one_ending = λ files task d e named. absurd cc;
-  output = subst (λ (t : Option Task). WritesBy shelf.told shelf.faults shelf.faults t out.written out.written None) (sym none) refl;
 }

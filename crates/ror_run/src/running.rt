@@ -8,7 +8,9 @@ ghost use Rattle.ror_words.specs.WordTable.{IsByTable};
 ghost use Rattle.ror_words.specs.Named.{row_with, given_with, IsTaken};
 ghost use Rattle.ror_frame.specs.Courses.{IsWork};
 ghost use Rattle.ror_run.specs.Chores.{chore_by};
-ghost use Rattle.ror_run.specs.Running.{IsRun, Says};
+ghost use Rattle.ror_frame.specs.Statuses.{status_text};
+ghost use Rattle.ror_runs.specs.Runs.{Says};
+ghost use Rattle.ror_run.specs.Running.{IsRun};
 
 use ror_frame::{Status, Stop, write_status};
 use ror_generate::generate;
@@ -37,7 +39,7 @@ pub fn run<F: Shelf, O: Sink, E: Sink>(
     ensures table { IsByTable (map string_bytes words.now) }
     ensures err_never_falls { E.faults err.old ≤ E.faults err.new }
     ensures errors { Says (E.faults err.old) (E.faults err.new)
-        (E.written err.old) (E.written err.new) result }
+        (E.written err.old) (E.written err.new) (status_text result) }
 {
     let status = status_of(alloc, words, shelf, out);
     // What fails there changes no status.

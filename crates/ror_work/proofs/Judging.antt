@@ -35,7 +35,7 @@ use Rattle.ror_pivot.specs.Answers.{most_of}
 use Rattle.ror_work.specs.Replaying.{report_output, replay_chore}
 
 -- bytes that are rejected are no proved report
-rejection_or_proof : (bench : Workbench) (lines : List Line) (bytes : List ℕ) (r : Rejection) (x : Accepted) → IsTable bench.table → IsRejectionOf bench lines bytes r → length bytes ≤ MOST_REPORT_BYTES → IsProvedReport bench lines bytes x → ⊥
+pub rejection_or_proof : (bench : Workbench) (lines : List Line) (bytes : List ℕ) (r : Rejection) (x : Accepted) → IsTable bench.table → IsRejectionOf bench lines bytes r → length bytes ≤ MOST_REPORT_BYTES → IsProvedReport bench lines bytes x → ⊥
 rejection_or_proof bench lines bytes r x table (too_long many is) short proved = omega (arith, many, short)
 rejection_or_proof bench lines bytes r x table (at_fault few fault) short proved = rejected_not_proved bench lines bytes r x table short fault proved
 
@@ -46,7 +46,7 @@ one_rejection_of bench lines bytes q r (too_long many is) (at_fault few fault) =
 one_rejection_of bench lines bytes q r (at_fault few fault) (too_long many is) = absurd (omega (arith, many, few))
 one_rejection_of bench lines bytes q r (at_fault few fault) (at_fault less other) = one_rejection bench lines bytes q r fault other
 
-one_refusal : (i : Input) (s : Session) (bytes : List ℕ) (q r : Refusal) → RefusesReport i s bytes q → RefusesReport i s bytes r → q ≡ r
+pub one_refusal : (i : Input) (s : Session) (bytes : List ℕ) (q r : Refusal) → RefusesReport i s bytes q → RefusesReport i s bytes r → q ≡ r
 one_refusal i s bytes q r a b =
     a.1 ∙ ap refusals.Rejected (one_rejection_of (bench_for i s) s.lines bytes a.0 b.0 a.2 b.2) ∙ sym b.1
 
@@ -64,10 +64,10 @@ pub long_report : (i : Input) (s : Session) (bytes : List ℕ) (r : Refusal) →
 long_report i s bytes r long = (record { block = 0; reason = TooLong }, long.0, too_long long.1 refl)
 
 -- what is refused of the bytes is a rejection
-pub rejected_as : (i : Input) (s : Session) (bench : Workbench) (lines : List Line) (bytes : List ℕ) (error : ReportError) → HoldTheSame bench (bench_for i s) → lines ≡ s.lines → length bytes ≤ MOST_REPORT_BYTES → IfRejected (IsRejectedFor bench lines bytes) error → HoldsNoMemory error → ReadAs {A = Accepted} last (ProvesReport i s) (RefusesReport i s) bytes (Err (stop_at_report error))
-rejected_as i s bench lines bytes (report_errors.Rejected rejection) held same short why pure =
+pub rejected_as : {A : Type 0} (Reads : List ℕ → A → Type 0) (i : Input) (s : Session) (bench : Workbench) (lines : List Line) (bytes : List ℕ) (error : ReportError) → HoldTheSame bench (bench_for i s) → lines ≡ s.lines → length bytes ≤ MOST_REPORT_BYTES → IfRejected (IsRejectedFor bench lines bytes) error → HoldsNoMemory error → ReadAs last Reads (RefusesReport i s) bytes (Err (stop_at_report error))
+rejected_as Reads i s bench lines bytes (report_errors.Rejected rejection) held same short why pure =
     (refl, pure, (rejection, refl, at_fault short (rejected_same bench (bench_for i s) held s.lines bytes rejection (subst (λ (ls : List Line). IsRejectedFor bench ls bytes rejection) same why))))
-rejected_as i s bench lines bytes report_errors.Memory held same short why pure = tt
+rejected_as Reads i s bench lines bytes report_errors.Memory held same short why pure = tt
 
 -- and what is accepted is proved
 pub proves_as : (i : Input) (s : Session) (bench : Workbench) (lines : List Line) (bytes : List ℕ) (x : Accepted) → HoldTheSame bench (bench_for i s) → lines ≡ s.lines → length bytes ≤ MOST_REPORT_BYTES → IsAcceptedReport bench lines bytes x → ProvesReport i s bytes x

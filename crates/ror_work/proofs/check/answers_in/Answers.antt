@@ -5,13 +5,14 @@ use Rattle.ror_session.specs.declared.limits.TheConstants.{MOST_LINES}
 use Rattle.ror_bench.specs.Bench.{HoldTheSame, LeavesNumbers}
 use Rattle.ror_frame.specs.Inputs.{bench_for}
 use Rattle.ror_frame.proofs.Desks.{numbers_left}
+use Rattle.ror_work.specs.Checking.{ProvesReport}
 use Rattle.ror_work.proofs.Judging.{rejected_as, proves_as}
 use Rattle.ror_work.proofs.check.answers_in.Goals as goal
 
 pub returns-in_err-check_report : goal.returns-in_err-check_report
 returns-in_err-check_report c =
     let p = err_from_is_err_and c.from_residual-in_err-check_report.result c.from_residual-in_err-check_report.ensures.1 in
-    rw (p.1, p.2) (rejected_as c.args.input c.args.session.now _ _ c.args.bytes.now _ (search rules) (search rules) c.requires.within c.in_err-check_report.ensures.rejected c.in_err-check_report.ensures.pure)
+    rw (p.1, p.2) (rejected_as (ProvesReport c.args.input c.args.session.now) c.args.input c.args.session.now _ _ c.args.bytes.now _ (search rules) (search rules) c.requires.within c.in_err-check_report.ensures.rejected c.in_err-check_report.ensures.pure)
 
 pub check_report-requires-clause-numbers : goal.check_report-requires-clause-numbers
 check_report-requires-clause-numbers c =
