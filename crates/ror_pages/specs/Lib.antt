@@ -1,0 +1,11 @@
+pub mod Said
+pub mod Cells
+pub mod Dominance
+pub mod Pages
+pub mod Meaning
+pub mod Laws
+pub mod Rows
+pub mod Heads
+pub mod Layout
+pub mod Matrix
+pub mod Text

@@ -1,0 +1,32 @@
+-- Cells by their places, and how many of them say something.
+use Rattle.std.specs.Prelude.{ℕ, zero, suc, ◌+◌, Bool, List, [], slice_index_or}
+use Rattle.ror_order.specs.Relations.{count_below}
+use Rattle.ror_pages.specs.declared.cell.Cell.{Cell}
+use Rattle.ror_pages.specs.declared.cell.Cell.TheVariants as cells
+use Rattle.ror_pages.specs.Cells.{is_over_another, is_unknown}
+
+-- the cell of a row and a column; past the last one it says nothing
+abbrev pub cell_in : List (List Cell) → ℕ → ℕ → Cell
+cell_in rows a b = slice_index_or (slice_index_or rows a []) b cells.Unknown
+
+abbrev pub is_over_at : List (List Cell) → ℕ → ℕ → Bool
+is_over_at rows a b = is_over_another (cell_in rows a b)
+
+abbrev pub is_under_at : List (List Cell) → ℕ → ℕ → Bool
+is_under_at rows a b = is_over_another (cell_in rows b a)
+
+-- how many of n alternatives it is at least as good as by every function
+abbrev pub over_count : List (List Cell) → ℕ → ℕ → ℕ
+over_count rows n a = count_below (is_over_at rows a) n
+
+-- how many of them are so to it
+abbrev pub under_count : List (List Cell) → ℕ → ℕ → ℕ
+under_count rows n a = count_below (is_under_at rows a) n
+
+abbrev pub is_unknown_at : List (List Cell) → ℕ → ℕ → Bool
+is_unknown_at rows a b = is_unknown (cell_in rows a b)
+
+-- of how many pairs of n alternatives it isn't concluded how they stand
+abbrev pub unknown_pairs : List (List Cell) → ℕ → ℕ
+unknown_pairs rows zero = 0
+unknown_pairs rows (suc n) = count_below (is_unknown_at rows n) n + unknown_pairs rows n

@@ -1,0 +1,143 @@
+-- The page of a relation as plain text.
+use Rattle.std.specs.Prelude.{ℕ, ◌+◌, ◌-◌, ◌*◌, ◌/◌, Bool, true, false, ◌==◌, List, [], ◌∷◌, ◌++◌, length, map, codes, decimal, Option, Some, None, if◌then◌else◌}
+use Rattle.std.specs.List.{flat_map, list_any, range_with_len}
+use Rattle.ror_order.specs.Levels.{level_at}
+use Rattle.ror_table.specs.Table.{DecisionTable, id_of}
+use Rattle.ror_pages.specs.Heads.{Head}
+use Rattle.ror_pages.specs.declared.relation.Counts.{Counts}
+use Rattle.ror_pages.specs.declared.relation.RelationPage.{RelationPage}
+use Rattle.ror_pages.specs.Layout.{columns, set_right, room_behind, wrapped}
+use Rattle.ror_pages.specs.Rows.{unknown_pairs}
+use Rattle.ror_pages.specs.Matrix.{matrix_text}
+
+-- words and a number behind them
+abbrev pub counted : List ℕ → ℕ → List ℕ
+counted words n = words ++ decimal n
+
+-- ---- the heading
+
+abbrev pub desk_text : List ℕ → List ℕ
+desk_text desk = if length desk == 0 then [] else codes "  @" ++ desk
+
+abbrev pub name_text : Head → List ℕ
+name_text h = codes "line " ++ decimal h.line ++ desk_text h.desk
+
+abbrev pub proved_text : Head → List ℕ
+proved_text h = counted (codes "  ask relation    proved: ") h.proved ++ counted (codes " of ") h.answers ++ 10 ∷ []
+
+abbrev pub head_text : Head → List ℕ
+head_text h = name_text h ++ proved_text h
+
+-- the numbers of the statements that stand
+abbrev pub numbers_text : List ℕ → List ℕ
+numbers_text numbers = if length numbers == 0 then codes " none" else wrapped 15 (room_behind 15) (map decimal numbers)
+
+abbrev pub statements_text : List ℕ → List ℕ
+statements_text numbers = codes "  by statements" ++ numbers_text numbers ++ 10 ∷ []
+
+abbrev pub legend : List ℕ
+legend = codes "\n  the row's alternative against the column's, over all value functions that agree with the statements:\n     N  always better                         n  at least as good, and some function makes them equal\n     -  always worse                          m  at most as good, and some function makes them equal\n     =  always equally good                   .  open: some functions say the one, some the other\n     !  no function agrees                    ?  not concluded\n"
+
+-- ---- how many pairs
+
+abbrev pub pairs_among : ℕ → ℕ
+pairs_among n = n * (n - 1) / 2
+
+-- those of which neither is known, nor that they are open, nor that nothing is concluded
+abbrev pub contradictory_pairs : DecisionTable → RelationPage → ℕ
+contradictory_pairs t page = pairs_among (length t.alternatives) - page.counts.decided - page.counts.open
+    - unknown_pairs page.rows (length t.alternatives)
+
+abbrev pub contradiction_text : ℕ → List ℕ
+contradiction_text n = if n == 0 then [] else counted (codes ", ") n ++ codes " without a function that agrees"
+
+-- of so many pairs so many are decided, open, and not concluded
+abbrev pub pairs_text : ℕ → Counts → ℕ → List ℕ
+pairs_text pairs counts unknown = counted (codes "\n  of ") pairs ++ counted (codes " pairs ") counts.decided
+    ++ counted (codes " are decided, ") counts.open ++ counted (codes " open, ") unknown
+
+abbrev pub rest_text : ℕ → ℕ → List ℕ
+rest_text contradictory by_dominance = codes " not concluded" ++ contradiction_text contradictory
+    ++ counted (codes "; by dominance alone ") by_dominance ++ 10 ∷ []
+
+abbrev pub counts_text : DecisionTable → RelationPage → List ℕ
+counts_text t page =
+    pairs_text (pairs_among (length t.alternatives)) page.counts (unknown_pairs page.rows (length t.alternatives))
+    ++ rest_text (contradictory_pairs t page) page.counts.by_dominance
+
+-- ---- levels
+
+abbrev pub is_same : Option ℕ → Option ℕ → Bool
+is_same (Some k) (Some n) = k == n
+is_same None None = true
+is_same _ _ = false
+
+-- the alternative, where it has this level
+abbrev pub member : DecisionTable → List (Option ℕ) → Option ℕ → ℕ → List (List ℕ)
+member t levels level a = if is_same level (level_at levels a) then id_of t a ∷ [] else []
+
+abbrev pub members : DecisionTable → List (Option ℕ) → Option ℕ → List (List ℕ)
+members t levels level = flat_map (member t levels level) (range_with_len 0 (length t.alternatives))
+
+-- a level's number, and a dash for those that have none
+abbrev pub level_mark : Option ℕ → List ℕ
+level_mark (Some k) = set_right 6 (decimal k)
+level_mark None = codes "     -"
+
+-- the line of a level that some have
+abbrev pub level_text : DecisionTable → List (Option ℕ) → Option ℕ → List ℕ
+level_text t levels level = if list_any (is_same level) levels
+    then level_mark level ++ codes "  " ++ wrapped 8 (room_behind 8) (members t levels level) ++ 10 ∷ [] else []
+
+abbrev pub some_level_text : DecisionTable → List (Option ℕ) → ℕ → List ℕ
+some_level_text t levels k = level_text t levels (Some (k + 1))
+
+abbrev pub levels_head : List ℕ
+levels_head = codes "\n  levels (all that is above an alternative is in levels before its own)\n"
+
+abbrev pub levels_text : DecisionTable → List (Option ℕ) → List ℕ
+levels_text t levels = levels_head ++ flat_map (some_level_text t levels) (range_with_len 0 (length t.alternatives))
+    ++ level_text t levels None
+
+-- ---- arrows
+
+abbrev pub begins_at : ℕ → ℕ × ℕ → Bool
+begins_at a arrow = arrow.0 == a
+
+-- where an arrow leads, if it begins here
+abbrev pub target : DecisionTable → ℕ → ℕ × ℕ → List (List ℕ)
+target t a arrow = if begins_at a arrow then id_of t arrow.1 ∷ [] else []
+
+abbrev pub targets : DecisionTable → List (ℕ × ℕ) → ℕ → List (List ℕ)
+targets t arrows a = flat_map (target t a) arrows
+
+abbrev pub from_head : DecisionTable → ℕ → List ℕ
+from_head t a = codes "     " ++ id_of t a ++ codes " ->"
+
+-- the line of the arrows that begin at an alternative, where some do
+abbrev pub from_text : DecisionTable → List (ℕ × ℕ) → ℕ → List ℕ
+from_text t arrows a = if list_any (begins_at a) arrows
+    then from_head t a ++ wrapped 8 (room_behind 8 - columns (id_of t a)) (targets t arrows a) ++ 10 ∷ [] else []
+
+abbrev pub none_text : List (ℕ × ℕ) → List ℕ
+none_text arrows = if length arrows == 0 then codes "     none\n" else []
+
+abbrev pub arrows_head : List ℕ
+arrows_head = codes "\n  arrows (those that follow from others are left out)\n"
+
+abbrev pub arrows_text : DecisionTable → List (ℕ × ℕ) → List ℕ
+arrows_text t arrows = arrows_head ++ none_text arrows
+    ++ flat_map (from_text t arrows) (range_with_len 0 (length t.alternatives))
+
+-- ---- the page
+
+-- what stands above the matrix
+abbrev pub above_text : Head → List ℕ
+above_text h = head_text h ++ statements_text h.numbers ++ legend
+
+-- the lists of ids below it
+abbrev pub lists_text : DecisionTable → RelationPage → List ℕ
+lists_text t page = levels_text t page.levels ++ arrows_text t page.arrows
+
+abbrev pub relation_text : DecisionTable → Head → RelationPage → List ℕ
+relation_text t h page = above_text h ++ matrix_text t page.rows ++ counts_text t page ++ lists_text t page

@@ -1,0 +1,85 @@
+//! Cells and ids by their places, and how many cells say something.
+
+ghost use Rattle.std.specs.Prelude.{◌≡◌, ◌≤◌};
+ghost use Rattle.ror_order.specs.Relations.{count_below};
+ghost use Rattle.ror_table.specs.Table.{id_of};
+ghost use Rattle.ror_pages.specs.Rows as spec;
+
+use crate::cell::Cell;
+use ror_table::Table;
+use ror_text::Items;
+
+/// The cell of a row and a column; past the last one it says nothing.
+pub fn cell_in(rows: &[Items<Cell>], a: usize, b: usize) -> Cell
+    ensures { result ≡ spec.cell_in rows.now a b }
+{
+    let Some(row) = rows.get(a) else {
+        return Cell::Unknown;
+    };
+    match row.as_slice().get(b) {
+        Some(cell) => *cell,
+        None => Cell::Unknown,
+    }
+}
+
+/// How many of so many alternatives it is at least as good as by every function.
+pub(crate) fn over_count(rows: &[Items<Cell>], size: usize, a: usize) -> usize
+    ensures { result ≡ spec.over_count rows.now size a }
+{
+    let mut count = 0;
+    for b in 0..size {
+        if cell_in(rows, a, b).is_over_another() {
+            count += 1;
+        }
+    }
+    count
+}
+
+/// How many of them are so to it.
+pub(crate) fn under_count(rows: &[Items<Cell>], size: usize, a: usize) -> usize
+    ensures { result ≡ spec.under_count rows.now size a }
+{
+    let mut count = 0;
+    for b in 0..size {
+        if cell_in(rows, b, a).is_over_another() {
+            count += 1;
+        }
+    }
+    count
+}
+
+/// Of how many pairs of so many alternatives it isn't concluded how they stand.
+pub(crate) fn unknown_pairs(rows: &[Items<Cell>], size: usize) -> usize
+    requires { size ≤ 200 }
+    ensures { result ≡ spec.unknown_pairs rows.now size }
+{
+    let mut count = 0;
+    for a in 0..size {
+        count += unknown_before(rows, a);
+    }
+    count
+}
+
+/// With how many alternatives before this one.
+fn unknown_before(rows: &[Items<Cell>], a: usize) -> usize
+    ensures is { result ≡ count_below (spec.is_unknown_at rows.now a) a }
+    ensures few { result ≤ a }
+{
+    let mut count = 0;
+    for b in 0..a {
+        if cell_in(rows, a, b).is_unknown() {
+            count += 1;
+        }
+    }
+    count
+}
+
+/// An alternative's id, empty past the last one.
+pub fn id_bytes(table: &Table, a: usize) -> &[u8]
+    ensures { result.now ≡ id_of table.now a }
+{
+    if a >= table.alternatives() {
+        return &[];
+    }
+    table.alternative_id(a).as_bytes()
+}
