@@ -1,0 +1,35 @@
+-- What `clap` says of the command of a page is what its words give.
+use Rattle.std.proofs.Common.{◌≡◌, ◌∙◌, refl, ap, arith, true, false, List, [], ◌∷◌, length, ◌==◌, Option, None, codes}
+use Rattle.clap.specs.Words.{Text, Kinds, IsAmong, fault_of, is_simple, is_simple_and_free, matches_of, rows_of, first_of, first_value}
+use Rattle.clap.specs.declared.error.kind.ErrorKind.{ErrorKind}
+use Rattle.clap.specs.declared.parser.matches.Found.{Found}
+use Rattle.clap.proofs.OnLiterals.{clap_on_literals}
+use Rattle.clap.proofs.WalkLemmas.{first_value-rows}
+use Rattle.ror_show_words.specs.Words.{named_app, page_app, words_of, given_in}
+
+pub simple : is_simple page_app ≡ true
+unfolding page_app named_app clap_on_literals
+simple = refl
+
+pub free : is_simple_and_free page_app ≡ true
+unfolding page_app named_app clap_on_literals
+free = refl
+
+same_words : (f g : Text → Option Text) → ((id : Text) → f id ≡ g id) → words_of f ≡ words_of g
+same_words f g same =
+    rw (same (codes "TABLE"), same (codes "SESSION"), same (codes "REPORT"), same (codes "best-first"), same (codes "line"), same (codes "desk"), same (codes "as")) refl
+
+-- the command takes the words: what is found in them is what they give
+pub taken : (words : List Text) (found : Found) → fault_of page_app words ≡ [] → rows_of found ≡ matches_of page_app words → words_of (first_value found) ≡ given_in words
+unfolding given_in
+taken words found none same =
+    rw none (same_words (first_value found) (λ id. first_of id (matches_of page_app words)) (λ id. first_value-rows found id ∙ ap (first_of id) same))
+
+some_kind : (k : ErrorKind) (ks : Kinds) → IsAmong k ks → (length ks == 0) ≡ false
+some_kind k [] among = absurd among
+some_kind k (x ∷ xs) among = grind arith
+
+-- the command has a fault in them: they give nothing
+pub refused : (words : List Text) (k : ErrorKind) → IsAmong k (fault_of page_app words) → given_in words ≡ None
+unfolding given_in
+refused words k among = rw (some_kind k (fault_of page_app words) among) refl

@@ -1,0 +1,107 @@
+-- The words of a command line. Which words a page takes, and what they give, is what `clap` says of its command.
+use Rattle.std.specs.Prelude.{ℕ, Bool, true, false, List, [], ◌∷◌, length, ◌==◌, Option, Some, None, codes, unwrap_or, if◌then◌else◌}
+use Rattle.std.specs.Option.{option_map, option_and_then, option_map_or}
+use Rattle.std.specs.List.{find}
+use Rattle.std.specs.Str.{bytes_eq}
+use Rattle.clap.specs.Words.{App, Rule, Text, new_app, new_rule, with_rule, matches_of, fault_of, first_of}
+use Rattle.clap.specs.Simple.{on_top}
+use Rattle.clap.specs.declared.builder.action.ArgAction.TheVariants.{SetTrue}
+use Rattle.ror_text.specs.Numbers.{count_of}
+use Rattle.ror_show_words.specs.declared.table.Page.{Page}
+use Rattle.ror_show_words.specs.declared.words.Form.{Form}
+use Rattle.ror_show_words.specs.declared.words.Form.TheVariants as forms
+use Rattle.ror_show_words.specs.Commands.{row_for}
+
+-- ---- what a page takes
+
+-- three names, each of which it needs
+abbrev pub name_rule : Text → Rule
+name_rule id = record (new_rule id) { required = true }
+
+-- an option with a value; without one
+abbrev pub option_rule : Text → Rule
+option_rule id = record (new_rule id) { long = Some id }
+
+abbrev pub flag_rule : Text → Rule
+flag_rule id = record (option_rule id) { action = Some SetTrue }
+
+-- the command, which takes no word as the program's name, and has no words for help and version
+abbrev pub bare_app : App
+bare_app = on_top (λ s. record s {
+  no_binary_name = true;
+  disable_help_flag = true;
+  disable_version_flag = true;
+}) (new_app (codes "ror_show"))
+
+unfoldable pub named_app : App
+named_app = with_rule (with_rule (with_rule bare_app (name_rule (codes "TABLE"))) (name_rule (codes "SESSION")))
+    (name_rule (codes "REPORT"))
+
+unfoldable pub page_app : App
+page_app = with_rule (with_rule (with_rule (with_rule named_app (flag_rule (codes "best-first")))
+    (option_rule (codes "line"))) (option_rule (codes "desk"))) (option_rule (codes "as"))
+
+-- ---- what words give
+
+-- The names of the files; whether the ranks of the table's categories begin with the best one; the line and the desk that are
+-- meant, where they are given; and the form.
+pub record PageWords : Type 0 where
+  pub table : List ℕ
+  pub session : List ℕ
+  pub report : List ℕ
+  pub best_first : Bool
+  pub line : Option ℕ
+  pub desk : Option (List ℕ)
+  pub form : Form
+
+-- what the words ask for
+pub record Asked : Type 0 where
+  pub page : Page
+  pub words : PageWords
+
+-- the number of a line has 1 to 9 digits, and isn't 0
+abbrev pub line_of : List ℕ → Option ℕ
+line_of word = option_and_then (λ n. if n == 0 then None else Some n) (count_of word)
+
+-- how a form is written
+abbrev pub form_text : Form → List ℕ
+form_text forms.Text = codes "text"
+form_text forms.Csv = codes "csv"
+form_text forms.Dot = codes "dot"
+
+abbrev pub form_of : List ℕ → Option Form
+form_of word = find (λ form. bytes_eq word (form_text form)) (forms.Text ∷ forms.Csv ∷ forms.Dot ∷ [])
+
+-- an option that isn't given, or whose value reads as something
+abbrev pub if_given : {A : Type 0} → (List ℕ → Option A) → Option (List ℕ) → Option (Option A)
+if_given read None = Some None
+if_given read (Some word) = option_map Some (read word)
+
+-- What is found for each name and option; None where a name isn't, or the value of `--line` is no number of a line, or that of
+-- `--as` no form.
+abbrev pub words_of : (Text → Option Text) → Option PageWords
+words_of found =
+    option_and_then (λ table. option_and_then (λ session. option_and_then (λ report.
+    option_and_then (λ line. option_map (λ form. record {
+      table = table;
+      session = session;
+      report = report;
+      best_first = option_map_or (λ word. bytes_eq word (codes "true")) (found (codes "best-first")) false;
+      line = line;
+      desk = found (codes "desk");
+      form = unwrap_or form forms.Text;
+    }) (if_given form_of (found (codes "as"))))
+    (if_given line_of (found (codes "line"))))
+    (found (codes "REPORT"))) (found (codes "SESSION"))) (found (codes "TABLE"))
+
+-- What stands after the word of a page gives: what is found in it, where the command takes it, which is where it has no fault.
+unfoldable pub given_in : List (List ℕ) → Option PageWords
+given_in words = if length (fault_of page_app words) == 0
+    then words_of (λ id. first_of id (matches_of page_app words)) else None
+
+-- None of words that ask for nothing
+unfoldable pub asked : List (List ℕ) → Option Asked
+asked [] = None
+asked (word ∷ words) =
+    option_and_then (λ row. option_map (λ given. record { page = row.page; words = given }) (given_in words))
+    (row_for word)

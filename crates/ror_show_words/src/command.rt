@@ -1,0 +1,72 @@
+//! What a page takes, as a command of `clap`.
+
+ghost use Rattle.std.specs.Prelude.{◌≡◌, IfOk};
+ghost use Rattle.clap.specs.Words.{app_of, with_rule};
+ghost use Rattle.ror_show_words.specs.Words.{name_rule, option_rule, flag_rule, bare_app, named_app, page_app};
+
+use clap::{Arg, ArgAction, Command};
+use std::alloc::{AllocError, Global};
+
+/// The names and options after the word of a page.
+#[tactic(auto, unfolding(crate::specs::Words::page_app))]
+pub(crate) fn page_command<'a>(alloc: Global) -> Result<Command<'a>, AllocError>
+    ensures { IfOk result (λ c. app_of c ≡ page_app) }
+{
+    let command = with_flag(alloc, named_command(alloc)?, "best-first")?;
+    let command = with_option(alloc, command, "line")?;
+    let command = with_option(alloc, command, "desk")?;
+    with_option(alloc, command, "as")
+}
+
+/// A command with the names of the three files.
+#[tactic(auto, unfolding(crate::specs::Words::named_app))]
+fn named_command<'a>(alloc: Global) -> Result<Command<'a>, AllocError>
+    ensures { IfOk result (λ c. app_of c ≡ named_app) }
+{
+    let command = with_name(alloc, bare_command(alloc), "TABLE")?;
+    let command = with_name(alloc, command, "SESSION")?;
+    with_name(alloc, command, "REPORT")
+}
+
+/// A command that takes no word as the program's name, and has no words for help and version.
+fn bare_command<'a>(alloc: Global) -> Command<'a>
+    ensures { app_of result ≡ bare_app }
+{
+    Command::new(alloc, "ror_show")
+        .no_binary_name(true)
+        .disable_help_flag(true)
+        .disable_version_flag(true)
+}
+
+/// The command with one more name, which it needs.
+fn with_name<'a>(
+    alloc: Global,
+    command: Command<'a>,
+    id: &'a str,
+) -> Result<Command<'a>, AllocError>
+    ensures { IfOk result (λ c. app_of c ≡ with_rule (app_of command.entry) (name_rule id.entry.now)) }
+{
+    command.arg(Arg::new(alloc, id).required(true))
+}
+
+/// The command with an option that has a value.
+fn with_option<'a>(
+    alloc: Global,
+    command: Command<'a>,
+    id: &'a str,
+) -> Result<Command<'a>, AllocError>
+    ensures { IfOk result (λ c. app_of c ≡ with_rule (app_of command.entry) (option_rule id.entry.now)) }
+{
+    command.arg(Arg::new(alloc, id).long(id))
+}
+
+/// The command with an option that has none.
+fn with_flag<'a>(
+    alloc: Global,
+    command: Command<'a>,
+    id: &'a str,
+) -> Result<Command<'a>, AllocError>
+    ensures { IfOk result (λ c. app_of c ≡ with_rule (app_of command.entry) (flag_rule id.entry.now)) }
+{
+    command.arg(Arg::new(alloc, id).long(id).action(ArgAction::SetTrue))
+}

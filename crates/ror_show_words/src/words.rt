@@ -1,0 +1,173 @@
+//! The words of a command line, and what they ask for.
+
+ghost use Rattle.std.specs.Prelude.{◌≡◌, ◌≢◌, MatchResult, Some, None, map};
+ghost use Rattle.std.specs.Option.{option_map};
+ghost use Rattle.std.specs.String.{string_bytes};
+ghost use Rattle.clap.specs.declared.error.kind.ErrorKind.TheVariants.{OutOfMemory};
+ghost use Rattle.clap.specs.Words.{found_of, first_value, kind_of};
+ghost use Rattle.ror_show_words.specs.Words.{line_of, form_of, if_given, words_of, given_in, asked};
+ghost use Rattle.ror_show_words.specs.Named.{page_words_of, asked_with};
+ghost use Rattle.ror_show_words.specs.declared.words.WordsFault.TheVariants.{Unknown};
+
+use crate::command::page_command;
+use crate::table::{Page, row_for};
+use clap::error::ErrorKind;
+use clap::{ArgMatches, Error};
+use ror_text::numbers::read_count;
+use std::alloc::{AllocError, Global};
+use thiserror::Error;
+
+/// In which form a page is written.
+#[derive(Clone, Copy, Debug)]
+pub enum Form {
+    /// For people.
+    Text,
+    /// For spreadsheets.
+    Csv,
+    /// For the programs that draw graphs.
+    Dot,
+}
+
+/// The names and options of a page.
+#[derive(Debug, Drop)]
+pub struct PageWords<'a> {
+    /// The file with the table.
+    pub table: &'a str,
+    /// The file with the session.
+    pub session: &'a str,
+    /// The file with the report of the session.
+    pub report: &'a str,
+    /// Whether the ranks of the table's categories begin with the best one.
+    pub best_first: bool,
+    /// The line that is meant, from 1 to 999,999,999.
+    pub line: Option<u32>,
+    /// The desk that is meant, by its name.
+    pub desk: Option<&'a str>,
+    /// The form, which is text where none is given.
+    pub form: Form,
+}
+
+/// What words ask for.
+#[derive(Debug, Drop)]
+pub struct Asked<'a> {
+    pub page: Page,
+    pub words: PageWords<'a>,
+}
+
+/// Why words ask for nothing.
+#[derive(Debug, Drop, Error)]
+pub enum WordsFault {
+    #[error("no such words")]
+    Unknown,
+    #[error("out of memory")]
+    Memory,
+}
+
+impl From<AllocError> for WordsFault {
+    ghost use Rattle.ror_show_words.specs.declared.words.WordsFault.TheVariants.{Memory};
+
+    ghost from_gives = { λ _ e. e ≡ Memory };
+
+    fn from(_e: AllocError) -> WordsFault {
+        WordsFault::Memory
+    }
+}
+
+/// What the words after the program's name ask for.
+///
+/// # Errors
+///
+/// `Unknown` exactly of words that ask for nothing, want of memory aside.
+#[tactic(auto, unfolding(crate::specs::Words::asked))]
+pub fn read_words(alloc: Global, words: &[String]) -> Result<Asked<'_>, WordsFault>
+    ensures { MatchResult result (λ a. asked (map string_bytes words.now) ≡ Some (asked_with a))
+        (λ e. e ≡ Unknown → asked (map string_bytes words.now) ≡ None) }
+{
+    let Some((word, rest)) = words.split_first() else {
+        return Err(WordsFault::Unknown);
+    };
+    let Some(row) = row_for(word) else {
+        return Err(WordsFault::Unknown);
+    };
+    let words = page_words(alloc, rest)?;
+    Ok(Asked {
+        page: row.page,
+        words,
+    })
+}
+
+/// What the words after that of a page give.
+#[tactic(auto, unfolding(crate::specs::Words::given_in))]
+fn page_words(alloc: Global, words: &[String]) -> Result<PageWords<'_>, WordsFault>
+    ensures { MatchResult result (λ w. given_in (map string_bytes words.now) ≡ Some (page_words_of w))
+        (λ e. e ≡ Unknown → given_in (map string_bytes words.now) ≡ None) }
+{
+    match page_command(alloc)?.try_get_matches_from(words) {
+        Ok(matches) => words_found(&matches).ok_or(WordsFault::Unknown),
+        Err(error) => Err(fault_with(&error)),
+    }
+}
+
+/// What was found.
+fn words_found<'w>(matches: &ArgMatches<'w>) -> Option<PageWords<'w>>
+    ensures { option_map page_words_of result ≡ words_of (first_value (found_of matches.now)) }
+{
+    Some(PageWords {
+        table: matches.get_str("TABLE")?,
+        session: matches.get_str("SESSION")?,
+        report: matches.get_str("REPORT")?,
+        best_first: matches.get_str("best-first") == Some("true"),
+        line: line_given(matches.get_str("line"))?,
+        desk: matches.get_str("desk"),
+        form: form_given(matches.get_str("as"))?.unwrap_or(Form::Text),
+    })
+}
+
+/// The fault of words that `clap` refuses so.
+fn fault_with(error: &Error) -> WordsFault
+    ensures { result ≡ Unknown → kind_of error.now ≢ OutOfMemory }
+{
+    if error.kind() == ErrorKind::OutOfMemory {
+        WordsFault::Memory
+    } else {
+        WordsFault::Unknown
+    }
+}
+
+/// The number of a line, where one is given; `None` where the word is no such number.
+fn line_given(word: Option<&str>) -> Option<Option<u32>>
+    ensures value { result ≡ if_given line_of (option_map (λ w. w.now) word.entry) }
+{
+    let Some(word) = word else {
+        return Some(None);
+    };
+    match read_count(word.as_bytes())? {
+        0 => None,
+        line => Some(Some(line)),
+    }
+}
+
+/// The form, where one is given; `None` where the word is none.
+fn form_given(word: Option<&str>) -> Option<Option<Form>>
+    ensures { result ≡ if_given form_of (option_map (λ w. w.now) word.entry) }
+{
+    let Some(word) = word else {
+        return Some(None);
+    };
+    Some(Some(form_of(word)?))
+}
+
+/// The form that the word writes.
+fn form_of(word: &str) -> Option<Form>
+    ensures { result ≡ form_of word.now }
+{
+    if word == "text" {
+        Some(Form::Text)
+    } else if word == "csv" {
+        Some(Form::Csv)
+    } else if word == "dot" {
+        Some(Form::Dot)
+    } else {
+        None
+    }
+}
