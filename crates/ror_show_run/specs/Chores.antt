@@ -1,0 +1,17 @@
+-- What each page does, and the line of a status.
+use Rattle.std.specs.Prelude.{ℕ, List}
+use Rattle.ror_frame.specs.declared.status.Status.{Status}
+use Rattle.ror_frame.specs.declared.status.Status.TheVariants as statuses
+use Rattle.ror_frame.specs.Courses.{Chore}
+use Rattle.ror_frame.specs.Statuses.{status_text}
+use Rattle.ror_show_words.specs.Commands.{usage_text}
+use Rattle.ror_show_words.specs.Words.{Asked}
+use Rattle.ror_work_pages.specs.Showing.{show_chore}
+
+abbrev pub chore_of : Asked → Chore
+chore_of asked = show_chore asked.page asked.words
+
+-- the line of a status, which is that of any program but where the words ask for nothing
+abbrev pub status_line : Status → List ℕ
+status_line statuses.Usage = usage_text
+status_line status = status_text status

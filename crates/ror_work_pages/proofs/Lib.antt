@@ -1,0 +1,4 @@
+pub mod Sections
+pub mod OnePage
+pub mod Showing
+pub mod Truth

@@ -1,0 +1,23 @@
+-- What is said of lines, one after the other.
+use Rattle.std.proofs.Common.{◌≡◌, ℕ, ◌++◌, List, [], ◌∷◌, refl, sym, ap, ◌∙◌, append_assoc}
+use Rattle.ror_table.specs.Table.{DecisionTable}
+use Rattle.ror_session.specs.declared.session.Session.{Session}
+use Rattle.ror_bench.specs.declared.kept.KeptLine.{KeptLine}
+use Rattle.ror_show_words.specs.declared.words.Form.{Form}
+use Rattle.ror_work_pages.specs.Showing.{IsSection, AreSections}
+
+-- one more
+pub one_more : (form : Form) (t : DecisionTable) (s : Session) (xs : List KeptLine) (x : KeptLine) (text section : List ℕ) → AreSections form t s xs text → IsSection form t s x x.block.body section → AreSections form t s (xs ++ x ∷ []) (text ++ section)
+one_more form t s [] x text section before here =
+    (section, [], here, refl, ap (λ (qs : List ℕ). qs ++ section) before ∙ sym (nothing section))
+  where
+    nothing : (qs : List ℕ) → qs ++ [] ≡ qs
+    nothing [] = refl
+    nothing (q ∷ qs) = ap (λ (ps : List ℕ). q ∷ ps) (nothing qs)
+one_more form t s (y ∷ ys) x text section before here = (
+  before.0,
+  before.1 ++ section,
+  before.2,
+  one_more form t s ys x before.1 section before.3 here,
+  ap (λ (qs : List ℕ). qs ++ section) before.4 ∙ append_assoc before.0 before.1 section,
+)

@@ -1,0 +1,39 @@
+-- What holds of the pages of a report.
+use Rattle.std.specs.Prelude.{◌≡◌, ℕ, List, [], Some}
+use Rattle.std.specs.List.{AllByRecursion}
+use Rattle.ror_statement.specs.declared.statement.Numbered.{Numbered}
+use Rattle.ror_statement.specs.Statements.{statements_in}
+use Rattle.ror_table.specs.Table.{DecisionTable, IsTable}
+use Rattle.ror_value.specs.declared.input.Input.{Input}
+use Rattle.ror_value.specs.Over.{IsLawfulIn}
+use Rattle.ror_proof.specs.declared.answer.Answer.{Answer}
+use Rattle.ror_report.specs.declared.block.Body.TheVariants as bodies
+use Rattle.ror_bench.specs.declared.kept.Keep.{Keep}
+use Rattle.ror_bench.specs.declared.kept.KeptLine.{KeptLine}
+use Rattle.ror_bench.specs.declared.report.Accepted.{Accepted}
+use Rattle.ror_bench.specs.Kept.{kept_from}
+use Rattle.ror_bench.specs.Reports.{IsProvedReport}
+use Rattle.ror_pages.specs.Cells.{cell_at}
+use Rattle.ror_pages.specs.Meaning.{Says}
+use Rattle.ror_frame.specs.Inputs.{bench_for}
+use Rattle.ror_session.specs.declared.session.Session.{Session}
+use Rattle.ror_show_words.specs.declared.table.Page.{Page}
+use Rattle.ror_show_words.specs.Words.{PageWords}
+use Rattle.ror_work_pages.specs.Showing.{ReadsPage}
+
+-- a report has one page
+abbrev pub OnePage : Type 0
+OnePage = (page : Page) (words : PageWords) (i : Input) (s : Session) (bytes one other : List ℕ) → IsTable i.table
+    → ReadsPage page words i s bytes one → ReadsPage page words i s bytes other → one ≡ other
+
+-- where a line's answers are kept with what stood, each cell that they give is true of all value functions that are compatible
+-- with that
+abbrev pub AreTrueOfWhatStood : DecisionTable → KeptLine → Type 0
+AreTrueOfWhatStood t x = (list : List Numbered) (xs : List Answer) (n a b : ℕ) → x.standing ≡ Some list
+    → x.block.body ≡ bodies.Answers xs → Says t (statements_in list) (cell_at n xs a b) a b
+
+-- and so is what is shown of a report that is proved
+abbrev pub ShownIsTrue : Type 0
+ShownIsTrue = (i : Input) (s : Session) (bytes : List ℕ) (accepted : Accepted) (keep : List Keep)
+    → IsLawfulIn i.table i.opening → (report : IsProvedReport (bench_for i s) s.lines bytes accepted)
+    → AllByRecursion (AreTrueOfWhatStood i.table) (kept_from (bench_for i s) keep [] s.lines report.blocks)

@@ -1,0 +1,13 @@
+//! Each function here states one law, for all reports, and does nothing.
+
+ghost use Rattle.ror_work_pages.specs.Laws.{OnePage, ShownIsTrue};
+
+/// A report has one page.
+pub fn one_page()
+    ensures { OnePage }
+{}
+
+/// What is shown of a line is true of all value functions that are compatible with what stood there.
+pub fn shown_is_true()
+    ensures { ShownIsTrue }
+{}

@@ -1,0 +1,19 @@
+//! The course of a page: table, session and report are fetched, the report is checked, and what its chosen lines came to is written.
+//!
+//! [`show_files`] does it. Nothing is shown of a report that a check rejects. For a report of five lines, of which the third and
+//! the fifth, both at desk `@tenant`, ask for the relation, it writes
+//!
+//! ```text
+//! relation t s r                  both relations, an empty line behind each
+//! relation t s r --line 5         the second
+//! relation t s r --desk tenant    both
+//! relation t s r --line 4         that no relation is answered in these lines
+//! ```
+#![tactic(auto)]
+
+mod choose;
+pub mod laws;
+mod page;
+mod show;
+
+pub use show::show_files;

@@ -1,0 +1,111 @@
+//! The course of a page: the three files are fetched in order, and the page of the report is written.
+
+ghost use Rattle.std.specs.Prelude.{◌≡◌, ◌≤◌, length, false};
+ghost use Rattle.ror_value.specs.Over.{IsLawfulIn};
+ghost use Rattle.ror_session.specs.Sound.{IsSound};
+ghost use Rattle.ror_frame.specs.States.{shelf_state, sink_state};
+ghost use Rattle.ror_frame.specs.Courses.{IsFetch, ReadAs, IsWork, WritesDue};
+ghost use Rattle.ror_frame.specs.Inputs.{line_output};
+ghost use Rattle.ror_frame.specs.Stops.{last};
+ghost use Rattle.ror_show_words.specs.Named.{page_words_of};
+ghost use Rattle.ror_work.specs.Checking.{RefusesReport};
+ghost use Rattle.ror_work_pages.specs.Showing.{ReadsPage, show_chore};
+
+use crate::choose::keeps;
+use crate::page::page_text;
+use ror_bench::{Bench, MOST_REPORT_BYTES, Reason, Rejection, check_report_keeping};
+use ror_frame::{Refusal, Stop, fetch_session, fetch_table, fetch_whole};
+use ror_io::{Shelf, Sink, write_all};
+use ror_session::Session;
+use ror_show_words::{Page, PageWords};
+use ror_text::Items;
+use ror_words::FileNames;
+use ror_xmcda::Input;
+use std::alloc::Global;
+
+/// Fetches table, session and report in order, each once those before it were read, and writes the page of a report that a check
+/// accepts. What it gives, `false`, says that nothing is left to say.
+///
+/// # Errors
+///
+/// The first file whose bytes are refused is, and what is at fault in it; or a fault of the outside.
+pub fn show_files<F: Shelf, O: Sink>(
+    alloc: Global,
+    page: Page,
+    words: &PageWords<'_>,
+    shelf: &mut F,
+    out: &mut O,
+) -> Result<bool, Stop>
+    ensures { IsWork 0 (show_chore page (page_words_of words.now)).files (show_chore page (page_words_of words.now)).course
+        (shelf_state (F.told shelf.old) (F.faults shelf.old) (F.fetch_count shelf.old))
+        (shelf_state (F.told shelf.new) (F.faults shelf.new) (F.fetch_count shelf.new))
+        (sink_state (O.written out.old) (O.faults out.old))
+        (sink_state (O.written out.new) (O.faults out.new)) result }
+{
+    let names = FileNames {
+        table: words.table,
+        session: words.session,
+        best_first: words.best_first,
+    };
+    let input = fetch_table(alloc, &names, shelf)?;
+    let session = fetch_session(alloc, &names, shelf)?;
+    let text = fetch_page(alloc, page, words, shelf, input, &session)?;
+    write_page(out, text.as_slice())
+}
+
+/// Writes a page. What it gives says that nothing is left to say.
+fn write_page<O: Sink>(out: &mut O, text: &[u8]) -> Result<bool, Stop>
+    ensures { WritesDue (line_output false text.now (Unit {0})) (sink_state (O.written out.old) (O.faults out.old))
+        (sink_state (O.written out.new) (O.faults out.new)) result }
+{
+    write_all(out, text)?;
+    Ok(false)
+}
+
+/// Fetches and checks the report, and makes the page of it.
+fn fetch_page<F: Shelf>(
+    alloc: Global,
+    page: Page,
+    words: &PageWords<'_>,
+    shelf: &mut F,
+    input: Input,
+    session: &Session,
+) -> Result<Items<u8>, Stop>
+    requires lawful { IsLawfulIn input.table input.opening }
+    requires sound { IsSound session.now }
+    ensures { IsFetch words.now.report.now last (ReadsPage page (page_words_of words.now) input session.now)
+        (RefusesReport input session.now)
+        (shelf_state (F.told shelf.old) (F.faults shelf.old) (F.fetch_count shelf.old))
+        (shelf_state (F.told shelf.new) (F.faults shelf.new) (F.fetch_count shelf.new)) result }
+{
+    let too_long = Refusal::Rejected(Rejection {
+        block: 0,
+        reason: Reason::TooLong,
+    });
+    let bytes = fetch_whole(alloc, words.report, MOST_REPORT_BYTES, too_long, shelf)?;
+    page_in(alloc, page, words, input, session, bytes.as_slice())
+}
+
+/// Checks the bytes of a report, and makes the page of it.
+fn page_in(
+    alloc: Global,
+    page: Page,
+    words: &PageWords<'_>,
+    input: Input,
+    session: &Session,
+    bytes: &[u8],
+) -> Result<Items<u8>, Stop>
+    requires lawful { IsLawfulIn input.table input.opening }
+    requires sound { IsSound session.now }
+    requires within { length bytes.now ≤ MOST_REPORT_BYTES }
+    ensures { ReadAs last (ReadsPage page (page_words_of words.now) input session.now) (RefusesReport input session.now)
+        bytes.now result }
+{
+    let keep = keeps(alloc, page, words, session)?;
+    let desks = session.desks.len() as u32;
+    let mut bench = Bench::new(alloc, input, desks)?;
+    let lines = session.lines.as_slice();
+    let checked = check_report_keeping(alloc, &mut bench, lines, bytes, keep.as_slice())?;
+    let text = page_text(alloc, words, bench.table(), session, checked.1.as_slice())?;
+    Ok(Items::from(text))
+}
