@@ -21,12 +21,19 @@ is_fresh() {
     \( -name '*.rt' -o -name '*.antt' -o -name crates.txt \) -print -quit)" ]
 }
 
-# the crates of this repository that a crate stands on
+# the crates of this repository that a crate stands on, lowest first: those that its line in crates.txt has, and theirs
 below() {
-  # shellcheck disable=SC2013
-  for library in $(sed -n "s/^$1: *//p" "$top/crates.txt"); do
-    [ -d "$top/crates/$library" ] && echo "$library"
-  done
+  awk -v name="$1" '
+    /^#/ { next }
+    { line = $0; sub(/:.*/, "", line); order[++count] = line; sub(/^[^:]*:/, "", $0); has[line] = $0 }
+    END {
+      wanted[name] = 1
+      for (i = count; i > 0; i--) if (order[i] in wanted) {
+        size = split(has[order[i]], words, " ")
+        for (j = 1; j <= size; j++) if (words[j] in has) wanted[words[j]] = 1
+      }
+      for (i = 1; i <= count; i++) if (order[i] in wanted && order[i] != name) print order[i]
+    }' "$top/crates.txt"
 }
 
 # copies these crates into the folder of work, without the edits that the gate tries
@@ -74,7 +81,7 @@ build() {
 
 if ! is_fresh; then
   command -v rt >/dev/null || { echo "$name: the program isn't built, and rt, the kit's command, isn't on the path" >&2; exit 2; }
-  echo "$name: the program is proved and built first: from nothing some 30 minutes on four processors" >&2
+  echo "$name: the program is proved and built first: from nothing about an hour on four processors" >&2
   build
   is_fresh || { echo "$name: it could not be built; see crates/$name/out/build.log" >&2; exit 2; }
 fi
