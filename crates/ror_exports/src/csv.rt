@@ -93,15 +93,25 @@ fn write_fields(
     Ok(())
 }
 
-/// A comma and a value.
-fn write_next_field(text: &mut Vec<u8>, word: &[u8]) -> Result<(), AllocError>
+/// Adds a comma and a value, as [`write_field`] does.
+///
+/// # Errors
+///
+/// Only want of memory.
+pub fn write_next_field(text: &mut Vec<u8>, word: &[u8]) -> Result<(), AllocError>
     ensures { OnOk result (text.new.items ≡ text.old.items ++ 44 ∷ spec.field word.now) }
 {
     text.push(b',')?;
     write_field(text, word)
 }
 
-fn write_field(text: &mut Vec<u8>, word: &[u8]) -> Result<(), AllocError>
+/// Adds a value: as it is, or between quotation marks, with those within it doubled, where it has a comma, a quotation mark or an
+/// end of a line.
+///
+/// # Errors
+///
+/// Only want of memory.
+pub fn write_field(text: &mut Vec<u8>, word: &[u8]) -> Result<(), AllocError>
     ensures { OnOk result (text.new.items ≡ text.old.items ++ spec.field word.now) }
 {
     if !has_special(word) {

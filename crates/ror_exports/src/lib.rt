@@ -2,6 +2,8 @@
 //!
 //! What is known of the relation is listed as comma-separated values ([`print_csv`], below [`csv_head`]), and its arrows make a
 //! graph that `dot` draws ([`print_dot`]). Each call adds to the text that it is given, so that one text may hold several pages.
+//! Other pages write their values by the same calls ([`write_field`], [`write_next_field`]).
+//!
 //! Where the session's line 5, at the desk `tenant`, finds a better than b by every compatible value function, they add
 //!
 //! ```text
@@ -15,5 +17,5 @@ mod csv;
 mod dot;
 pub mod laws;
 
-pub use csv::{csv_head, print_csv};
+pub use csv::{csv_head, print_csv, write_field, write_next_field};
 pub use dot::print_dot;

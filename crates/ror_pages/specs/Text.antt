@@ -19,14 +19,15 @@ counted words n = words ++ decimal n
 abbrev pub desk_text : List ℕ → List ℕ
 desk_text desk = if length desk == 0 then [] else codes "  @" ++ desk
 
-abbrev pub name_text : Head → List ℕ
-name_text h = codes "line " ++ decimal h.line ++ desk_text h.desk
+-- the number of a session's line, and its desk
+abbrev pub line_text : ℕ → List ℕ → List ℕ
+line_text line desk = codes "line " ++ decimal line ++ desk_text desk
 
 abbrev pub proved_text : Head → List ℕ
 proved_text h = counted (codes "  ask relation    proved: ") h.proved ++ counted (codes " of ") h.answers ++ 10 ∷ []
 
 abbrev pub head_text : Head → List ℕ
-head_text h = name_text h ++ proved_text h
+head_text h = line_text h.line h.desk ++ proved_text h
 
 -- the numbers of the statements that stand
 abbrev pub numbers_text : List ℕ → List ℕ
@@ -119,6 +120,10 @@ abbrev pub from_text : DecisionTable → List (ℕ × ℕ) → ℕ → List ℕ
 from_text t arrows a = if list_any (begins_at a) arrows
     then from_head t a ++ wrapped 8 (room_behind 8 - columns (id_of t a)) (targets t arrows a) ++ 10 ∷ [] else []
 
+-- pairs, by where they begin
+abbrev pub pairs_listed : DecisionTable → List (ℕ × ℕ) → List ℕ
+pairs_listed t pairs = flat_map (from_text t pairs) (range_with_len 0 (length t.alternatives))
+
 abbrev pub none_text : List (ℕ × ℕ) → List ℕ
 none_text arrows = if length arrows == 0 then codes "     none\n" else []
 
@@ -126,8 +131,7 @@ abbrev pub arrows_head : List ℕ
 arrows_head = codes "\n  arrows (those that follow from others are left out)\n"
 
 abbrev pub arrows_text : DecisionTable → List (ℕ × ℕ) → List ℕ
-arrows_text t arrows = arrows_head ++ none_text arrows
-    ++ flat_map (from_text t arrows) (range_with_len 0 (length t.alternatives))
+arrows_text t arrows = arrows_head ++ none_text arrows ++ pairs_listed t arrows
 
 -- ---- the page
 

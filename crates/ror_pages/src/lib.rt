@@ -15,7 +15,7 @@
 //!
 //! It is shown as plain text ([`print_relation`]) below a [`Heading`]. The call adds to the text that it is given, so that one
 //! text may hold several pages. What shows it otherwise takes cells and ids by their places ([`cell_in`], [`id_bytes`]), and other
-//! pages are set by the same [`layout`].
+//! pages are set by the same [`layout`], and have the same lists of levels and pairs ([`write_levels`], [`write_pairs`]).
 #![tactic(auto)]
 
 mod cell;
@@ -32,7 +32,8 @@ mod text;
 
 pub use cell::Cell;
 pub use heading::Heading;
+pub use lists::{write_levels, write_pairs};
 pub use places::{cell_in, id_bytes};
-pub use relation::{Counts, RelationPage, relation_page};
+pub use relation::{Counts, RelationPage, known_relation, relation_page};
 pub use said::{PairSaid, Said};
-pub use text::print_relation;
+pub use text::{print_relation, write_count, write_line, write_statements};

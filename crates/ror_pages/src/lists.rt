@@ -16,7 +16,11 @@ use std::alloc::AllocError;
 const MARGIN: usize = 8;
 
 /// Adds the alternatives of each level, and then those without one.
-pub(crate) fn write_levels(
+///
+/// # Errors
+///
+/// Only want of memory.
+pub fn write_levels(
     text: &mut Vec<u8>,
     table: &Table,
     levels: &[Option<usize>],
@@ -143,7 +147,7 @@ pub(crate) fn write_arrows(
 {
     text.extend_from_slice(b"\n  arrows (those that follow from others are left out)\n")?;
     write_none(text, arrows)?;
-    write_all_arrows(text, table, arrows)
+    write_pairs(text, table, arrows)
 }
 
 fn write_none(text: &mut Vec<u8>, arrows: &[(usize, usize)]) -> Result<(), AllocError>
@@ -155,16 +159,21 @@ fn write_none(text: &mut Vec<u8>, arrows: &[(usize, usize)]) -> Result<(), Alloc
     Ok(())
 }
 
-fn write_all_arrows(
+/// Adds pairs of alternatives, by their places from 0: a line for each at which some begin, with its id and where they lead, in
+/// the order in which they are given.
+///
+/// # Errors
+///
+/// Only want of memory.
+pub fn write_pairs(
     text: &mut Vec<u8>,
     table: &Table,
-    arrows: &[(usize, usize)],
+    pairs: &[(usize, usize)],
 ) -> Result<(), AllocError>
-    ensures { OnOk result (text.new.items ≡ text.old.items
-        ++ flat_map (spec.from_text table.now arrows.now) (range_with_len 0 (length table.now.alternatives))) }
+    ensures { OnOk result (text.new.items ≡ text.old.items ++ spec.pairs_listed table.now pairs.now) }
 {
     for a in 0..table.alternatives() {
-        write_from(text, table, arrows, a)?;
+        write_from(text, table, pairs, a)?;
     }
     Ok(())
 }

@@ -9,7 +9,7 @@ use crate::cell::Cell;
 use ror_table::Table;
 use ror_text::Items;
 
-/// The cell of a row and a column; past the last one it says nothing.
+/// The cell of a row and a column, by their places from 0, and [`Cell::Unknown`] past the last one.
 pub fn cell_in(rows: &[Items<Cell>], a: usize, b: usize) -> Cell
     ensures { result ≡ spec.cell_in rows.now a b }
 {
@@ -74,7 +74,7 @@ fn unknown_before(rows: &[Items<Cell>], a: usize) -> usize
     count
 }
 
-/// An alternative's id, empty past the last one.
+/// The id of the alternative at a place from 0, and nothing past the last one.
 pub fn id_bytes(table: &Table, a: usize) -> &[u8]
     ensures { result.now ≡ id_of table.now a }
 {

@@ -49,7 +49,7 @@ pub fn relation_page(
     ensures { IfOk result (IsRelationPage table.now answers.now) }
 {
     let rows = cell_rows(alloc, table.alternatives(), answers)?;
-    let over = over_of(alloc, &rows)?;
+    let over = known_relation(alloc, &rows)?;
     let open = open_of(alloc, &rows)?;
     let dominance = dominance(alloc, table)?;
     Ok(RelationPage {
@@ -92,8 +92,12 @@ fn cells_from(
     Ok(Items::from(made))
 }
 
-/// What is known of the relation.
-fn over_of(alloc: Global, rows: &[Items<Cell>]) -> Result<Relation, AllocError>
+/// What is known of a relation by its cells, row by row: which alternative is at least as good as which, by every function.
+///
+/// # Errors
+///
+/// Only want of memory.
+pub fn known_relation(alloc: Global, rows: &[Items<Cell>]) -> Result<Relation, AllocError>
     ensures { IfOk result (λ made. made ≡ known rows.now) }
 {
     let mut made = Vec::new(alloc);

@@ -58,16 +58,21 @@ fn write_lists(text: &mut Vec<u8>, table: &Table, page: &RelationPage) -> Result
 fn write_head(text: &mut Vec<u8>, heading: &Heading) -> Result<(), AllocError>
     ensures { OnOk result (text.new.items ≡ text.old.items ++ spec.head_text (head_of heading.now)) }
 {
-    write_name(text, heading)?;
+    write_line(text, heading.line, heading.desk)?;
     write_proved(text, heading)
 }
 
-fn write_name(text: &mut Vec<u8>, heading: &Heading) -> Result<(), AllocError>
-    ensures { OnOk result (text.new.items ≡ text.old.items ++ spec.name_text (head_of heading.now)) }
+/// Adds the number of a session's line, and the name of its desk where it has one, with its sign before it.
+///
+/// # Errors
+///
+/// Only want of memory.
+pub fn write_line(text: &mut Vec<u8>, line: u32, desk: &str) -> Result<(), AllocError>
+    ensures { OnOk result (text.new.items ≡ text.old.items ++ spec.line_text line desk.now) }
 {
     text.extend_from_slice(b"line ")?;
-    text.extend_from_slice(Buffer::new().format(heading.line).as_bytes())?;
-    write_desk(text, heading.desk.as_bytes())
+    text.extend_from_slice(Buffer::new().format(line).as_bytes())?;
+    write_desk(text, desk.as_bytes())
 }
 
 fn write_proved(text: &mut Vec<u8>, heading: &Heading) -> Result<(), AllocError>
@@ -89,8 +94,12 @@ fn write_desk(text: &mut Vec<u8>, desk: &[u8]) -> Result<(), AllocError>
     text.extend_from_slice(desk)
 }
 
-/// The numbers of the statements that stand.
-fn write_statements(text: &mut Vec<u8>, numbers: &[u32]) -> Result<(), AllocError>
+/// Adds a line with the numbers of statements, or that there are none.
+///
+/// # Errors
+///
+/// Only want of memory.
+pub fn write_statements(text: &mut Vec<u8>, numbers: &[u32]) -> Result<(), AllocError>
     ensures { OnOk result (text.new.items ≡ text.old.items ++ spec.statements_text numbers.now) }
 {
     text.extend_from_slice(b"  by statements")?;
@@ -175,8 +184,12 @@ fn write_rest(
     Ok(())
 }
 
-/// Words and a number behind them.
-fn write_count(text: &mut Vec<u8>, words: &[u8], count: usize) -> Result<(), AllocError>
+/// Adds words and a number behind them.
+///
+/// # Errors
+///
+/// Only want of memory.
+pub fn write_count(text: &mut Vec<u8>, words: &[u8], count: usize) -> Result<(), AllocError>
     ensures { OnOk result (text.new.items ≡ text.old.items ++ spec.counted words.now count) }
 {
     text.extend_from_slice(words)?;
