@@ -1,0 +1,5 @@
+pub mod Turns
+pub mod Counts
+pub mod Text
+pub mod Csv
+pub mod Laws
