@@ -1,0 +1,3 @@
+pub mod LawProofs
+pub mod Loops
+pub mod StandLemmas

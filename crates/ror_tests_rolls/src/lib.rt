@@ -1,0 +1,9 @@
+//! Tests of rolls and their pages, by the public calls of ror_roll.
+#![tactic(auto)]
+
+#[cfg(test)]
+mod cars;
+#[cfg(test)]
+mod made;
+#[cfg(test)]
+mod rolls;
