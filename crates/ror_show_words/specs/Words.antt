@@ -1,5 +1,5 @@
 -- The words of a command line. Which words a page takes, and what they give, is what `clap` says of its command.
-use Rattle.std.specs.Prelude.{ℕ, Bool, true, false, List, [], ◌∷◌, length, ◌==◌, Option, Some, None, codes, unwrap_or, if◌then◌else◌}
+use Rattle.std.specs.Prelude.{ℕ, Bool, true, false, ◌&&◌, List, [], ◌∷◌, length, ◌==◌, Option, Some, None, codes, unwrap_or, if◌then◌else◌}
 use Rattle.std.specs.Option.{option_map, option_and_then, option_map_or}
 use Rattle.std.specs.List.{find}
 use Rattle.std.specs.Str.{bytes_eq}
@@ -10,7 +10,7 @@ use Rattle.ror_text.specs.Numbers.{count_of}
 use Rattle.ror_show_words.specs.declared.table.Page.{Page}
 use Rattle.ror_show_words.specs.declared.words.Form.{Form}
 use Rattle.ror_show_words.specs.declared.words.Form.TheVariants as forms
-use Rattle.ror_show_words.specs.Commands.{row_for}
+use Rattle.ror_show_words.specs.Commands.{row_for, takes_line, has_form}
 
 -- ---- what a page takes
 
@@ -99,9 +99,20 @@ unfoldable pub given_in : List (List ℕ) → Option PageWords
 given_in words = if length (fault_of page_app words) == 0
     then words_of (λ id. first_of id (matches_of page_app words)) else None
 
+-- the page may be of this line, or of no one line
+abbrev pub fits_line : Page → Option ℕ → Bool
+fits_line page None = true
+fits_line page (Some line) = takes_line page
+
+-- the page takes these
+abbrev pub fits : Page → PageWords → Bool
+fits page words = fits_line page words.line && has_form page words.form
+
+abbrev pub asked_of : Page → PageWords → Option Asked
+asked_of page words = if fits page words then Some (record { page = page; words = words }) else None
+
 -- None of words that ask for nothing
 unfoldable pub asked : List (List ℕ) → Option Asked
 asked [] = None
 asked (word ∷ words) =
-    option_and_then (λ row. option_map (λ given. record { page = row.page; words = given }) (given_in words))
-    (row_for word)
+    option_and_then (λ row. option_and_then (asked_of row.page) (given_in words)) (row_for word)

@@ -1,4 +1,4 @@
-//! The table of pages: the word of each.
+//! The table of pages: the word of each, and what stands behind it.
 
 ghost use Rattle.std.specs.Prelude.{◌≡◌};
 ghost use Rattle.std.specs.List.{find};
@@ -7,11 +7,15 @@ ghost use Rattle.std.specs.Str.{bytes_eq};
 ghost use Rattle.ror_show_words.specs.Commands.{row_for, usage_text};
 ghost use Rattle.ror_show_words.specs.Named.{row_with};
 
-/// What is shown.
-#[derive(Clone, Copy, Debug)]
+/// What is shown of a report.
+#[derive(Clone, Copy, Debug, PartialEq, Eq)]
 pub enum Page {
-    /// What holds between the alternatives, at a line of the report.
+    /// What holds between the alternatives, at each line that asks for the relation.
     Relation,
+    /// What changed from one such line of a desk to the next one.
+    Changes,
+    /// What stands at a desk.
+    Standing,
 }
 
 /// A row of the table of pages.
@@ -22,17 +26,27 @@ pub(crate) struct Row {
     pub(crate) word: &'static str,
 }
 
-/// The pages, all of which take the same names and options.
-const TABLE: [Row; 1] = [Row {
-    page: Page::Relation,
-    word: "relation",
-}];
+/// The pages, all of which take the same names.
+const TABLE: [Row; 3] = [
+    Row {
+        page: Page::Relation,
+        word: "relation",
+    },
+    Row {
+        page: Page::Changes,
+        word: "changes",
+    },
+    Row {
+        page: Page::Standing,
+        word: "standing",
+    },
+];
 
 /// The usage line: the pages of the table, each with its names and options.
 pub fn usage() -> &'static str
     ensures { result.now ≡ usage_text }
 {
-    "usage: ror_show relation TABLE SESSION REPORT [--best-first] [--line N] [--desk NAME] [--as text|csv|dot]\n"
+    "usage: ror_show relation TABLE SESSION REPORT [--best-first] [--desk NAME] [--line N] [--as text|csv|dot] | ror_show changes TABLE SESSION REPORT [--best-first] [--desk NAME] [--as text|csv] | ror_show standing TABLE SESSION REPORT [--best-first] [--desk NAME] [--line N]\n"
 }
 
 /// The row of the page with this word.

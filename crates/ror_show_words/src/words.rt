@@ -5,7 +5,8 @@ ghost use Rattle.std.specs.Option.{option_map};
 ghost use Rattle.std.specs.String.{string_bytes};
 ghost use Rattle.clap.specs.declared.error.kind.ErrorKind.TheVariants.{OutOfMemory};
 ghost use Rattle.clap.specs.Words.{found_of, first_value, kind_of};
-ghost use Rattle.ror_show_words.specs.Words.{line_of, form_of, if_given, words_of, given_in, asked};
+ghost use Rattle.ror_show_words.specs.Commands.{has_form};
+ghost use Rattle.ror_show_words.specs.Words.{line_of, form_of, if_given, words_of, given_in, fits_line, fits, asked_of, asked};
 ghost use Rattle.ror_show_words.specs.Named.{page_words_of, asked_with};
 ghost use Rattle.ror_show_words.specs.declared.words.WordsFault.TheVariants.{Unknown};
 
@@ -90,10 +91,45 @@ pub fn read_words(alloc: Global, words: &[String]) -> Result<Asked<'_>, WordsFau
         return Err(WordsFault::Unknown);
     };
     let words = page_words(alloc, rest)?;
-    Ok(Asked {
-        page: row.page,
-        words,
-    })
+    asked_of(row.page, words).ok_or(WordsFault::Unknown)
+}
+
+/// What the names and options ask for, where the page takes them.
+fn asked_of(page: Page, words: PageWords<'_>) -> Option<Asked<'_>>
+    ensures { option_map asked_with result ≡ asked_of page (page_words_of words.entry) }
+{
+    if !fits(page, &words) {
+        return None;
+    }
+    Some(Asked { page, words })
+}
+
+/// Whether the page takes these.
+fn fits(page: Page, words: &PageWords<'_>) -> bool
+    ensures { result ≡ fits page (page_words_of words.now) }
+{
+    fits_line(page, words.line) && has_form(page, words.form)
+}
+
+/// Whether the page may be of this line, or of no one line.
+fn fits_line(page: Page, line: Option<u32>) -> bool
+    ensures { result ≡ fits_line page line }
+{
+    match line {
+        Some(_) => matches!(page, Page::Relation | Page::Standing),
+        None => true,
+    }
+}
+
+/// Whether the page is written in this form.
+fn has_form(page: Page, form: Form) -> bool
+    ensures { result ≡ has_form page form }
+{
+    match form {
+        Form::Text => true,
+        Form::Csv => !matches!(page, Page::Standing),
+        Form::Dot => matches!(page, Page::Relation),
+    }
 }
 
 /// What the words after that of a page give.

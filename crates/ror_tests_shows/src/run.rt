@@ -64,8 +64,13 @@ fn expect<R: Abort + AllocGlobal>(
         owned.push(String::from_str(rt.alloc(), word)?)?;
     }
     let status = run(rt.alloc(), owned.as_slice(), shelf, out, err);
-    let got = (status.code(), out.written(), err.written());
-    assert_eq!(rt; got, (case.code, case.out, case.err), "{words}");
+    assert_eq!(rt;
+        (status.code(), out.written()),
+        (case.code, case.out),
+        "{words}"
+    );
+    // Behind the status's line stands what may help.
+    assert!(rt; err.written().starts_with(case.err), "{words}");
     Ok(())
 }
 
@@ -124,13 +129,43 @@ fn says_which_pages_there_are(rt: HostRuntime) -> Result<(), Fail> {
     let case = refused(
         accepted(),
         2,
-        b"usage: ror_show relation TABLE SESSION REPORT [--best-first] [--line N] [--desk NAME] [--as text|csv|dot]\n",
+        b"usage: ror_show relation TABLE SESSION REPORT [--best-first] [--desk NAME] [--line N] [--as text|csv|dot] | ror_show changes TABLE SESSION REPORT [--best-first] [--desk NAME] [--as text|csv] | ror_show standing TABLE SESSION REPORT [--best-first] [--desk NAME] [--line N]\n",
     );
-    for words in ["", "relation t s", "relation t s r --line 0", "read t s r"] {
+    for words in [
+        "",
+        "relation t s",
+        "relation t s r --line 0",
+        "read t s r",
+        "changes t s r --line 2",
+    ] {
         let mut shelf = shelf_of(rt.alloc(), &case)?;
         let mut out = MemorySink::new(rt.alloc(), 0)?;
-        let mut err = MemorySink::new(rt.alloc(), 200)?;
+        let mut err = MemorySink::new(rt.alloc(), 999)?;
         expect(&rt, words, &case, &mut shelf, &mut out, &mut err)?;
     }
     Ok(())
+}
+
+#[test]
+fn shows_what_stands_at_a_desk(rt: HostRuntime) -> Result<(), Fail> {
+    let case = Case {
+        out: b"@x  after line 2\n  stands\n     1  prefer a b                                  line 1\n  stands no more: none\n  taken back: none\n  refused: none\n  asked when nothing stood: none\n\n",
+        ..accepted()
+    };
+    let mut shelf = shelf_of(rt.alloc(), &case)?;
+    let mut out = MemorySink::new(rt.alloc(), 256)?;
+    let mut err = MemorySink::new(rt.alloc(), 0)?;
+    expect(&rt, "standing t s r", &case, &mut shelf, &mut out, &mut err)
+}
+
+#[test]
+fn says_that_nothing_was_asked_twice(rt: HostRuntime) -> Result<(), Fail> {
+    let case = Case {
+        out: b"no relation is answered twice at a desk in these lines of the session\n",
+        ..accepted()
+    };
+    let mut shelf = shelf_of(rt.alloc(), &case)?;
+    let mut out = MemorySink::new(rt.alloc(), 128)?;
+    let mut err = MemorySink::new(rt.alloc(), 0)?;
+    expect(&rt, "changes t s r", &case, &mut shelf, &mut out, &mut err)
 }

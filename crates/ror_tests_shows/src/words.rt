@@ -1,6 +1,6 @@
 //! What words ask for.
 
-use ror_show_words::{Form, read_words};
+use ror_show_words::{Form, Page, read_words};
 use std::test::Fail;
 
 #[test]
@@ -14,6 +14,7 @@ fn reads_names_and_options(rt: HostRuntime) -> Result<(), Fail> {
             let names = (asked.words.table, asked.words.session, asked.words.report);
             assert_eq!(rt; names, ("t", "s", "r"));
             assert_eq!(rt; (asked.words.line, asked.words.desk), (Some(7u32), None));
+            assert_eq!(rt; asked.page, Page::Relation);
             assert!(rt; matches!(asked.words.form, Form::Dot));
             assert!(rt; !asked.words.best_first);
         }

@@ -4,7 +4,7 @@ use Rattle.ror_table.specs.Table.{DecisionTable}
 use Rattle.ror_session.specs.declared.session.Session.{Session}
 use Rattle.ror_bench.specs.declared.kept.KeptLine.{KeptLine}
 use Rattle.ror_show_words.specs.declared.words.Form.{Form}
-use Rattle.ror_work_pages.specs.Showing.{IsSection, AreSections}
+use Rattle.ror_work_pages.specs.Relations.{IsSection, AreSections}
 
 -- one more
 pub one_more : (form : Form) (t : DecisionTable) (s : Session) (xs : List KeptLine) (x : KeptLine) (text section : List ℕ) → AreSections form t s xs text → IsSection form t s x x.block.body section → AreSections form t s (xs ++ x ∷ []) (text ++ section)

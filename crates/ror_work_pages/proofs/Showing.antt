@@ -1,6 +1,6 @@
 -- A page is written of what a check accepts, and files lead to one.
 use Rattle.std.proofs.Common.{◌≡◌, ℕ, ◌≤◌, List, [], ◌∷◌, ◌++◌, length, refl, sym, ap, subst, ◌∙◌}
-use Rattle.ror_table.specs.Table.{DecisionTable, IsTable}
+use Rattle.ror_table.specs.Table.{IsTable}
 use Rattle.ror_value.specs.declared.input.Input.{Input}
 use Rattle.ror_value.specs.Over.{IsLawfulIn}
 use Rattle.ror_xmcda.proofs.TableLemmas.{input_table}
@@ -27,6 +27,7 @@ use Rattle.ror_frame.proofs.InputLemmas.{decided_inputs}
 use Rattle.ror_work.specs.Checking.{RefusesReport}
 use Rattle.ror_work.proofs.Judging.{rejection_or_proof, one_refusal}
 use Rattle.ror_work_pages.specs.Choosing.{keeps}
+use Rattle.ror_work_pages.specs.Grounds.{Ground, ground_in}
 use Rattle.ror_work_pages.specs.Showing.{IsPage, ReadsPage, page_output, names_in, show_chore}
 use Rattle.ror_work_pages.proofs.OnePage.{one_page}
 
@@ -39,18 +40,23 @@ kept_same one other same keep before (line ∷ lines) (block ∷ blocks) =
     ap (λ (r : Revisions). kept_of (length before) (keep_at keep (length before)) (standing_for (keep_at keep (length before)) r) block ++ kept_from one keep (before ++ (line, block) ∷ []) lines blocks) (then_same one other same before line.desk)
     ∙ ap (λ (xs : List KeptLine). kept_at other keep before line block ++ xs) (kept_same one other same keep (before ++ (line, block) ∷ []) lines blocks)
 
+-- a page is read against what its parts are
+same_ground : (g : Ground) (i : Input) (s : Session) → g.table ≡ i.table → g.opening ≡ i.opening → g.session ≡ s → g ≡ ground_in i s
+same_ground g i s table opening session = rw (sym table, sym opening, sym session) refl
+
 -- the page of what a check over such a bench keeps
-pub page_as : (page : Page) (words : PageWords) (i : Input) (s : Session) (bench : Workbench) (lines : List Line) (bytes : List ℕ) (keep : List Keep) (accepted : Accepted) (kept : List KeptLine) (text : List ℕ) → HoldTheSame bench (bench_for i s) → lines ≡ s.lines → keep ≡ keeps page words s → length bytes ≤ MOST_REPORT_BYTES → IsAcceptedKeeping bench lines bytes keep accepted kept → IsPage words bench.table s kept text → ReadsPage page words i s bytes text
-page_as page words i s bench lines bytes keep accepted kept text held same chosen short checked shows =
+pub page_as : (page : Page) (words : PageWords) (i : Input) (s : Session) (bench : Workbench) (g : Ground) (lines : List Line) (bytes : List ℕ) (keep : List Keep) (accepted : Accepted) (kept : List KeptLine) (text : List ℕ) → HoldTheSame bench (bench_for i s) → g.table ≡ bench.table → g.opening ≡ i.opening → g.session ≡ s → lines ≡ s.lines → keep ≡ keeps page words s → length bytes ≤ MOST_REPORT_BYTES → IsAcceptedKeeping bench lines bytes keep accepted kept → IsPage page words g kept text → ReadsPage page words i s bytes text
+page_as page words i s bench g lines bytes keep accepted kept text held table opening session same chosen short checked shows =
     let over = subst (λ (ls : List Line). IsAcceptedKeeping bench ls bytes keep accepted kept) same checked in
     let keeping = subst (λ (ks : List Keep). IsAcceptedKeeping bench s.lines bytes ks accepted kept) chosen over in
     let report = proved_same bench (bench_for i s) held s.lines bytes accepted keeping.report.proved in
     let are : kept ≡ kept_from (bench_for i s) (keeps page words s) [] s.lines report.blocks = keeping.chosen ∙ kept_same bench (bench_for i s) held (keeps page words s) [] s.lines keeping.report.proved.blocks in
+    let ground : g ≡ ground_in i s = same_ground g i s (table ∙ held.0) opening session in
     record {
       within = short;
       accepted = accepted;
       report = report;
-      shows = subst (λ (xs : List KeptLine). IsPage words i.table s xs text) are (subst (λ (t : DecisionTable). IsPage words t s kept text) held.0 shows);
+      shows = subst (λ (xs : List KeptLine). IsPage page words (ground_in i s) xs text) are (subst (λ (h : Ground). IsPage page words h kept text) ground shows);
     }
 
 -- what a page is of is true

@@ -1,5 +1,5 @@
 -- What holds of the pages of a report.
-use Rattle.std.specs.Prelude.{◌≡◌, ℕ, List, [], Some}
+use Rattle.std.specs.Prelude.{◌≡◌, ℕ, ◌<◌, List, [], length, map, Some, None}
 use Rattle.std.specs.List.{AllByRecursion}
 use Rattle.ror_statement.specs.declared.statement.Numbered.{Numbered}
 use Rattle.ror_statement.specs.Statements.{statements_in}
@@ -11,14 +11,22 @@ use Rattle.ror_report.specs.declared.block.Body.TheVariants as bodies
 use Rattle.ror_bench.specs.declared.kept.Keep.{Keep}
 use Rattle.ror_bench.specs.declared.kept.KeptLine.{KeptLine}
 use Rattle.ror_bench.specs.declared.report.Accepted.{Accepted}
+use Rattle.ror_history.specs.History.{standing}
+use Rattle.ror_bench.specs.Desks.{with_blocks}
 use Rattle.ror_bench.specs.Kept.{kept_from}
-use Rattle.ror_bench.specs.Reports.{IsProvedReport}
+use Rattle.ror_bench.specs.Reports.{IsProvedReport, revisions_then}
+use Rattle.ror_roll.specs.Laws.{stated_at}
+use Rattle.ror_roll.specs.Roll.{roll_of}
+use Rattle.ror_roll.specs.Shown.{shown}
+use Rattle.ror_roll.specs.Steps.{kept_turns}
 use Rattle.ror_pages.specs.Cells.{cell_at}
 use Rattle.ror_pages.specs.Meaning.{Says}
 use Rattle.ror_frame.specs.Inputs.{bench_for}
 use Rattle.ror_session.specs.declared.session.Session.{Session}
 use Rattle.ror_show_words.specs.declared.table.Page.{Page}
+use Rattle.ror_show_words.specs.declared.table.Page.TheVariants as pages
 use Rattle.ror_show_words.specs.Words.{PageWords}
+use Rattle.ror_work_pages.specs.Choosing.{keeps}
 use Rattle.ror_work_pages.specs.Showing.{ReadsPage}
 
 -- a report has one page
@@ -37,3 +45,13 @@ abbrev pub ShownIsTrue : Type 0
 ShownIsTrue = (i : Input) (s : Session) (bytes : List ℕ) (accepted : Accepted) (keep : List Keep)
     → IsLawfulIn i.table i.opening → (report : IsProvedReport (bench_for i s) s.lines bytes accepted)
     → AllByRecursion (AreTrueOfWhatStood i.table) (kept_from (bench_for i s) keep [] s.lines report.blocks)
+
+-- Where no line and no desk is meant, the roll of each desk that the page of what stands shows of a report that is proved has exactly
+-- what stands there when the session is over: each statement with its number, and as the line that it names states it.
+abbrev pub StandingIsShown : Type 0
+StandingIsShown = (words : PageWords) (i : Input) (s : Session) (bytes : List ℕ) (accepted : Accepted) (desk : ℕ)
+    → words.line ≡ None → words.desk ≡ None → desk < length s.desks
+    → (report : IsProvedReport (bench_for i s) s.lines bytes accepted)
+    → map (shown (stated_at i.table s.lines) i.opening) (roll_of (length i.opening) (kept_turns s.lines desk
+    (kept_from (bench_for i s) (keeps pages.Standing words s) [] s.lines report.blocks))).entries
+    ≡ map Some (standing (revisions_then (bench_for i s) (with_blocks s.lines report.blocks) desk))

@@ -33,27 +33,37 @@ pub(crate) fn keeps(
 fn keep_of(page: Page, words: &PageWords<'_>, desks: &[Text], line: &Line) -> Keep
     ensures { result ≡ spec.keep_of page (page_words_of words.now) desks.now line.now }
 {
-    if is_chosen(page, words, desks, line) {
-        Keep::Standing
+    if is_desk(words.desk, desk_name(desks, line)) {
+        keep_at_desk(page, words.line, line)
     } else {
         Keep::Nothing
     }
 }
 
-fn is_chosen(page: Page, words: &PageWords<'_>, desks: &[Text], line: &Line) -> bool
-    ensures { result ≡ spec.is_chosen page (page_words_of words.now) desks.now line.now }
-{
-    asks_for(page, &line.command)
-        && (is_line(words.line, line.number) && is_desk(words.desk, desk_name(desks, line)))
-}
-
-/// Whether the line asks for what the page shows.
-fn asks_for(page: Page, command: &Command) -> bool
-    ensures { result ≡ spec.asks_for page command.now }
+/// What a page needs of a line at a desk that is meant.
+fn keep_at_desk(page: Page, meant: Option<u32>, line: &Line) -> Keep
+    ensures { result ≡ spec.keep_at_desk page meant line.now }
 {
     match page {
-        Page::Relation => matches!(command, Command::Ask(Asked::Relation)),
+        Page::Relation | Page::Changes => {
+            let is_meant = asks_relation(&line.command) && is_line(meant, line.number);
+            keep_where(is_meant, Keep::Standing)
+        }
+        Page::Standing => keep_where(is_up_to(meant, line.number), Keep::Block),
     }
+}
+
+/// So much where it is meant, and nothing where it isn't.
+fn keep_where(is_meant: bool, keep: Keep) -> Keep
+    ensures { result ≡ spec.keep_where is_meant keep }
+{
+    if is_meant { keep } else { Keep::Nothing }
+}
+
+fn asks_relation(command: &Command) -> bool
+    ensures { result ≡ spec.asks_relation command.now }
+{
+    matches!(command, Command::Ask(Asked::Relation))
 }
 
 /// Whether it is the line that is meant, where one is.
@@ -66,8 +76,18 @@ fn is_line(meant: Option<u32>, number: u32) -> bool
     }
 }
 
+/// Whether it is that line or one before it, where one is meant.
+fn is_up_to(meant: Option<u32>, number: u32) -> bool
+    ensures { result ≡ spec.is_up_to meant number }
+{
+    match meant {
+        Some(line) => number <= line,
+        None => true,
+    }
+}
+
 /// Whether it is the desk that is meant, where one is.
-fn is_desk(meant: Option<&str>, name: &str) -> bool
+pub(crate) fn is_desk(meant: Option<&str>, name: &str) -> bool
     ensures { result ≡ spec.is_desk (option_map (λ word. word.now) meant.entry) name.now }
 {
     match meant {

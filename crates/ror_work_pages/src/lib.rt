@@ -11,9 +11,13 @@
 //! ```
 #![tactic(auto)]
 
+mod changing;
 mod choose;
+mod grounds;
 pub mod laws;
 mod page;
+mod relation;
 mod show;
+mod standing;
 
 pub use show::show_files;

@@ -1,49 +1,86 @@
 //! The text of a page.
 
-ghost use Rattle.std.specs.Prelude.{◌≡◌, ◌++◌, count_by, IfOk};
-ghost use Rattle.ror_statement.specs.Statements.{numbers_in};
-ghost use Rattle.ror_pages.specs.Heads.{head_of};
+ghost use Rattle.std.specs.Prelude.{◌≡◌, ◌≤◌, ◌++◌, length, IfOk};
 ghost use Rattle.ror_show_words.specs.Named.{page_words_of};
+ghost use Rattle.ror_work_pages.specs.Grounds.{ground_of};
 ghost use Rattle.ror_work_pages.specs.Showing as spec;
 
-use crate::choose::desk_name;
+use crate::changing::changes_of;
+use crate::grounds::Ground;
+use crate::relation::sections_of;
+use crate::standing::rolls_of;
 use ror_bench::KeptLine;
-use ror_exports::{csv_head, print_csv, print_dot};
-use ror_pages::{Heading, RelationPage, print_relation, relation_page};
-use ror_proof::{Answer, Verdict};
-use ror_report::Body;
-use ror_session::Session;
-use ror_show_words::{Form, PageWords};
-use ror_statement::Numbered;
-use ror_table::Table;
+use ror_exports::csv_head;
+use ror_session::MOST_DESKS;
+use ror_show_words::{Form, Page, PageWords};
+use ror_statement::MOST_STATEMENTS;
 use std::alloc::{AllocError, Global};
 
 /// The page of the kept lines.
 pub(crate) fn page_text(
     alloc: Global,
+    page: Page,
     words: &PageWords<'_>,
-    table: &Table,
-    session: &Session,
+    ground: &Ground<'_>,
     kept: &[KeptLine],
 ) -> Result<Vec<u8>, AllocError>
-    ensures { IfOk result (λ text. spec.IsPage (page_words_of words.now) table.now session.now kept.now text.items) }
+    requires few { length ground.now.opening.now ≤ MOST_STATEMENTS }
+    requires few_desks { length ground.now.session.now.desks ≤ MOST_DESKS }
+    ensures { IfOk result (λ text. spec.IsPage page (page_words_of words.now) (ground_of ground.now) kept.now text.items) }
 {
-    let sections = sections_of(alloc, words.form, table, session, kept)?;
-    whole(alloc, words.form, sections)
+    let body = body_of(alloc, page, words, ground, kept)?;
+    whole(alloc, page, words.form, body)
 }
 
-/// What is said of all lines, with what stands before it, and where that is nothing.
-fn whole(alloc: Global, form: Form, sections: Vec<u8>) -> Result<Vec<u8>, AllocError>
-    ensures { IfOk result (λ text. text.items ≡ spec.page_of form sections.items) }
+/// What is said of the kept lines.
+fn body_of(
+    alloc: Global,
+    page: Page,
+    words: &PageWords<'_>,
+    ground: &Ground<'_>,
+    kept: &[KeptLine],
+) -> Result<Vec<u8>, AllocError>
+    requires few { length ground.now.opening.now ≤ MOST_STATEMENTS }
+    requires few_desks { length ground.now.session.now.desks ≤ MOST_DESKS }
+    ensures { IfOk result (λ text. spec.IsBody page (page_words_of words.now) (ground_of ground.now) kept.now text.items) }
+{
+    match page {
+        Page::Relation => sections_of(alloc, words.form, ground.table, ground.session, kept),
+        Page::Standing => rolls_of(alloc, words, ground, kept),
+        Page::Changes => changes_of(alloc, words.form, ground, kept),
+    }
+}
+
+/// It with what stands before it, or what is said where it is nothing.
+fn whole(alloc: Global, page: Page, form: Form, body: Vec<u8>) -> Result<Vec<u8>, AllocError>
+    ensures { IfOk result (λ text. text.items ≡ spec.page_of page form body.items) }
 {
     match form {
-        Form::Csv => joined(alloc, csv_head(), sections.as_slice()),
-        Form::Text if sections.is_empty() => joined(
-            alloc,
-            b"no relation is answered in these lines of the session\n",
-            b"",
-        ),
-        _ => Ok(sections),
+        Form::Csv => joined(alloc, head_of(page), body.as_slice()),
+        Form::Text if body.is_empty() => joined(alloc, nothing_of(page), b""),
+        _ => Ok(body),
+    }
+}
+
+/// The names of the values that it lists.
+fn head_of(page: Page) -> &'static [u8]
+    ensures { result.now ≡ spec.head_of page }
+{
+    match page {
+        Page::Relation => csv_head(),
+        Page::Changes => ror_change_pages::csv_head(),
+        Page::Standing => b"",
+    }
+}
+
+/// What is said where there is nothing to show.
+fn nothing_of(page: Page) -> &'static [u8]
+    ensures { result.now ≡ spec.nothing_of page }
+{
+    match page {
+        Page::Relation => b"no relation is answered in these lines of the session\n",
+        Page::Changes => b"no relation is answered twice at a desk in these lines of the session\n",
+        Page::Standing => b"the session has no such desk\n",
     }
 }
 
@@ -55,135 +92,4 @@ fn joined(alloc: Global, first: &[u8], second: &[u8]) -> Result<Vec<u8>, AllocEr
     text.extend_from_slice(first)?;
     text.extend_from_slice(second)?;
     Ok(text)
-}
-
-/// What is said of each line, one after the other.
-fn sections_of(
-    alloc: Global,
-    form: Form,
-    table: &Table,
-    session: &Session,
-    kept: &[KeptLine],
-) -> Result<Vec<u8>, AllocError>
-    ensures { IfOk result (λ text. spec.AreSections form table.now session.now kept.now text.items) }
-{
-    let mut text = Vec::new(alloc);
-    for line in kept {
-        let section = section_of(alloc, form, table, session, line)?;
-        text.extend_from_slice(section.as_slice())?;
-    }
-    Ok(text)
-}
-
-/// What is said of a line.
-fn section_of(
-    alloc: Global,
-    form: Form,
-    table: &Table,
-    session: &Session,
-    line: &KeptLine,
-) -> Result<Vec<u8>, AllocError>
-    ensures { IfOk result (λ text. spec.IsSection form table.now session.now line.now line.now.block.body text.items) }
-{
-    match &line.block.body {
-        Body::Answers(answers) => relation_of(
-            alloc,
-            form,
-            table,
-            session,
-            line,
-            answers.as_slice(),
-        ),
-        _ => Ok(Vec::new(alloc)),
-    }
-}
-
-/// What the answers to a line say of the relation.
-fn relation_of(
-    alloc: Global,
-    form: Form,
-    table: &Table,
-    session: &Session,
-    line: &KeptLine,
-    answers: &[Answer],
-) -> Result<Vec<u8>, AllocError>
-    ensures { IfOk result (λ text. spec.IsRelationIn form table.now
-        (spec.head_for session.now line.now answers.now) answers.now text.items) }
-{
-    let page = relation_page(alloc, table, answers)?;
-    let numbers = numbers_of(alloc, line)?;
-    let heading = Heading {
-        line: line.block.line,
-        desk: desk_at(session, line.place),
-        numbers: numbers.as_slice(),
-        proved: proved_among(answers),
-        answers: answers.len(),
-    };
-    print_page(alloc, form, table, &heading, &page)
-}
-
-/// The relation in a form.
-fn print_page(
-    alloc: Global,
-    form: Form,
-    table: &Table,
-    heading: &Heading,
-    page: &RelationPage,
-) -> Result<Vec<u8>, AllocError>
-    ensures { IfOk result (λ text. text.items ≡ spec.relation_in form table.now (head_of heading.now) page.now) }
-{
-    let mut text = Vec::new(alloc);
-    match form {
-        Form::Text => {
-            print_relation(&mut text, table, heading, page)?;
-            text.push(b'\n')?;
-        }
-        Form::Csv => print_csv(&mut text, table, heading, page)?,
-        Form::Dot => print_dot(&mut text, table, heading, page)?,
-    }
-    Ok(text)
-}
-
-/// The name of the desk of the line at a place.
-fn desk_at(session: &Session, place: usize) -> &str
-    ensures { result.now ≡ spec.desk_at session.now place }
-{
-    match session.lines.as_slice().get(place) {
-        Some(line) => desk_name(session.desks.as_slice(), line),
-        None => "",
-    }
-}
-
-/// The numbers of what stood, where that was kept.
-fn numbers_of(alloc: Global, line: &KeptLine) -> Result<Vec<u32>, AllocError>
-    ensures { IfOk result (λ numbers. numbers.items ≡ numbers_in (spec.stood line.now)) }
-{
-    match &line.standing {
-        Some(list) => numbers_in(alloc, list.as_slice()),
-        None => Ok(Vec::new(alloc)),
-    }
-}
-
-fn numbers_in(alloc: Global, list: &[Numbered]) -> Result<Vec<u32>, AllocError>
-    ensures { IfOk result (λ numbers. numbers.items ≡ numbers_in list.now) }
-{
-    let mut numbers = Vec::new(alloc);
-    for statement in list {
-        numbers.push(statement.number)?;
-    }
-    Ok(numbers)
-}
-
-/// Of how many of the answers there is a proof.
-fn proved_among(answers: &[Answer]) -> usize
-    ensures { result ≡ count_by (λ x. spec.is_proved x.verdict) answers.now }
-{
-    answers.iter().filter(|x| is_proved(&x.verdict)).count()
-}
-
-/// Whether the verdict has a proof: whether it isn't too wide.
-fn is_proved(verdict: &Verdict) -> bool
-    ensures { result ≡ spec.is_proved verdict.now }
-{
-    !matches!(verdict, Verdict::Wide { .. })
 }

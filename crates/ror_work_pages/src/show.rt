@@ -1,6 +1,6 @@
 //! The course of a page: the three files are fetched in order, and the page of the report is written.
 
-ghost use Rattle.std.specs.Prelude.{◌≡◌, ◌≤◌, length, false};
+ghost use Rattle.std.specs.Prelude.{◌≡◌, ◌≤◌, length, false, IfOk};
 ghost use Rattle.ror_value.specs.Over.{IsLawfulIn};
 ghost use Rattle.ror_session.specs.Sound.{IsSound};
 ghost use Rattle.ror_frame.specs.States.{shelf_state, sink_state};
@@ -12,16 +12,18 @@ ghost use Rattle.ror_work.specs.Checking.{RefusesReport};
 ghost use Rattle.ror_work_pages.specs.Showing.{ReadsPage, show_chore};
 
 use crate::choose::keeps;
+use crate::grounds::Ground;
 use crate::page::page_text;
 use ror_bench::{Bench, MOST_REPORT_BYTES, Reason, Rejection, check_report_keeping};
 use ror_frame::{Refusal, Stop, fetch_session, fetch_table, fetch_whole};
 use ror_io::{Shelf, Sink, write_all};
 use ror_session::Session;
 use ror_show_words::{Page, PageWords};
+use ror_statement::Statement;
 use ror_text::Items;
 use ror_words::FileNames;
 use ror_xmcda::Input;
-use std::alloc::Global;
+use std::alloc::{AllocError, Global};
 
 /// Fetches table, session and report in order, each once those before it were read, and writes the page of a report that a check
 /// accepts. What it gives, `false`, says that nothing is left to say.
@@ -102,10 +104,25 @@ fn page_in(
         bytes.now result }
 {
     let keep = keeps(alloc, page, words, session)?;
+    let opening = opening_of(alloc, &input)?;
     let desks = session.desks.len() as u32;
     let mut bench = Bench::new(alloc, input, desks)?;
     let lines = session.lines.as_slice();
     let checked = check_report_keeping(alloc, &mut bench, lines, bytes, keep.as_slice())?;
-    let text = page_text(alloc, words, bench.table(), session, checked.1.as_slice())?;
+    let ground = Ground {
+        table: bench.table(),
+        opening: opening.as_slice(),
+        session,
+    };
+    let text = page_text(alloc, page, words, &ground, checked.1.as_slice())?;
     Ok(Items::from(text))
+}
+
+/// The statements that come with the table's file.
+fn opening_of(alloc: Global, input: &Input) -> Result<Vec<Statement>, AllocError>
+    ensures { IfOk result (λ list. list.items ≡ input.now.opening) }
+{
+    let mut opening = Vec::new(alloc);
+    opening.extend_from_slice(input.opening.as_slice())?;
+    Ok(opening)
 }

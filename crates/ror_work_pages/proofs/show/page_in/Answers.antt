@@ -1,14 +1,14 @@
-use Rattle.std.proofs.Common.{rules, arith, ◌≤◌, List, length, sym, ap, subst, ◌∙◌}
+use Rattle.std.proofs.Common.{rules, arith, ◌≤◌, List, length, refl, sym, ap, subst, ◌∙◌}
 use Rattle.std.specs.List.{AllByRecursion}
 use Rattle.std.proofs.lemmas.Result.{err_from_is_err_and}
 use Rattle.ror_session.specs.declared.limits.TheConstants.{MOST_LINES}
-use Rattle.ror_table.specs.Table.{DecisionTable}
 use Rattle.ror_bench.specs.declared.kept.KeptLine.{KeptLine}
 use Rattle.ror_bench.specs.Bench.{HoldTheSame, LeavesNumbers}
 use Rattle.ror_frame.specs.Inputs.{bench_for}
 use Rattle.ror_frame.proofs.Desks.{numbers_left}
 use Rattle.ror_show_words.specs.Named.{page_words_of}
 use Rattle.ror_work.proofs.Judging.{rejected_as}
+use Rattle.ror_work_pages.specs.Grounds.{Ground}
 use Rattle.ror_work_pages.specs.Showing.{IsPage, ReadsPage}
 use Rattle.ror_work_pages.proofs.Showing.{page_as}
 use Rattle.ror_work_pages.proofs.show.page_in.Goals as goal
@@ -42,7 +42,8 @@ returns c =
     let held : HoldTheSame c.in_ok-bench.bench (bench_for i s) = search rules in
     let chosen = c.as_slice.ensures.value ∙ c.in_ok-keep.ensures in
     let table = c.table.ensures.value ∙ c.in_ok-checked.ensures.table in
-    let page = subst (λ (t : DecisionTable). IsPage words t s c.as_slice-2.result.now c.in_ok-text.text.items) table c.in_ok-text.ensures in
-    let shows = subst (λ (xs : List KeptLine). IsPage words c.in_ok-bench.bench.table s xs c.in_ok-text.text.items) c.as_slice-2.ensures.value page in
-    let reads = page_as c.args.page words i s c.in_ok-bench.bench c.as_slice-lines.result.now c.args.bytes.now c.as_slice.result.now checked.0 checked.1.items c.in_ok-text.text.items held c.as_slice-lines.ensures chosen c.requires.within c.in_ok-checked.ensures.accepted shows in
+    let opening = c.as_slice-2.ensures.value ∙ c.in_ok-opening.ensures in
+    let g : Ground = record { table = c.table.result.now; opening = c.as_slice-2.result.now; session = s } in
+    let shows = subst (λ (xs : List KeptLine). IsPage c.args.page words g xs c.in_ok-text.text.items) c.as_slice-3.ensures.value c.in_ok-text.ensures in
+    let reads = page_as c.args.page words i s c.in_ok-bench.bench g c.as_slice-lines.result.now c.args.bytes.now c.as_slice.result.now checked.0 checked.1.items c.in_ok-text.text.items held table opening refl c.as_slice-lines.ensures chosen c.requires.within c.in_ok-checked.ensures.accepted shows in
     rw c.from.ensures reads

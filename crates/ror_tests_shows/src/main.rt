@@ -6,3 +6,6 @@
 mod run;
 #[cfg(test)]
 mod words;
+
+/// Nothing: what is here are the tests.
+fn main() {}

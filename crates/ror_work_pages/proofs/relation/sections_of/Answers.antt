@@ -2,9 +2,9 @@
 use Rattle.std.proofs.Common.{◌≡◌, ℕ, ◌+◌, ◌++◌, [], ◌∷◌, List, take, sym, ap, subst, ◌∙◌}
 use Rattle.std.proofs.lemmas.List.{take_more}
 use Rattle.ror_bench.specs.declared.kept.KeptLine.{KeptLine}
-use Rattle.ror_work_pages.specs.Showing.{AreSections}
+use Rattle.ror_work_pages.specs.Relations.{AreSections}
 use Rattle.ror_work_pages.proofs.Sections.{one_more}
-use Rattle.ror_work_pages.proofs.page.sections_of.Goals as goal
+use Rattle.ror_work_pages.proofs.relation.sections_of.Goals as goal
 
 pub loop-line-preserved : goal.loop-line-preserved
 loop-line-preserved c =
