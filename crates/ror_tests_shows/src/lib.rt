@@ -6,6 +6,3 @@
 mod run;
 #[cfg(test)]
 mod words;
-
-/// Nothing: what is here are the tests.
-fn main() {}
