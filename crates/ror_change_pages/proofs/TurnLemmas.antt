@@ -12,7 +12,7 @@ pub record IsLast (p : ℕ → Bool) (n k : ℕ) : Type 0 where
   pub passes : p k ≡ true
   pub none_after : (m : ℕ) → k < m → m < n → p m ≡ false
 
-last-found : (p : ℕ → Bool) (n k : ℕ) → last_below p n ≡ Some k → IsLast p n k
+pub last-found : (p : ℕ → Bool) (n k : ℕ) → last_below p n ≡ Some k → IsLast p n k
 last-found p zero k is = absurd cc
 last-found p (suc n) k is = by (p n) refl is (last-found p n k)
   where
@@ -31,7 +31,7 @@ last-found p (suc n) k is = by (p n) refl is (last-found p n k)
         let rest : IsLast p n k = before same in
         record { below = omega (arith, rest.below); passes = rest.passes; none_after = after fails rest }
 
-last-is : (p : ℕ → Bool) (n k : ℕ) → IsLast p n k → last_below p n ≡ Some k
+pub last-is : (p : ℕ → Bool) (n k : ℕ) → IsLast p n k → last_below p n ≡ Some k
 last-is p zero k is = absurd (omega (arith, is.below))
 last-is p (suc n) k is = by (p n) refl (k == n) refl (last-is p n k)
   where

@@ -1,0 +1,4 @@
+pub mod Changes
+pub mod Turns
+pub mod Text
+pub mod Laws
