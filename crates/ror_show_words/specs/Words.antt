@@ -1,5 +1,5 @@
 -- The words of a command line. Which words a page takes, and what they give, is what `clap` says of its command.
-use Rattle.std.specs.Prelude.{ℕ, Bool, true, false, ◌&&◌, List, [], ◌∷◌, length, ◌==◌, Option, Some, None, codes, unwrap_or, if◌then◌else◌}
+use Rattle.std.specs.Prelude.{ℕ, Bool, true, false, ◌&&◌, List, [], ◌∷◌, length, ◌==◌, Option, Some, None, codes, unwrap_or, not, if◌then◌else◌}
 use Rattle.std.specs.Option.{option_map, option_and_then, option_map_or}
 use Rattle.std.specs.List.{find}
 use Rattle.std.specs.Str.{bytes_eq}
@@ -10,7 +10,7 @@ use Rattle.ror_text.specs.Numbers.{count_of}
 use Rattle.ror_show_words.specs.declared.table.Page.{Page}
 use Rattle.ror_show_words.specs.declared.words.Form.{Form}
 use Rattle.ror_show_words.specs.declared.words.Form.TheVariants as forms
-use Rattle.ror_show_words.specs.Commands.{row_for, takes_line, has_form}
+use Rattle.ror_show_words.specs.Commands.{row_for, takes_line, needs_line, has_form}
 
 -- ---- what a page takes
 
@@ -101,7 +101,7 @@ given_in words = if length (fault_of page_app words) == 0
 
 -- the page may be of this line, or of no one line
 abbrev pub fits_line : Page → Option ℕ → Bool
-fits_line page None = true
+fits_line page None = not (needs_line page)
 fits_line page (Some line) = takes_line page
 
 -- the page takes these

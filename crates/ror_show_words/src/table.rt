@@ -14,8 +14,12 @@ pub enum Page {
     Relation,
     /// What changed from one such line of a desk to the next one.
     Changes,
+    /// To which classes the alternatives may and must belong, each time that they were asked.
+    Classes,
     /// What stands at a desk.
     Standing,
+    /// The value functions that stand in the answers to one line.
+    Functions,
 }
 
 /// A row of the table of pages.
@@ -27,7 +31,7 @@ pub(crate) struct Row {
 }
 
 /// The pages, all of which take the same names.
-const TABLE: [Row; 3] = [
+const TABLE: [Row; 5] = [
     Row {
         page: Page::Relation,
         word: "relation",
@@ -37,8 +41,16 @@ const TABLE: [Row; 3] = [
         word: "changes",
     },
     Row {
+        page: Page::Classes,
+        word: "classes",
+    },
+    Row {
         page: Page::Standing,
         word: "standing",
+    },
+    Row {
+        page: Page::Functions,
+        word: "functions",
     },
 ];
 
@@ -46,7 +58,7 @@ const TABLE: [Row; 3] = [
 pub fn usage() -> &'static str
     ensures { result.now ≡ usage_text }
 {
-    "usage: ror_show relation TABLE SESSION REPORT [--best-first] [--desk NAME] [--line N] [--as text|csv|dot] | ror_show changes TABLE SESSION REPORT [--best-first] [--desk NAME] [--as text|csv] | ror_show standing TABLE SESSION REPORT [--best-first] [--desk NAME] [--line N]\n"
+    "usage: ror_show relation TABLE SESSION REPORT [--best-first] [--desk NAME] [--line N] [--as text|csv|dot] | ror_show changes TABLE SESSION REPORT [--best-first] [--desk NAME] [--as text|csv] | ror_show classes TABLE SESSION REPORT [--best-first] [--desk NAME] [--as text|csv] | ror_show standing TABLE SESSION REPORT [--best-first] [--desk NAME] [--line N] | ror_show functions TABLE SESSION REPORT [--best-first] [--desk NAME] --line N [--as text|csv]\n"
 }
 
 /// The row of the page with this word.

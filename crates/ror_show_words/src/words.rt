@@ -116,8 +116,8 @@ fn fits_line(page: Page, line: Option<u32>) -> bool
     ensures { result ≡ fits_line page line }
 {
     match line {
-        Some(_) => matches!(page, Page::Relation | Page::Standing),
-        None => true,
+        Some(_) => !matches!(page, Page::Changes | Page::Classes),
+        None => !matches!(page, Page::Functions),
     }
 }
 

@@ -1,3 +1,5 @@
+pub mod ClassTruth
+pub mod FunctionTruth
 pub mod OneChange
 pub mod OneContent
 pub mod OnePage

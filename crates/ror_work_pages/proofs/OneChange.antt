@@ -11,7 +11,8 @@ use Rattle.ror_change_pages.specs.Turns.{turns}
 use Rattle.ror_show_words.specs.declared.words.Form.{Form}
 use Rattle.ror_show_words.specs.declared.words.Form.TheVariants.{Text, Csv, Dot}
 use Rattle.ror_work_pages.specs.Grounds.{Ground}
-use Rattle.ror_work_pages.specs.Changing.{AreChanges}
+use Rattle.ror_class_changes.specs.Text.{page_text}
+use Rattle.ror_work_pages.specs.Changing.{behind, AreChanges}
 use Rattle.ror_work_pages.proofs.OneContent.{one_content}
 
 one_section : (t : DecisionTable) (s : Session) (x y : KeptLine) (one other : List ℕ) → IsSection t s x y one → IsSection t s x y other → one ≡ other
@@ -42,5 +43,8 @@ one_parts t s kept pairs (suc n) one other p q =
 
 pub one_change : (form : Form) (g : Ground) (kept : List KeptLine) (one other : List ℕ) → AreChanges form g kept one → AreChanges form g kept other → one ≡ other
 one_change Csv g kept one other p q = p ∙ sym q
-one_change Text g kept one other p q = one_parts g.table g.session kept (turns g.session kept) _ one other p q
+one_change Text g kept one other p q =
+    p.text_is
+    ∙ ap (λ (qs : List ℕ). behind qs (page_text g.table g.session kept)) (one_parts g.table g.session kept (turns g.session kept) _ p.relations q.relations p.are q.are)
+    ∙ sym q.text_is
 one_change Dot g kept one other p q = p ∙ sym q

@@ -50,7 +50,9 @@ one_sections form t s (x ∷ xs) one other p q =
 one_body : (page : Page) (words : PageWords) (g : Ground) (xs : List KeptLine) (one other : List ℕ) → IsBody page words g xs one → IsBody page words g xs other → one ≡ other
 one_body pages.Relation words g xs one other p q = one_sections words.form g.table g.session xs one other p q
 one_body pages.Changes words g xs one other p q = one_change words.form g xs one other p q
+one_body pages.Classes words g xs one other p q = p ∙ sym q
 one_body pages.Standing words g xs one other p q = p ∙ sym q
+one_body pages.Functions words g xs one other p q = p ∙ sym q
 
 -- kept lines have one page
 one_of_kept : (page : Page) (words : PageWords) (g : Ground) (xs : List KeptLine) (one other : List ℕ) → IsPage page words g xs one → IsPage page words g xs other → one ≡ other

@@ -9,6 +9,7 @@ use Rattle.ror_session.specs.declared.session.Session.{Session}
 use Rattle.ror_session.specs.Sound.{desk_name}
 use Rattle.ror_bench.specs.declared.kept.Keep.{Keep}
 use Rattle.ror_bench.specs.declared.kept.Keep.TheVariants.{Nothing, Block, Standing}
+use Rattle.ror_class_pages.specs.Times.{keep_for}
 use Rattle.ror_show_words.specs.declared.table.Page.{Page}
 use Rattle.ror_show_words.specs.declared.table.Page.TheVariants.{Relation, Changes}
 use Rattle.ror_show_words.specs.declared.table.Page.TheVariants as pages
@@ -39,17 +40,25 @@ abbrev pub is_desk : Option (List ℕ) → List ℕ → Bool
 is_desk None name = true
 is_desk (Some word) name = bytes_eq word name || has_sign_before word name
 
+-- what is needed of both relations and classes
+abbrev pub keep_for_changes : Command → Keep
+keep_for_changes (Ask asked.Relation) = Standing
+keep_for_changes command = keep_for command
+
 -- so much of the lines of which this holds, and nothing of others
 abbrev pub keep_where : Bool → Keep → Keep
 keep_where true keep = keep
 keep_where false keep = Nothing
 
 -- What a page needs of a line at a desk that is meant. Of relations it is the answers that are meant, with what stood when they were
--- given. What stands goes by what came of each line up to the one that is meant.
+-- given. What stands goes by what came of each line up to the one that is meant. Of classes it is the answers, with what stood, and
+-- what came of the lines that ask nothing; and what changed is of both. Of functions it is the one line that is meant, with what stood.
 abbrev pub keep_at_desk : Page → Option ℕ → Line → Keep
 keep_at_desk Relation meant line = keep_where (asks_relation line.command && is_line meant line.number) Standing
-keep_at_desk Changes meant line = keep_where (asks_relation line.command && is_line meant line.number) Standing
+keep_at_desk Changes meant line = keep_for_changes line.command
+keep_at_desk pages.Classes meant line = keep_for line.command
 keep_at_desk pages.Standing meant line = keep_where (is_up_to meant line.number) Block
+keep_at_desk pages.Functions meant line = keep_where (is_line meant line.number) Standing
 
 -- of lines at other desks nothing is kept
 abbrev pub keep_of : Page → PageWords → List (List ℕ) → Line → Keep

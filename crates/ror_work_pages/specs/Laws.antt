@@ -1,5 +1,5 @@
 -- What holds of the pages of a report.
-use Rattle.std.specs.Prelude.{◌≡◌, ℕ, ◌<◌, List, [], length, map, Some, None}
+use Rattle.std.specs.Prelude.{◌≡◌, ℕ, ◌<◌, true, List, [], length, map, slice_get, slice_index_or, Some, None}
 use Rattle.std.specs.List.{AllByRecursion}
 use Rattle.ror_statement.specs.declared.statement.Numbered.{Numbered}
 use Rattle.ror_statement.specs.Statements.{statements_in}
@@ -7,7 +7,9 @@ use Rattle.ror_table.specs.Table.{DecisionTable, IsTable}
 use Rattle.ror_value.specs.declared.input.Input.{Input}
 use Rattle.ror_value.specs.Over.{IsLawfulIn}
 use Rattle.ror_proof.specs.declared.answer.Answer.{Answer}
+use Rattle.ror_report.specs.declared.block.Block.{Block}
 use Rattle.ror_report.specs.declared.block.Body.TheVariants as bodies
+use Rattle.ror_report.specs.Text.{answers_of}
 use Rattle.ror_bench.specs.declared.kept.Keep.{Keep}
 use Rattle.ror_bench.specs.declared.kept.KeptLine.{KeptLine}
 use Rattle.ror_bench.specs.declared.report.Accepted.{Accepted}
@@ -21,12 +23,16 @@ use Rattle.ror_roll.specs.Shown.{shown}
 use Rattle.ror_roll.specs.Steps.{kept_turns}
 use Rattle.ror_pages.specs.Cells.{cell_at}
 use Rattle.ror_pages.specs.Meaning.{Says}
+use Rattle.ror_class_pages.specs.Meaning.{SignSays}
+use Rattle.ror_class_pages.specs.Signs.{alternative_of, sign_of_class}
+use Rattle.ror_class_pages.specs.Times.{answers_at, rows}
+use Rattle.ror_function_pages.specs.Laws.{AreMeantOfWhatStood}
 use Rattle.ror_frame.specs.Inputs.{bench_for}
 use Rattle.ror_session.specs.declared.session.Session.{Session}
 use Rattle.ror_show_words.specs.declared.table.Page.{Page}
 use Rattle.ror_show_words.specs.declared.table.Page.TheVariants as pages
 use Rattle.ror_show_words.specs.Words.{PageWords}
-use Rattle.ror_work_pages.specs.Choosing.{keeps}
+use Rattle.ror_work_pages.specs.Choosing.{is_desk, keeps}
 use Rattle.ror_work_pages.specs.Showing.{ReadsPage}
 
 -- a report has one page
@@ -45,6 +51,38 @@ abbrev pub ShownIsTrue : Type 0
 ShownIsTrue = (i : Input) (s : Session) (bytes : List ℕ) (accepted : Accepted) (keep : List Keep)
     → IsLawfulIn i.table i.opening → (report : IsProvedReport (bench_for i s) s.lines bytes accepted)
     → AllByRecursion (AreTrueOfWhatStood i.table) (kept_from (bench_for i s) keep [] s.lines report.blocks)
+
+-- ---- classes
+
+-- the lines of a session that the page of classes is of, with what came of them
+abbrev pub kept_for_classes : PageWords → Input → Session → List Block → List KeptLine
+kept_for_classes words i s blocks = kept_from (bench_for i s) (keeps pages.Classes words s) [] s.lines blocks
+
+-- This list stood at the kept line at a place, and each sign in the line's row is true of all value functions that are compatible with
+-- it.
+abbrev pub IsTrueRow : DecisionTable → List KeptLine → List Numbered → ℕ → Type 0
+IsTrueRow t kept list n = (x : KeptLine) → slice_get kept n ≡ Some x → (x.standing ≡ Some list)
+    × ((h : ℕ) → SignSays t (statements_in list) (sign_of_class (answers_of x.block.body) h) (alternative_of (answers_of x.block.body)) h)
+
+-- So it is at each time of a desk that is meant, with one list for all rows of a time.
+abbrev pub ClassesAreTrue : Type 0
+ClassesAreTrue = (words : PageWords) (i : Input) (s : Session) (bytes : List ℕ) (accepted : Accepted) (desk n : ℕ)
+    → IsLawfulIn i.table i.opening → (report : IsProvedReport (bench_for i s) s.lines bytes accepted)
+    → is_desk words.desk (slice_index_or s.desks desk []) ≡ true
+    → answers_at s (kept_for_classes words i s report.blocks) desk n ≡ true
+    → (list : List Numbered) × AllByRecursion (IsTrueRow i.table (kept_for_classes words i s report.blocks) list)
+    (rows s (kept_for_classes words i s report.blocks) n desk)
+
+-- ---- functions
+
+-- In a proved report each function in the answers to a line that is kept with what stood agrees with that, and that of a part decides
+-- its question.
+abbrev pub FunctionsAreTrue : Type 0
+FunctionsAreTrue = (i : Input) (s : Session) (bytes : List ℕ) (accepted : Accepted) (keep : List Keep)
+    → IsLawfulIn i.table i.opening → (report : IsProvedReport (bench_for i s) s.lines bytes accepted)
+    → AllByRecursion (AreMeantOfWhatStood i.table) (kept_from (bench_for i s) keep [] s.lines report.blocks)
+
+-- ---- what stands
 
 -- Where no line and no desk is meant, the roll of each desk that the page of what stands shows of a report that is proved has exactly
 -- what stands there when the session is over: each statement with its number, and as the line that it names states it.

@@ -1,5 +1,7 @@
 pub mod Changing
 pub mod Choosing
+pub mod Classing
+pub mod Functions
 pub mod Grounds
 pub mod Relations
 pub mod Standings

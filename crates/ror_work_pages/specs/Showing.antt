@@ -9,8 +9,10 @@ use Rattle.ror_bench.specs.Kept.{kept_from}
 use Rattle.ror_bench.specs.Reports.{IsProvedReport, IsAcceptedReport}
 use Rattle.ror_exports.specs.Csv.{csv_head}
 use Rattle.ror_change_pages.specs.Csv.{csv_head as changes_head}
+use Rattle.ror_class_pages.specs.Csv.{csv_head as classes_head}
+use Rattle.ror_functions.specs.Csv.{csv_head as functions_head}
 use Rattle.ror_show_words.specs.declared.table.Page.{Page}
-use Rattle.ror_show_words.specs.declared.table.Page.TheVariants.{Relation, Changes, Standing}
+use Rattle.ror_show_words.specs.declared.table.Page.TheVariants.{Relation, Changes, Classes, Standing, Functions}
 use Rattle.ror_show_words.specs.declared.words.Form.{Form}
 use Rattle.ror_show_words.specs.declared.words.Form.TheVariants.{Text, Csv}
 use Rattle.ror_show_words.specs.Words.{PageWords}
@@ -20,6 +22,8 @@ use Rattle.ror_frame.specs.Inputs.{bench_for, line_output, over_inputs}
 use Rattle.ror_work.specs.Checking.{RefusesReport}
 use Rattle.ror_work_pages.specs.Changing.{AreChanges}
 use Rattle.ror_work_pages.specs.Choosing.{keeps}
+use Rattle.ror_work_pages.specs.Classing.{classes_in}
+use Rattle.ror_work_pages.specs.Functions.{functions_in}
 use Rattle.ror_work_pages.specs.Grounds.{Ground, ground_in}
 use Rattle.ror_work_pages.specs.Relations.{AreSections}
 use Rattle.ror_work_pages.specs.Standings.{rolls_text}
@@ -30,19 +34,25 @@ use Rattle.ror_work_pages.specs.Standings.{rolls_text}
 abbrev pub IsBody : Page → PageWords → Ground → List KeptLine → List ℕ → Type 0
 IsBody Relation words g kept text = AreSections words.form g.table g.session kept text
 IsBody Changes words g kept text = AreChanges words.form g kept text
+IsBody Classes words g kept text = text ≡ classes_in words.form g kept
 IsBody Standing words g kept text = text ≡ rolls_text words g kept
+IsBody Functions words g kept text = text ≡ functions_in words.form g kept
 
 -- the names of the values that a page lists
 abbrev pub head_of : Page → List ℕ
 head_of Relation = csv_head
 head_of Changes = changes_head
-head_of _ = []
+head_of Classes = classes_head
+head_of Standing = []
+head_of Functions = functions_head
 
 -- what is said where there is nothing to show
 abbrev pub nothing_of : Page → List ℕ
 nothing_of Relation = codes "no relation is answered in these lines of the session\n"
-nothing_of Changes = codes "no relation is answered twice at a desk in these lines of the session\n"
+nothing_of Changes = codes "no relation is answered twice at a desk in these lines of the session, and no classes at two times\n"
+nothing_of Classes = codes "no classes are answered in these lines of the session\n"
 nothing_of Standing = codes "the session has no such desk\n"
+nothing_of Functions = codes "no question is answered in this line of the session\n"
 
 -- it with what stands before it, or what is said where it is nothing
 abbrev pub page_of : Page → Form → List ℕ → List ℕ

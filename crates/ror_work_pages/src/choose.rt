@@ -7,6 +7,7 @@ ghost use Rattle.ror_show_words.specs.Named.{page_words_of};
 ghost use Rattle.ror_work_pages.specs.Choosing as spec;
 
 use ror_bench::Keep;
+use ror_class_pages::keep_for;
 use ror_session::{Asked, Command, Line, Session};
 use ror_show_words::{Page, PageWords};
 use ror_text::Text;
@@ -45,11 +46,14 @@ fn keep_at_desk(page: Page, meant: Option<u32>, line: &Line) -> Keep
     ensures { result ≡ spec.keep_at_desk page meant line.now }
 {
     match page {
-        Page::Relation | Page::Changes => {
+        Page::Relation => {
             let is_meant = asks_relation(&line.command) && is_line(meant, line.number);
             keep_where(is_meant, Keep::Standing)
         }
+        Page::Changes => keep_for_changes(&line.command),
+        Page::Classes => keep_for(&line.command),
         Page::Standing => keep_where(is_up_to(meant, line.number), Keep::Block),
+        Page::Functions => keep_where(is_line(meant, line.number), Keep::Standing),
     }
 }
 
@@ -58,6 +62,16 @@ fn keep_where(is_meant: bool, keep: Keep) -> Keep
     ensures { result ≡ spec.keep_where is_meant keep }
 {
     if is_meant { keep } else { Keep::Nothing }
+}
+
+/// What is needed of both relations and classes.
+fn keep_for_changes(command: &Command) -> Keep
+    ensures { result ≡ spec.keep_for_changes command.now }
+{
+    match command {
+        Command::Ask(Asked::Relation) => Keep::Standing,
+        _ => keep_for(command),
+    }
 }
 
 fn asks_relation(command: &Command) -> bool

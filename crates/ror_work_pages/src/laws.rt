@@ -1,6 +1,6 @@
 //! Each function here states one law, for all reports, and does nothing.
 
-ghost use Rattle.ror_work_pages.specs.Laws.{OnePage, ShownIsTrue, StandingIsShown};
+ghost use Rattle.ror_work_pages.specs.Laws.{OnePage, ShownIsTrue, ClassesAreTrue, FunctionsAreTrue, StandingIsShown};
 
 /// A report has one page.
 pub fn one_page()
@@ -10,6 +10,17 @@ pub fn one_page()
 /// What is shown of a line is true of all value functions that are compatible with what stood there.
 pub fn shown_is_true()
     ensures { ShownIsTrue }
+{}
+
+/// At each time that the page of classes shows one list of statements stood, and each sign in its rows is true of all value
+/// functions that are compatible with that.
+pub fn classes_are_true()
+    ensures { ClassesAreTrue }
+{}
+
+/// Each function that is shown of a line agrees with what stood there, and that of a part decides its question.
+pub fn functions_are_true()
+    ensures { FunctionsAreTrue }
 {}
 
 /// What the page of what stands shows of each desk is what stands there.

@@ -13,6 +13,8 @@
 
 mod changing;
 mod choose;
+mod classing;
+mod functions;
 mod grounds;
 pub mod laws;
 mod page;

@@ -6,6 +6,8 @@ ghost use Rattle.ror_work_pages.specs.Grounds.{ground_of};
 ghost use Rattle.ror_work_pages.specs.Showing as spec;
 
 use crate::changing::changes_of;
+use crate::classing::classes_of;
+use crate::functions::functions_of;
 use crate::grounds::Ground;
 use crate::relation::sections_of;
 use crate::standing::rolls_of;
@@ -46,8 +48,10 @@ fn body_of(
 {
     match page {
         Page::Relation => sections_of(alloc, words.form, ground.table, ground.session, kept),
-        Page::Standing => rolls_of(alloc, words, ground, kept),
         Page::Changes => changes_of(alloc, words.form, ground, kept),
+        Page::Classes => classes_of(alloc, words.form, ground, kept),
+        Page::Standing => rolls_of(alloc, words, ground, kept),
+        Page::Functions => functions_of(alloc, words.form, ground, kept),
     }
 }
 
@@ -69,7 +73,9 @@ fn head_of(page: Page) -> &'static [u8]
     match page {
         Page::Relation => csv_head(),
         Page::Changes => ror_change_pages::csv_head(),
+        Page::Classes => ror_class_pages::csv_head(),
         Page::Standing => b"",
+        Page::Functions => ror_functions::csv_head(),
     }
 }
 
@@ -79,8 +85,11 @@ fn nothing_of(page: Page) -> &'static [u8]
 {
     match page {
         Page::Relation => b"no relation is answered in these lines of the session\n",
-        Page::Changes => b"no relation is answered twice at a desk in these lines of the session\n",
+        Page::Changes =>
+            b"no relation is answered twice at a desk in these lines of the session, and no classes at two times\n",
+        Page::Classes => b"no classes are answered in these lines of the session\n",
         Page::Standing => b"the session has no such desk\n",
+        Page::Functions => b"no question is answered in this line of the session\n",
     }
 }
 
