@@ -2,7 +2,7 @@
 #![tactic(auto)]
 
 use ror_host::{FileShelf, StreamSink};
-use ror_show_run::{Status, run};
+use ror_show_run::{KeepingShelf, Status, run};
 use std::alloc::AllocFailed;
 use std::env;
 use std::io::ErrorKind;
@@ -12,7 +12,7 @@ use std::rt::Env;
 fn main(rt: HostRuntime) -> ExitCode {
     let status = match given_words(&rt) {
         Ok(words) => {
-            let mut shelf = FileShelf::new(&rt);
+            let mut shelf = KeepingShelf::new(FileShelf::new(&rt));
             let mut out = StreamSink::new(rt.stdout());
             let mut err = StreamSink::new(rt.stderr());
             run(rt.alloc(), words.as_slice(), &mut shelf, &mut out, &mut err)

@@ -1,1 +1,2 @@
 pub mod ChoreLemmas
+pub mod Saying

@@ -5,11 +5,16 @@ use Rattle.ror_frame.specs.declared.status.Status.TheVariants as statuses
 use Rattle.ror_frame.specs.Courses.{Chore}
 use Rattle.ror_frame.specs.Statuses.{status_text}
 use Rattle.ror_show_words.specs.Commands.{usage_text}
-use Rattle.ror_show_words.specs.Words.{Asked}
+use Rattle.ror_show_words.specs.Words.{SheetWords, Asked, OfReport, OfFiles}
 use Rattle.ror_work_pages.specs.Showing.{show_chore}
+use Rattle.ror_work_sheet.specs.Sheets.{SheetNames, sheet_chore}
+
+abbrev pub names_in : SheetWords → SheetNames
+names_in words = record { table = words.table; session = words.session; best_first = words.best_first }
 
 abbrev pub chore_of : Asked → Chore
-chore_of asked = show_chore asked.page asked.words
+chore_of (OfReport page words) = show_chore page words
+chore_of (OfFiles words) = sheet_chore (names_in words)
 
 -- the line of a status, which is that of any program but where the words ask for nothing
 abbrev pub status_line : Status → List ℕ

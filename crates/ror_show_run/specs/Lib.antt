@@ -1,1 +1,2 @@
 pub mod Chores
+pub mod Saying

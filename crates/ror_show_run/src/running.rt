@@ -1,42 +1,88 @@
 //! A run, from its words to its status.
 
-ghost use Rattle.std.specs.Prelude.{◌≤◌, map};
+ghost use Rattle.std.specs.Prelude.{◌≡◌, ◌≤◌, map};
 ghost use Rattle.std.specs.String.{string_bytes};
 ghost use Rattle.ror_frame.specs.Courses.{IsWork};
 ghost use Rattle.ror_frame.specs.Printing.{Prints};
 ghost use Rattle.ror_frame.specs.States.{shelf_state, sink_state};
-ghost use Rattle.ror_runs.specs.Runs.{IsRunBy, Says};
+ghost use Rattle.ror_runs.specs.Runs.{IsRunBy};
 ghost use Rattle.ror_show_words.specs.Words.{asked};
 ghost use Rattle.ror_show_words.specs.Named.{asked_with};
 ghost use Rattle.ror_show_run.specs.Chores.{chore_of, status_line};
+ghost use Rattle.ror_show_run.specs.Saying.{Grows, SaysFirst, wants_help};
 
+use crate::helping::help_on;
+use crate::keeping::KeepingShelf;
 use ror_frame::{Status, Stop, write_status};
 use ror_io::{Shelf, Sink, SinkFault, write_all};
 use ror_show_words::{Asked, WordsFault, read_words, usage};
 use ror_work_pages::show_files;
+use ror_work_sheet::{SheetFiles, show_sheet};
 use std::alloc::Global;
 
-/// Writes the page that the words name, over files, standard output and standard error.
+/// Writes the page that the words name, over files, standard output and standard error. Behind the line of a status that says of a
+/// file or of the words that they are at fault stands what may help, by the bytes that were fetched: no file is fetched for that.
 pub fn run<F: Shelf, O: Sink, E: Sink>(
     alloc: Global,
     words: &[String],
-    shelf: &mut F,
+    shelf: &mut KeepingShelf<F>,
     out: &mut O,
     err: &mut E,
 ) -> Status
     ensures run { IsRunBy chore_of (asked (map string_bytes words.now))
-        (shelf_state (F.told shelf.old) (F.faults shelf.old) (F.fetch_count shelf.old))
-        (shelf_state (F.told shelf.new) (F.faults shelf.new) (F.fetch_count shelf.new))
+        (shelf_state (F.told shelf.old.shelf) (F.faults shelf.old.shelf) (F.fetch_count shelf.old.shelf))
+        (shelf_state (F.told shelf.new.shelf) (F.faults shelf.new.shelf) (F.fetch_count shelf.new.shelf))
         (sink_state (O.written out.old) (O.faults out.old))
         (sink_state (O.written out.new) (O.faults out.new)) result }
     ensures err_never_falls { E.faults err.old ≤ E.faults err.new }
-    ensures errors { Says (E.faults err.old) (E.faults err.new)
-        (E.written err.old) (E.written err.new) (status_line result) }
+    ensures errors { SaysFirst result (E.faults err.old) (E.faults err.new) (E.written err.old) (E.written err.new) }
 {
     let status = status_of(alloc, words, shelf, out);
-    // What fails there changes no status.
-    let _ = write_line(err, &status);
+    say(alloc, words, &status, shelf.kept(), shelf.fetches(), err);
     status
+}
+
+/// Writes the line of a status, and what may help behind it. What fails there changes no status.
+fn say<E: Sink>(
+    alloc: Global,
+    words: &[String],
+    status: &Status,
+    kept: Option<&[u8]>,
+    fetches: usize,
+    err: &mut E,
+)
+    ensures err_never_falls { E.faults err.old ≤ E.faults err.new }
+    ensures errors { SaysFirst status.now (E.faults err.old) (E.faults err.new) (E.written err.old) (E.written err.new) }
+{
+    let Ok(()) = write_line(err, status) else {
+        return;
+    };
+    if wants_help(status) {
+        let helps = help_on(alloc, words, status, kept, fetches);
+        write_help(err, helps.as_slice());
+    }
+}
+
+/// Writes what may help.
+fn write_help<E: Sink>(err: &mut E, helps: &[u8])
+    ensures err_never_falls { E.faults err.old ≤ E.faults err.new }
+    ensures grows { Grows (E.written err.old) (E.written err.new) }
+{
+    let _ = write_all(err, helps);
+}
+
+/// Whether anything helps.
+fn wants_help(status: &Status) -> bool
+    ensures { result ≡ wants_help status.now }
+{
+    matches!(
+        status,
+        Status::Usage
+            | Status::BadTable(_)
+            | Status::BadSession(_)
+            | Status::Rejected(_)
+            | Status::ReadFault
+    )
 }
 
 /// The status of a run, whose output is written.
@@ -72,7 +118,17 @@ fn work_on<F: Shelf, O: Sink>(
         (sink_state (O.written out.old) (O.faults out.old))
         (sink_state (O.written out.new) (O.faults out.new)) result }
 {
-    show_files(alloc, asked.page, &asked.words, shelf, out)
+    match asked {
+        Asked::OfReport(page, words) => show_files(alloc, *page, words, shelf, out),
+        Asked::OfFiles(words) => {
+            let files = SheetFiles {
+                table: words.table,
+                session: words.session,
+                best_first: words.best_first,
+            };
+            show_sheet(alloc, &files, shelf, out)
+        }
+    }
 }
 
 /// Writes the line of the status. To write it takes no memory.

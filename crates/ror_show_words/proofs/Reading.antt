@@ -5,7 +5,7 @@ use Rattle.clap.specs.declared.error.kind.ErrorKind.{ErrorKind}
 use Rattle.clap.specs.declared.parser.matches.Found.{Found}
 use Rattle.clap.proofs.OnLiterals.{clap_on_literals}
 use Rattle.clap.proofs.WalkLemmas.{first_value-rows}
-use Rattle.ror_show_words.specs.Words.{named_app, page_app, words_of, given_in}
+use Rattle.ror_show_words.specs.Words.{named_app, page_app, words_of, given_in, sheet_app, sheet_words_of, sheet_in}
 
 pub simple : is_simple page_app ≡ true
 unfolding page_app named_app clap_on_literals
@@ -33,3 +33,25 @@ some_kind k (x ∷ xs) among = grind arith
 pub refused : (words : List Text) (k : ErrorKind) → IsAmong k (fault_of page_app words) → given_in words ≡ None
 unfolding given_in
 refused words k among = rw (some_kind k (fault_of page_app words) among) refl
+
+-- ---- the same of the page of what was read
+
+pub sheet-simple : is_simple sheet_app ≡ true
+unfolding sheet_app clap_on_literals
+sheet-simple = refl
+
+pub sheet-free : is_simple_and_free sheet_app ≡ true
+unfolding sheet_app clap_on_literals
+sheet-free = refl
+
+same_names : (f g : Text → Option Text) → ((id : Text) → f id ≡ g id) → sheet_words_of f ≡ sheet_words_of g
+same_names f g same = rw (same (codes "TABLE"), same (codes "SESSION"), same (codes "best-first")) refl
+
+pub sheet-taken : (words : List Text) (found : Found) → fault_of sheet_app words ≡ [] → rows_of found ≡ matches_of sheet_app words → sheet_words_of (first_value found) ≡ sheet_in words
+unfolding sheet_in
+sheet-taken words found none same =
+    rw none (same_names (first_value found) (λ id. first_of id (matches_of sheet_app words)) (λ id. first_value-rows found id ∙ ap (first_of id) same))
+
+pub sheet-refused : (words : List Text) (k : ErrorKind) → IsAmong k (fault_of sheet_app words) → sheet_in words ≡ None
+unfolding sheet_in
+sheet-refused words k among = rw (some_kind k (fault_of sheet_app words) among) refl

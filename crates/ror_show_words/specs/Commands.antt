@@ -4,25 +4,28 @@ use Rattle.std.specs.List.{find}
 use Rattle.std.specs.Str.{bytes_eq}
 use Rattle.ror_show_words.specs.declared.table.Page.{Page}
 use Rattle.ror_show_words.specs.declared.table.Page.TheVariants.{Relation, Changes, Classes, Standing, Functions}
+use Rattle.ror_show_words.specs.declared.table.Shown.{Shown}
+use Rattle.ror_show_words.specs.declared.table.Shown.TheVariants.{Report, Sheet}
 use Rattle.ror_show_words.specs.declared.words.Form.{Form}
 use Rattle.ror_show_words.specs.declared.words.Form.TheVariants.{Text, Csv, Dot}
 
--- A row of it: the page, and the word that asks for it. All pages take the same names.
+-- a row of it: what is shown, and the word that asks for it
 pub record Row : Type 0 where
-  pub page : Page
+  pub shown : Shown
   pub word : List ℕ
 
-abbrev pub row : Page → List ℕ → Row
-row page word = record { page = page; word = word }
+abbrev pub row : Shown → List ℕ → Row
+row shown word = record { shown = shown; word = word }
 
 abbrev pub table : List Row
-table = row Relation (codes "relation") ∷ row Changes (codes "changes") ∷ row Classes (codes "classes")
-    ∷ row Standing (codes "standing") ∷ row Functions (codes "functions") ∷ []
+table = row Sheet (codes "read") ∷ row (Report Relation) (codes "relation") ∷ row (Report Changes) (codes "changes")
+    ∷ row (Report Classes) (codes "classes") ∷ row (Report Standing) (codes "standing")
+    ∷ row (Report Functions) (codes "functions") ∷ []
 
 abbrev pub row_for : List ℕ → Option Row
 row_for word = find (λ row. bytes_eq row.word word) table
 
--- ---- the options that not all of them take
+-- ---- what a page of a report takes
 
 -- it may be of one line
 abbrev pub takes_line : Page → Bool
@@ -55,9 +58,13 @@ form_usage Relation = codes " [--as text|csv|dot]"
 form_usage Standing = []
 form_usage _ = codes " [--as text|csv]"
 
+-- the names and options
+abbrev pub shown_usage : Shown → List ℕ
+shown_usage Sheet = codes " TABLE [SESSION] [--best-first]"
+shown_usage (Report page) = codes " TABLE SESSION REPORT [--best-first] [--desk NAME]" ++ line_usage page ++ form_usage page
+
 abbrev pub row_usage : Row → List ℕ
-row_usage row = codes "ror_show " ++ row.word ++ codes " TABLE SESSION REPORT [--best-first] [--desk NAME]"
-    ++ line_usage row.page ++ form_usage row.page
+row_usage row = codes "ror_show " ++ row.word ++ shown_usage row.shown
 
 -- the pages of the table, with bars between
 abbrev pub rows_usage : List Row → List ℕ

@@ -1,13 +1,15 @@
 -- What words ask for, as values.
 use Rattle.std.specs.Prelude.{option_map}
 use Rattle.ror_show_words.specs.declared.table.Row as rows
-use Rattle.ror_show_words.specs.declared.words.Asked as asked
+use Rattle.ror_show_words.specs.declared.words.Asked as given
+use Rattle.ror_show_words.specs.declared.words.Asked.TheVariants as asked
 use Rattle.ror_show_words.specs.declared.words.PageWords as words
+use Rattle.ror_show_words.specs.declared.words.SheetWords as sheets
 use Rattle.ror_show_words.specs.Commands.{Row}
-use Rattle.ror_show_words.specs.Words.{PageWords, Asked}
+use Rattle.ror_show_words.specs.Words.{PageWords, SheetWords, Asked, OfReport, OfFiles}
 
 abbrev pub row_with : rows.Row → Row
-row_with row = record { page = row.page; word = row.word.now }
+row_with row = record { shown = row.shown; word = row.word.now }
 
 abbrev pub page_words_of : words.PageWords → PageWords
 page_words_of given = record {
@@ -20,5 +22,13 @@ page_words_of given = record {
   form = given.form;
 }
 
-abbrev pub asked_with : asked.Asked → Asked
-asked_with a = record { page = a.page; words = page_words_of a.words }
+abbrev pub sheet_words_of : sheets.SheetWords → SheetWords
+sheet_words_of given = record {
+  table = given.table.now;
+  session = option_map (λ name. name.now) given.session;
+  best_first = given.best_first;
+}
+
+abbrev pub asked_with : given.Asked → Asked
+asked_with (asked.OfReport page words) = OfReport page (page_words_of words)
+asked_with (asked.OfFiles words) = OfFiles (sheet_words_of words)

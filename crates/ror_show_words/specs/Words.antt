@@ -10,15 +10,20 @@ use Rattle.ror_text.specs.Numbers.{count_of}
 use Rattle.ror_show_words.specs.declared.table.Page.{Page}
 use Rattle.ror_show_words.specs.declared.words.Form.{Form}
 use Rattle.ror_show_words.specs.declared.words.Form.TheVariants as forms
+use Rattle.ror_show_words.specs.declared.table.Shown.{Shown}
+use Rattle.ror_show_words.specs.declared.table.Shown.TheVariants.{Report, Sheet}
 use Rattle.ror_show_words.specs.Commands.{row_for, takes_line, needs_line, has_form}
 
 -- ---- what a page takes
 
--- three names, each of which it needs
+-- a name that it needs
 abbrev pub name_rule : Text → Rule
 name_rule id = record (new_rule id) { required = true }
 
--- an option with a value; without one
+-- a name that it doesn't need; an option with a value; without one
+abbrev pub spare_rule : Text → Rule
+spare_rule id = new_rule id
+
 abbrev pub option_rule : Text → Rule
 option_rule id = record (new_rule id) { long = Some id }
 
@@ -41,6 +46,11 @@ unfoldable pub page_app : App
 page_app = with_rule (with_rule (with_rule (with_rule named_app (flag_rule (codes "best-first")))
     (option_rule (codes "line"))) (option_rule (codes "desk"))) (option_rule (codes "as"))
 
+-- the page of what was read has the names of two files, of which it needs the first
+unfoldable pub sheet_app : App
+sheet_app = with_rule (with_rule (with_rule bare_app (name_rule (codes "TABLE"))) (spare_rule (codes "SESSION")))
+    (flag_rule (codes "best-first"))
+
 -- ---- what words give
 
 -- The names of the files; whether the ranks of the table's categories begin with the best one; the line and the desk that are
@@ -54,10 +64,16 @@ pub record PageWords : Type 0 where
   pub desk : Option (List ℕ)
   pub form : Form
 
--- what the words ask for
-pub record Asked : Type 0 where
-  pub page : Page
-  pub words : PageWords
+-- the name of the table's file, and that of a session's, where it is given
+pub record SheetWords : Type 0 where
+  pub table : List ℕ
+  pub session : Option (List ℕ)
+  pub best_first : Bool
+
+-- what words ask for: a page of a report, or what was read of files
+pub data Asked : Type 0 where
+  OfReport : Page → PageWords → Asked
+  OfFiles : SheetWords → Asked
 
 -- the number of a line has 1 to 9 digits, and isn't 0
 abbrev pub line_of : List ℕ → Option ℕ
@@ -77,6 +93,9 @@ abbrev pub if_given : {A : Type 0} → (List ℕ → Option A) → Option (List 
 if_given read None = Some None
 if_given read (Some word) = option_map Some (read word)
 
+abbrev pub is_given : Option (List ℕ) → Bool
+is_given found = option_map_or (λ word. bytes_eq word (codes "true")) found false
+
 -- What is found for each name and option; None where a name isn't, or the value of `--line` is no number of a line, or that of
 -- `--as` no form.
 abbrev pub words_of : (Text → Option Text) → Option PageWords
@@ -86,7 +105,7 @@ words_of found =
       table = table;
       session = session;
       report = report;
-      best_first = option_map_or (λ word. bytes_eq word (codes "true")) (found (codes "best-first")) false;
+      best_first = is_given (found (codes "best-first"));
       line = line;
       desk = found (codes "desk");
       form = unwrap_or form forms.Text;
@@ -94,10 +113,22 @@ words_of found =
     (if_given line_of (found (codes "line"))))
     (found (codes "REPORT"))) (found (codes "SESSION"))) (found (codes "TABLE"))
 
+-- the same of the page of what was read
+abbrev pub sheet_words_of : (Text → Option Text) → Option SheetWords
+sheet_words_of found = option_map (λ table. record {
+  table = table;
+  session = found (codes "SESSION");
+  best_first = is_given (found (codes "best-first"));
+}) (found (codes "TABLE"))
+
 -- What stands after the word of a page gives: what is found in it, where the command takes it, which is where it has no fault.
 unfoldable pub given_in : List (List ℕ) → Option PageWords
 given_in words = if length (fault_of page_app words) == 0
     then words_of (λ id. first_of id (matches_of page_app words)) else None
+
+unfoldable pub sheet_in : List (List ℕ) → Option SheetWords
+sheet_in words = if length (fault_of sheet_app words) == 0
+    then sheet_words_of (λ id. first_of id (matches_of sheet_app words)) else None
 
 -- the page may be of this line, or of no one line
 abbrev pub fits_line : Page → Option ℕ → Bool
@@ -108,11 +139,14 @@ fits_line page (Some line) = takes_line page
 abbrev pub fits : Page → PageWords → Bool
 fits page words = fits_line page words.line && has_form page words.form
 
-abbrev pub asked_of : Page → PageWords → Option Asked
-asked_of page words = if fits page words then Some (record { page = page; words = words }) else None
+abbrev pub of_report : Page → PageWords → Option Asked
+of_report page words = if fits page words then Some (OfReport page words) else None
+
+abbrev pub asked_by : Shown → List (List ℕ) → Option Asked
+asked_by (Report page) words = option_and_then (of_report page) (given_in words)
+asked_by Sheet words = option_map OfFiles (sheet_in words)
 
 -- None of words that ask for nothing
 unfoldable pub asked : List (List ℕ) → Option Asked
 asked [] = None
-asked (word ∷ words) =
-    option_and_then (λ row. option_and_then (asked_of row.page) (given_in words)) (row_for word)
+asked (word ∷ words) = option_and_then (λ row. asked_by row.shown words) (row_for word)

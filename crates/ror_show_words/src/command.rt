@@ -2,7 +2,7 @@
 
 ghost use Rattle.std.specs.Prelude.{◌≡◌, IfOk};
 ghost use Rattle.clap.specs.Words.{app_of, with_rule};
-ghost use Rattle.ror_show_words.specs.Words.{name_rule, option_rule, flag_rule, bare_app, named_app, page_app};
+ghost use Rattle.ror_show_words.specs.Words.{name_rule, spare_rule, option_rule, flag_rule, bare_app, named_app, page_app, sheet_app};
 
 use clap::{Arg, ArgAction, Command};
 use std::alloc::{AllocError, Global};
@@ -16,6 +16,16 @@ pub(crate) fn page_command<'a>(alloc: Global) -> Result<Command<'a>, AllocError>
     let command = with_option(alloc, command, "line")?;
     let command = with_option(alloc, command, "desk")?;
     with_option(alloc, command, "as")
+}
+
+/// The names and options after the word of the page of what was read.
+#[tactic(auto, unfolding(crate::specs::Words::sheet_app))]
+pub(crate) fn sheet_command<'a>(alloc: Global) -> Result<Command<'a>, AllocError>
+    ensures { IfOk result (λ c. app_of c ≡ sheet_app) }
+{
+    let command = with_name(alloc, bare_command(alloc), "TABLE")?;
+    let command = with_spare_name(alloc, command, "SESSION")?;
+    with_flag(alloc, command, "best-first")
 }
 
 /// A command with the names of the three files.
@@ -47,6 +57,17 @@ fn with_name<'a>(
     ensures { IfOk result (λ c. app_of c ≡ with_rule (app_of command.entry) (name_rule id.entry.now)) }
 {
     command.arg(Arg::new(alloc, id).required(true))
+}
+
+/// The command with one more name, which may be left out.
+fn with_spare_name<'a>(
+    alloc: Global,
+    command: Command<'a>,
+    id: &'a str,
+) -> Result<Command<'a>, AllocError>
+    ensures { IfOk result (λ c. app_of c ≡ with_rule (app_of command.entry) (spare_rule id.entry.now)) }
+{
+    command.arg(Arg::new(alloc, id))
 }
 
 /// The command with an option that has a value.

@@ -22,34 +22,46 @@ pub enum Page {
     Functions,
 }
 
+/// What is shown.
+#[derive(Clone, Copy, Debug)]
+pub(crate) enum Shown {
+    /// A page of a report.
+    Report(Page),
+    /// What was read of a table, and of a session.
+    Sheet,
+}
+
 /// A row of the table of pages.
 #[derive(Clone, Copy, Debug)]
 pub(crate) struct Row {
-    pub(crate) page: Page,
+    pub(crate) shown: Shown,
     /// The word that asks for it.
     pub(crate) word: &'static str,
 }
 
-/// The pages, all of which take the same names.
-const TABLE: [Row; 5] = [
+const TABLE: [Row; 6] = [
     Row {
-        page: Page::Relation,
+        shown: Shown::Sheet,
+        word: "read",
+    },
+    Row {
+        shown: Shown::Report(Page::Relation),
         word: "relation",
     },
     Row {
-        page: Page::Changes,
+        shown: Shown::Report(Page::Changes),
         word: "changes",
     },
     Row {
-        page: Page::Classes,
+        shown: Shown::Report(Page::Classes),
         word: "classes",
     },
     Row {
-        page: Page::Standing,
+        shown: Shown::Report(Page::Standing),
         word: "standing",
     },
     Row {
-        page: Page::Functions,
+        shown: Shown::Report(Page::Functions),
         word: "functions",
     },
 ];
@@ -58,7 +70,7 @@ const TABLE: [Row; 5] = [
 pub fn usage() -> &'static str
     ensures { result.now ≡ usage_text }
 {
-    "usage: ror_show relation TABLE SESSION REPORT [--best-first] [--desk NAME] [--line N] [--as text|csv|dot] | ror_show changes TABLE SESSION REPORT [--best-first] [--desk NAME] [--as text|csv] | ror_show classes TABLE SESSION REPORT [--best-first] [--desk NAME] [--as text|csv] | ror_show standing TABLE SESSION REPORT [--best-first] [--desk NAME] [--line N] | ror_show functions TABLE SESSION REPORT [--best-first] [--desk NAME] --line N [--as text|csv]\n"
+    "usage: ror_show read TABLE [SESSION] [--best-first] | ror_show relation TABLE SESSION REPORT [--best-first] [--desk NAME] [--line N] [--as text|csv|dot] | ror_show changes TABLE SESSION REPORT [--best-first] [--desk NAME] [--as text|csv] | ror_show classes TABLE SESSION REPORT [--best-first] [--desk NAME] [--as text|csv] | ror_show standing TABLE SESSION REPORT [--best-first] [--desk NAME] [--line N] | ror_show functions TABLE SESSION REPORT [--best-first] [--desk NAME] --line N [--as text|csv]\n"
 }
 
 /// The row of the page with this word.

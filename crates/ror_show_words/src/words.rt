@@ -5,13 +5,16 @@ ghost use Rattle.std.specs.Option.{option_map};
 ghost use Rattle.std.specs.String.{string_bytes};
 ghost use Rattle.clap.specs.declared.error.kind.ErrorKind.TheVariants.{OutOfMemory};
 ghost use Rattle.clap.specs.Words.{found_of, first_value, kind_of};
+ghost use Rattle.ror_show_words.specs.declared.table.Shown.TheVariants.{Report};
 ghost use Rattle.ror_show_words.specs.Commands.{has_form};
-ghost use Rattle.ror_show_words.specs.Words.{line_of, form_of, if_given, words_of, given_in, fits_line, fits, asked_of, asked};
+ghost use Rattle.ror_show_words.specs.Words as spec;
+ghost use Rattle.ror_show_words.specs.Words.{line_of, form_of, if_given, words_of, given_in, sheet_in, fits_line, fits, asked_by, asked};
+ghost use Rattle.ror_show_words.specs.Named as named;
 ghost use Rattle.ror_show_words.specs.Named.{page_words_of, asked_with};
 ghost use Rattle.ror_show_words.specs.declared.words.WordsFault.TheVariants.{Unknown};
 
-use crate::command::page_command;
-use crate::table::{Page, row_for};
+use crate::command::{page_command, sheet_command};
+use crate::table::{Page, Shown, row_for};
 use clap::error::ErrorKind;
 use clap::{ArgMatches, Error};
 use ror_text::numbers::read_count;
@@ -48,11 +51,24 @@ pub struct PageWords<'a> {
     pub form: Form,
 }
 
+/// The names of the page of what was read.
+#[derive(Debug, Drop)]
+pub struct SheetWords<'a> {
+    /// The file with the table.
+    pub table: &'a str,
+    /// The file with a session, where there is one.
+    pub session: Option<&'a str>,
+    /// Whether the ranks of the table's categories begin with the best one.
+    pub best_first: bool,
+}
+
 /// What words ask for.
 #[derive(Debug, Drop)]
-pub struct Asked<'a> {
-    pub page: Page,
-    pub words: PageWords<'a>,
+pub enum Asked<'a> {
+    /// A page of a report.
+    OfReport(Page, PageWords<'a>),
+    /// What was read of files.
+    OfFiles(SheetWords<'a>),
 }
 
 /// Why words ask for nothing.
@@ -90,18 +106,22 @@ pub fn read_words(alloc: Global, words: &[String]) -> Result<Asked<'_>, WordsFau
     let Some(row) = row_for(word) else {
         return Err(WordsFault::Unknown);
     };
-    let words = page_words(alloc, rest)?;
-    asked_of(row.page, words).ok_or(WordsFault::Unknown)
+    match row.shown {
+        Shown::Report(page) => report_asked(alloc, page, rest),
+        Shown::Sheet => Ok(Asked::OfFiles(sheet_words(alloc, rest)?)),
+    }
 }
 
-/// What the names and options ask for, where the page takes them.
-fn asked_of(page: Page, words: PageWords<'_>) -> Option<Asked<'_>>
-    ensures { option_map asked_with result ≡ asked_of page (page_words_of words.entry) }
+/// What the words after that of a page of a report ask for.
+fn report_asked(alloc: Global, page: Page, words: &[String]) -> Result<Asked<'_>, WordsFault>
+    ensures { MatchResult result (λ a. asked_by (Report page) (map string_bytes words.now) ≡ Some (asked_with a))
+        (λ e. e ≡ Unknown → asked_by (Report page) (map string_bytes words.now) ≡ None) }
 {
+    let words = page_words(alloc, words)?;
     if !fits(page, &words) {
-        return None;
+        return Err(WordsFault::Unknown);
     }
-    Some(Asked { page, words })
+    Ok(Asked::OfReport(page, words))
 }
 
 /// Whether the page takes these.
@@ -130,6 +150,29 @@ fn has_form(page: Page, form: Form) -> bool
         Form::Csv => !matches!(page, Page::Standing),
         Form::Dot => matches!(page, Page::Relation),
     }
+}
+
+/// What the words after that of the page of what was read give.
+#[tactic(auto, unfolding(crate::specs::Words::sheet_in))]
+fn sheet_words(alloc: Global, words: &[String]) -> Result<SheetWords<'_>, WordsFault>
+    ensures { MatchResult result (λ w. sheet_in (map string_bytes words.now) ≡ Some (named.sheet_words_of w))
+        (λ e. e ≡ Unknown → sheet_in (map string_bytes words.now) ≡ None) }
+{
+    match sheet_command(alloc)?.try_get_matches_from(words) {
+        Ok(matches) => sheet_words_found(&matches).ok_or(WordsFault::Unknown),
+        Err(error) => Err(fault_with(&error)),
+    }
+}
+
+/// What was found.
+fn sheet_words_found<'w>(matches: &ArgMatches<'w>) -> Option<SheetWords<'w>>
+    ensures { option_map named.sheet_words_of result ≡ spec.sheet_words_of (first_value (found_of matches.now)) }
+{
+    Some(SheetWords {
+        table: matches.get_str("TABLE")?,
+        session: matches.get_str("SESSION"),
+        best_first: matches.get_str("best-first") == Some("true"),
+    })
 }
 
 /// What the words after that of a page give.

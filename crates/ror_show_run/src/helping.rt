@@ -1,0 +1,119 @@
+//! What helps where a run came to no page, by its status and the file that it fetched last.
+
+use ror_advice::{
+    File, ReportFault, missing_advice, report_advice, session_advice, table_advice, usage_advice,
+};
+use ror_bench::{Reason, Rejection};
+use ror_frame::Status;
+use ror_show_words::{Asked, read_words, usage};
+use std::alloc::{AllocError, Global};
+
+/// The names of the files that words ask for, in the order in which they are fetched; empty ones behind the last.
+#[derive(Clone, Copy)]
+struct Names<'a> {
+    table: &'a str,
+    session: &'a str,
+    report: &'a str,
+}
+
+/// What helps, by the bytes of the file that was fetched last; nothing where nothing does, or where memory is wanting.
+pub(crate) fn help_on(
+    alloc: Global,
+    words: &[String],
+    status: &Status,
+    kept: Option<&[u8]>,
+    fetches: usize,
+) -> Vec<u8> {
+    let helps = match read_words(alloc, words) {
+        Ok(asked) => advice_on(alloc, &names_of(&asked), status, kept, fetches),
+        Err(_) => usage_advice(alloc, usage(), words),
+    };
+    match helps {
+        Ok(text) => text,
+        Err(_) => Vec::new(alloc),
+    }
+}
+
+fn names_of<'a>(asked: &Asked<'a>) -> Names<'a> {
+    match asked {
+        Asked::OfReport(_, words) => Names {
+            table: words.table,
+            session: words.session,
+            report: words.report,
+        },
+        Asked::OfFiles(words) => Names {
+            table: words.table,
+            session: words.session.unwrap_or(""),
+            report: "",
+        },
+    }
+}
+
+/// What helps where the words name files.
+fn advice_on(
+    alloc: Global,
+    names: &Names<'_>,
+    status: &Status,
+    kept: Option<&[u8]>,
+    fetches: usize,
+) -> Result<Vec<u8>, AllocError> {
+    if matches!(status, Status::ReadFault) {
+        return missing_advice(alloc, name_at(names, fetches));
+    }
+    match kept {
+        Some(bytes) => file_advice(alloc, names, status, bytes),
+        None => Ok(Vec::new(alloc)),
+    }
+}
+
+/// The name of the file that was fetched last.
+fn name_at<'a>(names: &Names<'a>, fetches: usize) -> &'a str {
+    match fetches {
+        0 | 1 => names.table,
+        2 => names.session,
+        _ => names.report,
+    }
+}
+
+/// What helps against the file that was fetched last.
+fn file_advice(
+    alloc: Global,
+    names: &Names<'_>,
+    status: &Status,
+    bytes: &[u8],
+) -> Result<Vec<u8>, AllocError> {
+    match status {
+        Status::BadTable(fault) => {
+            let file = File {
+                name: names.table,
+                bytes,
+            };
+            table_advice(alloc, file, *fault)
+        }
+        Status::BadSession(fault) => {
+            let file = File {
+                name: names.session,
+                bytes,
+            };
+            session_advice(alloc, file, fault)
+        }
+        Status::Rejected(rejection) => {
+            let file = File {
+                name: names.report,
+                bytes,
+            };
+            report_advice(alloc, file, fault_of(rejection))
+        }
+        _ => Ok(Vec::new(alloc)),
+    }
+}
+
+/// What is at fault in a report, as the advice takes it.
+fn fault_of(rejection: &Rejection) -> ReportFault {
+    match rejection.reason {
+        Reason::NotUtf8 => ReportFault::NotUtf8,
+        Reason::TooLong => ReportFault::TooLong,
+        Reason::BadLine(line) | Reason::BadNumber(line) => ReportFault::Line(line),
+        _ => ReportFault::Block,
+    }
+}
