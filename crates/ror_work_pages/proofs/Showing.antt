@@ -1,5 +1,5 @@
 -- A page is written of what a check accepts, and files lead to one.
-use Rattle.std.proofs.Common.{◌≡◌, ℕ, ◌≤◌, List, [], ◌∷◌, ◌++◌, length, refl, sym, ap, subst, ◌∙◌}
+use Rattle.std.proofs.Common.{◌≡◌, ℕ, ◌+◌, ◌≤◌, List, [], ◌∷◌, ◌++◌, length, Ok, Err, false, inl, inr, refl, sym, ap, subst, ◌∙◌}
 use Rattle.ror_table.specs.Table.{IsTable}
 use Rattle.ror_value.specs.declared.input.Input.{Input}
 use Rattle.ror_value.specs.Over.{IsLawfulIn}
@@ -19,16 +19,23 @@ use Rattle.ror_bench.proofs.SameLemmas.{then_same, proved_same}
 use Rattle.ror_bench.proofs.Truth.{report_true}
 use Rattle.ror_show_words.specs.declared.table.Page.{Page}
 use Rattle.ror_show_words.specs.Words.{PageWords}
-use Rattle.ror_frame.specs.Courses.{finish, fetch}
-use Rattle.ror_frame.specs.Inputs.{bench_for}
-use Rattle.ror_frame.proofs.CourseLemmas.{IsDecided}
+use Rattle.ror_frame.specs.declared.stop.Stop.TheVariants as stops
+use Rattle.std.specs.declared.vec.Vec.{Vec}
+use Rattle.ror_frame.specs.declared.stop.Refusal.{Refusal}
+use Rattle.ror_frame.specs.Courses.{Course, fetch, IsFetch, IsWhole, IsWork, WritesDue}
+use Rattle.ror_frame.specs.States.{ShelfState, SinkState}
+use Rattle.ror_frame.specs.Stops.{FilePlace, Outcome}
+use Rattle.ror_frame.specs.Inputs.{bench_for, line_output}
+use Rattle.ror_frame.proofs.CourseLemmas.{IsDecided, went_on}
 use Rattle.ror_frame.proofs.Desks.{lawful_desks}
-use Rattle.ror_frame.proofs.InputLemmas.{decided_inputs}
+use Rattle.ror_work_sheet.proofs.Sheets.{one_table, one_session}
 use Rattle.ror_work.specs.Checking.{RefusesReport}
 use Rattle.ror_work.proofs.Judging.{rejection_or_proof, one_refusal}
 use Rattle.ror_work_pages.specs.Choosing.{keeps}
 use Rattle.ror_work_pages.specs.Grounds.{Ground, ground_in}
-use Rattle.ror_work_pages.specs.Showing.{IsPage, ReadsPage, page_output, names_in, show_chore}
+use Rattle.ror_work_pages.specs.Showing.{IsPage, ReadsPage, report_course, session_course, show_chore}
+use Rattle.ror_work_pages.specs.Shown.{IsShown, shown_output}
+use Rattle.ror_show_words.specs.declared.words.Form.{Form}
 use Rattle.ror_work_pages.proofs.OnePage.{one_page}
 
 -- benches that hold the same keep the same lines
@@ -64,7 +71,45 @@ pub report_holds : (page : Page) (words : PageWords) (i : Input) (s : Session) (
 report_holds page words i s bytes text lawful reads =
     (reads.accepted, record { proved = reads.report; blocks_true = report_true (bench_for i s) s.lines bytes reads.accepted (lawful_desks i (length s.desks) lawful) reads.report })
 
+one_report : (page : Page) (words : PageWords) (file : List ℕ) (i : Input) (s : Session) → IsTable i.table → IsDecided (report_course page words file i s)
+one_report page words file i s is_table = λ bytes.
+    ((λ x y p q. one_page page words i s bytes x y is_table p q), (λ q r a b. one_refusal i s bytes q r a b), (λ x r p a. rejection_or_proof (bench_for i s) s.lines bytes a.0 p.accepted is_table a.2 p.within p.report), λ x p. tt)
+
+decided_after : (page : Page) (words : PageWords) (file : List ℕ) (i : Input) → IsTable i.table → IsDecided (session_course page words file i)
+decided_after page words file i is_table = λ session. ((λ s u p q. cc), (λ q r a b. one_session session q r a b), (λ s r p a. let q = a.2 in cc), λ s read. one_report page words file i s is_table)
+
+-- files lead to one page, or to one refusal
 pub decided_page : (page : Page) (words : PageWords) → IsDecided (show_chore page words).course
-decided_page page words = decided_inputs (names_in words) (λ i s. fetch (List ℕ) words.report (ReadsPage page words i s) (RefusesReport i s) (λ bytes text. finish (page_output page words i s bytes text))) (λ table i s read bytes.
-    let is_table = input_table table words.best_first i read in
-    ((λ x y p q. one_page page words i s bytes x y is_table p q), (λ q r a b. one_refusal i s bytes q r a b), (λ x r p a. rejection_or_proof (bench_for i s) s.lines bytes a.0 p.accepted is_table a.2 p.within p.report), λ x p. tt))
+decided_page page words = λ table. ((λ i j p q. cc), (λ q r a b. one_table words.best_first table q r a b), (λ i r p a. let q = a.2 in cc), λ i read. decided_after page words table i (input_table table words.best_first i read))
+
+-- what is shown is written, and nothing of it is too wide
+pub shown_due : (form : Form) (file page text : List ℕ) (old new : SinkState) (outcome : Outcome) → IsShown form file page text → WritesDue (line_output false text (Unit {0})) old new outcome → WritesDue (shown_output form file page (Unit {0})) old new outcome
+shown_due form file page text old new (Ok wide) is due = (due.0, due.1, due.2, (due.3.0, subst (IsShown form file page) (sym due.3.1) is, tt), due.4)
+shown_due form file page text old new (Err (stops.At r)) is due = due
+shown_due form file page text old new (Err stops.ReadFault) is due = due
+shown_due form file page text old new (Err stops.WriteFault) is due = (due.0, due.1, due.2, subst (IsShown form file page) (sym due.3) is, due.4)
+shown_due form file page text old new (Err stops.Memory) is (inl same) = inl same
+shown_due form file page text old new (Err stops.Memory) is (inr due) = absurd (let p = due.1 in cc)
+
+-- and where this holds, it does so where all is written
+pub shown_holds : (form : Form) (file page : List ℕ) (Holds : Type 0) (old new : SinkState) (outcome : Outcome) → Holds → WritesDue (shown_output form file page (Unit {0})) old new outcome → WritesDue (shown_output form file page Holds) old new outcome
+shown_holds form file page Holds old new (Ok wide) holds due = (due.0, due.1, due.2, (due.3.0, due.3.1, holds), due.4)
+shown_holds form file page Holds old new (Err (stops.At r)) holds due = due
+shown_holds form file page Holds old new (Err stops.ReadFault) holds due = due
+shown_holds form file page Holds old new (Err stops.WriteFault) holds due = due
+shown_holds form file page Holds old new (Err stops.Memory) holds (inl same) = inl same
+shown_holds form file page Holds old new (Err stops.Memory) holds (inr due) = absurd (let p = due.1 in cc)
+
+-- a file was fetched whole and read, and the work went on by its bytes
+pub read_on : {A Y : Type 0} (name : List ℕ) (place : ℕ) (names : List (List ℕ)) (at : FilePlace) (most : ℕ) (Refused : List ℕ → Refusal → Type 0) (Reads : List ℕ → A → Type 0) (Refuses : List ℕ → Refusal → Type 0) (next : List ℕ → A → Course) (a b c : ShelfState) (old new : SinkState) (got : Vec ℕ Y) (x : A) (outcome : Outcome) → IsFetch name at (IsWhole most) Refused a b (Ok got) → Reads got.items x → IsWork (place + 1) names (next got.items x) b c old new outcome → IsWork place (name ∷ names) (fetch A name Reads Refuses next) a c old new outcome
+read_on {A} {Y} name place names at most Refused Reads Refuses next a b c old new got x outcome brought reads went =
+    let bytes = brought.fetched.1 in
+    let same = brought.fetched.3.0 in
+    let read : IsFetch name at Reads Refuses a b (Ok x) = record {
+      never_falls = brought.never_falls;
+      told_stays = brought.told_stays;
+      counted = brought.counted;
+      missing = λ lacks. absurd (let p = brought.missing lacks in cc);
+      fetched = (brought.fetched.0, bytes, brought.fetched.2, subst (λ (bs : List ℕ). Reads bs x) same reads);
+    } in
+    went_on name place names at Reads Refuses next a b c old new x outcome read (subst (λ (bs : List ℕ). IsWork (place + 1) names (next bs x) b c old new outcome) same went)

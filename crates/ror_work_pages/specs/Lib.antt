@@ -5,5 +5,6 @@ pub mod Functions
 pub mod Grounds
 pub mod Relations
 pub mod Standings
+pub mod Shown
 pub mod Showing
 pub mod Laws

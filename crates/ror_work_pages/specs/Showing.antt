@@ -1,5 +1,5 @@
 -- What a page does: it is written of a report that is proved for a session over a table, and says nothing of any other.
-use Rattle.std.specs.Prelude.{◌≡◌, ℕ, ◌≤◌, false, List, [], ◌∷◌, ◌++◌, length, codes}
+use Rattle.std.specs.Prelude.{◌≡◌, ℕ, ◌≤◌, List, [], ◌∷◌, ◌++◌, length, codes}
 use Rattle.ror_value.specs.declared.input.Input.{Input}
 use Rattle.ror_session.specs.declared.session.Session.{Session}
 use Rattle.ror_bench.specs.declared.kept.KeptLine.{KeptLine}
@@ -16,9 +16,8 @@ use Rattle.ror_show_words.specs.declared.table.Page.TheVariants.{Relation, Chang
 use Rattle.ror_show_words.specs.declared.words.Form.{Form}
 use Rattle.ror_show_words.specs.declared.words.Form.TheVariants.{Text, Csv}
 use Rattle.ror_show_words.specs.Words.{PageWords}
-use Rattle.ror_words.specs.Words.{InputNames}
 use Rattle.ror_frame.specs.Courses.{Output, Course, finish, fetch, Chore}
-use Rattle.ror_frame.specs.Inputs.{bench_for, line_output, over_inputs}
+use Rattle.ror_frame.specs.Inputs.{bench_for, ReadsTable, RefusesTable, ReadsSession, RefusesSession}
 use Rattle.ror_work.specs.Checking.{RefusesReport}
 use Rattle.ror_work_pages.specs.Changing.{AreChanges}
 use Rattle.ror_work_pages.specs.Choosing.{keeps}
@@ -26,6 +25,7 @@ use Rattle.ror_work_pages.specs.Classing.{classes_in}
 use Rattle.ror_work_pages.specs.Functions.{functions_in}
 use Rattle.ror_work_pages.specs.Grounds.{Ground, ground_in}
 use Rattle.ror_work_pages.specs.Relations.{AreSections}
+use Rattle.ror_work_pages.specs.Shown.{shown_output}
 use Rattle.ror_work_pages.specs.Standings.{rolls_text}
 
 -- ---- the page
@@ -76,17 +76,23 @@ pub record ReadsPage (page : Page) (words : PageWords) (i : Input) (s : Session)
   pub shows : IsPage page words (ground_in i s) (kept_from (bench_for i s) (keeps page words s) [] s.lines report.blocks) text
 
 -- Where the page is written, every answer of the report that isn't too wide is true of all compatible value functions.
-abbrev pub page_output : Page → PageWords → Input → Session → List ℕ → List ℕ → Output
-page_output page words i s bytes text =
-    line_output false text ((accepted : Accepted) × IsAcceptedReport (bench_for i s) s.lines bytes accepted)
+abbrev pub page_output : Page → PageWords → Input → Session → List ℕ → List ℕ → List ℕ → Output
+page_output page words i s file bytes text =
+    shown_output words.form file text ((accepted : Accepted) × IsAcceptedReport (bench_for i s) s.lines bytes accepted)
 
-abbrev pub names_in : PageWords → InputNames
-names_in words = record { table = words.table; session = words.session; best_first = words.best_first }
+-- the report is fetched, and refused where a check rejects it
+abbrev pub report_course : Page → PageWords → List ℕ → Input → Session → Course
+report_course page words file i s = fetch (List ℕ) words.report (ReadsPage page words i s) (RefusesReport i s)
+    (λ bytes text. finish (page_output page words i s file bytes text))
 
--- table, session and report are fetched; a report is refused where a check rejects it
+-- once the table was read, the session is fetched, and then the report
+abbrev pub session_course : Page → PageWords → List ℕ → Input → Course
+session_course page words file i = fetch Session words.session ReadsSession RefusesSession
+    (λ session s. report_course page words file i s)
+
 abbrev pub show_chore : Page → PageWords → Chore
 show_chore page words = record {
   files = words.table ∷ words.session ∷ words.report ∷ [];
-  course = over_inputs (names_in words) (λ i s. fetch (List ℕ) words.report (ReadsPage page words i s) (RefusesReport i s)
-      (λ bytes text. finish (page_output page words i s bytes text)));
+  course = fetch Input words.table (ReadsTable words.best_first) (RefusesTable words.best_first)
+      (λ file i. session_course page words file i);
 }

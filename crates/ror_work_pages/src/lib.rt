@@ -17,6 +17,7 @@ mod classing;
 mod functions;
 mod grounds;
 pub mod laws;
+mod names;
 mod page;
 mod relation;
 mod show;

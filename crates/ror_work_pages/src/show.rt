@@ -1,6 +1,6 @@
 //! The course of a page: the three files are fetched in order, and the page of the report is written.
 
-ghost use Rattle.std.specs.Prelude.{◌≡◌, ◌≤◌, length, false, IfOk};
+ghost use Rattle.std.specs.Prelude.{◌≡◌, ◌≤◌, [], ◌∷◌, length, false, IfOk};
 ghost use Rattle.ror_value.specs.Over.{IsLawfulIn};
 ghost use Rattle.ror_session.specs.Sound.{IsSound};
 ghost use Rattle.ror_frame.specs.States.{shelf_state, sink_state};
@@ -9,24 +9,29 @@ ghost use Rattle.ror_frame.specs.Inputs.{line_output};
 ghost use Rattle.ror_frame.specs.Stops.{last};
 ghost use Rattle.ror_show_words.specs.Named.{page_words_of};
 ghost use Rattle.ror_work.specs.Checking.{RefusesReport};
-ghost use Rattle.ror_work_pages.specs.Showing.{ReadsPage, show_chore};
+ghost use Rattle.ror_work_pages.specs.Showing.{ReadsPage, session_course, show_chore};
+ghost use Rattle.ror_work_pages.specs.Shown.{AreNames, shown_output};
 
 use crate::choose::keeps;
 use crate::grounds::Ground;
+use crate::names::{names_for, shown_with};
 use crate::page::page_text;
 use ror_bench::{Bench, MOST_REPORT_BYTES, Reason, Rejection, check_report_keeping};
-use ror_frame::{Refusal, Stop, fetch_session, fetch_table, fetch_whole};
+use ror_frame::{Refusal, Stop, fetch_session, fetch_whole};
 use ror_io::{Shelf, Sink, write_all};
 use ror_session::Session;
-use ror_show_words::{Page, PageWords};
+use ror_show_words::{Form, Page, PageWords};
 use ror_statement::Statement;
+use ror_table::{TableFault, TableKind};
 use ror_text::Items;
+use ror_text::lines::MOST_TEXT_BYTES;
 use ror_words::FileNames;
+use ror_work_sheet::read_table;
 use ror_xmcda::Input;
 use std::alloc::{AllocError, Global};
 
 /// Fetches table, session and report in order, each once those before it were read, and writes the page of a report that a check
-/// accepts. What it gives, `false`, says that nothing is left to say.
+/// accepts, and behind a text the names that a table in XMCDA has beside ids. What it gives, `false`, says that nothing is left to say.
 ///
 /// # Errors
 ///
@@ -44,18 +49,62 @@ pub fn show_files<F: Shelf, O: Sink>(
         (sink_state (O.written out.old) (O.faults out.old))
         (sink_state (O.written out.new) (O.faults out.new)) result }
 {
-    let names = FileNames {
+    let too_long = Refusal::BadTable(TableFault {
+        kind: TableKind::TooLong,
+        line: 0,
+    });
+    let file = fetch_whole(alloc, words.table, MOST_TEXT_BYTES, too_long, shelf)?;
+    let input = read_table(alloc, file.as_slice(), words.best_first)?;
+    show_report(alloc, page, words, file.as_slice(), input, shelf, out)
+}
+
+/// Fetches session and report, once the table was read of its file, and writes the page.
+fn show_report<F: Shelf, O: Sink>(
+    alloc: Global,
+    page: Page,
+    words: &PageWords<'_>,
+    file: &[u8],
+    input: Input,
+    shelf: &mut F,
+    out: &mut O,
+) -> Result<bool, Stop>
+    requires lawful { IsLawfulIn input.table input.opening }
+    ensures { IsWork 1 (words.now.session.now ∷ words.now.report.now ∷ [])
+        (session_course page (page_words_of words.now) file.now input)
+        (shelf_state (F.told shelf.old) (F.faults shelf.old) (F.fetch_count shelf.old))
+        (shelf_state (F.told shelf.new) (F.faults shelf.new) (F.fetch_count shelf.new))
+        (sink_state (O.written out.old) (O.faults out.old))
+        (sink_state (O.written out.new) (O.faults out.new)) result }
+{
+    let names = names_for(alloc, page, words, file, &input.table);
+    let files = FileNames {
         table: words.table,
         session: words.session,
         best_first: words.best_first,
     };
-    let input = fetch_table(alloc, &names, shelf)?;
-    let session = fetch_session(alloc, &names, shelf)?;
+    let session = fetch_session(alloc, &files, shelf)?;
     let text = fetch_page(alloc, page, words, shelf, input, &session)?;
+    write_shown(alloc, words.form, file, text.as_slice(), names, out)
+}
+
+/// Writes a page, and names behind it. What it gives says that nothing is left to say.
+fn write_shown<O: Sink>(
+    alloc: Global,
+    form: Form,
+    file: &[u8],
+    page: &[u8],
+    names: Result<Vec<u8>, AllocError>,
+    out: &mut O,
+) -> Result<bool, Stop>
+    requires { IfOk names (λ names. AreNames form file.now names.items) }
+    ensures { WritesDue (shown_output form file.now page.now (Unit {0})) (sink_state (O.written out.old) (O.faults out.old))
+        (sink_state (O.written out.new) (O.faults out.new)) result }
+{
+    let names = names?;
+    let text = shown_with(alloc, form, file, page, names.as_slice())?;
     write_page(out, text.as_slice())
 }
 
-/// Writes a page. What it gives says that nothing is left to say.
 fn write_page<O: Sink>(out: &mut O, text: &[u8]) -> Result<bool, Stop>
     ensures { WritesDue (line_output false text.now (Unit {0})) (sink_state (O.written out.old) (O.faults out.old))
         (sink_state (O.written out.new) (O.faults out.new)) result }
