@@ -8,8 +8,7 @@ ghost use Rattle.ror_pivot.specs.Answers.{most_of};
 ghost use Rattle.ror_given.specs.Answers.{IsGiven};
 
 use ror_confidence::{
-    Decider, LevelSearch, Levels, Span, SpanCheckFault, SpanChecker, check_span, find_span,
-    read_levels,
+    Decider, LevelSearch, Levels, Span, SpanChecker, check_span, find_span, read_levels,
 };
 use ror_made::{may_stand, three_alternatives};
 use ror_pivot::Bits;
@@ -20,30 +19,13 @@ use ror_table::Table;
 use std::alloc::{AllocError, Global};
 use std::test::Fail;
 
-const A_OVER_B: Numbered = Numbered {
+const A_OVER_B: &[Numbered] = &[Numbered {
     number: 1,
     statement: Statement::Prefer(0, 1),
-};
+}];
 
-const B_OVER_A: Numbered = Numbered {
-    number: 2,
-    statement: Statement::Prefer(1, 0),
-};
-
-/// Two statements that contradict each other.
-const BOTH: &[Numbered] = &[A_OVER_B, B_OVER_A];
-
-/// Three levels, on the second of which stands the second of these statements.
-const THREE_LEVELS: &[u8] = b"ror-levels 1\ncount 3\nput 2 2\n";
-
-/// The first of them alone.
-const FIRST: &[Numbered] = &[A_OVER_B];
-
-/// Two levels, of which the second alone has the first statement.
+/// Two levels, of which the second alone has the statement.
 const TWO_LEVELS: &[u8] = b"ror-levels 1\ncount 2\nput 1 2\n";
-
-/// Two levels, both of which have all statements.
-const ALL_ON_THE_FIRST: &[u8] = b"ror-levels 1\ncount 2\n";
 
 /// Decides each question anew, and counts them.
 #[derive(Drop)]
@@ -86,14 +68,6 @@ fn need_a_pair(alloc: Global, table: &Table, standing: &[Numbered]) -> Result<()
     Ok(())
 }
 
-/// Whether the span has these levels, and so many answers.
-fn is_span(x: &Span, contradictory: u32, necessary: u32, possible: u32, answers: usize) -> bool {
-    x.contradictory == contradictory
-        && x.necessary == necessary
-        && x.possible == possible
-        && x.proof.len() == answers
-}
-
 /// The span of the first two alternatives.
 fn found(alloc: Global, table: &Table, standing: &[Numbered], text: &[u8]) -> Result<Span, Fail> {
     need_a_pair(alloc, table, standing)?;
@@ -114,131 +88,87 @@ fn found(alloc: Global, table: &Table, standing: &[Numbered], text: &[u8]) -> Re
     }
 }
 
-/// What a check says of a span.
-#[derive(Clone, Copy, Debug, PartialEq, Eq)]
-enum Said {
-    Accepted,
-    Range,
-    Shape,
-    Answer(u32),
-    Memory,
+/// Where the span's statements contradict each other, where a preference is necessary, and where it is possible.
+fn ends_of(x: &Span) -> (u32, u32, u32) {
+    (x.contradictory, x.necessary, x.possible)
 }
 
-fn saying(checked: &Result<(), SpanCheckFault>) -> Said {
-    match checked {
-        Ok(()) => Said::Accepted,
-        Err(SpanCheckFault::Range) => Said::Range,
-        Err(SpanCheckFault::Shape) => Said::Shape,
-        Err(SpanCheckFault::Answer(place, _)) => Said::Answer(*place),
-        Err(SpanCheckFault::Memory) => Said::Memory,
-    }
+#[test]
+fn a_span_is_found(rt: HostRuntime) -> Result<(), Fail> {
+    let table = three_alternatives(rt.alloc())?;
+    let x = found(rt.alloc(), &table, A_OVER_B, TWO_LEVELS)?;
+    assert!(rt; ends_of(&x) == (3, 2, 2));
+    Ok(())
 }
 
-/// What a check of a span of the first two alternatives says.
-fn said_of(
+/// Whether a check of a span of the first two alternatives accepts it.
+fn is_accepted(
     alloc: Global,
     table: &Table,
     standing: &[Numbered],
     text: &[u8],
     x: &Span,
-) -> Result<Said, Fail> {
+) -> Result<bool, Fail> {
     need_a_pair(alloc, table, standing)?;
     let levels = levels_in(alloc, standing, text)?;
-    Ok(saying(&check_span(alloc, table, standing, &levels, 0, 1, x)))
+    Ok(check_span(alloc, table, standing, &levels, 0, 1, x).is_ok())
 }
 
 #[test]
-fn a_span_is_found_and_accepted(rt: HostRuntime) -> Result<(), Fail> {
+fn a_span_is_accepted_at_its_level_alone(rt: HostRuntime) -> Result<(), Fail> {
     let table = three_alternatives(rt.alloc())?;
-    let x = found(rt.alloc(), &table, FIRST, TWO_LEVELS)?;
-    assert!(rt; is_span(&x, 3, 2, 2, 4));
-    let said = said_of(rt.alloc(), &table, FIRST, TWO_LEVELS, &x)?;
-    assert!(rt; said == Said::Accepted);
+    let mut x = found(rt.alloc(), &table, A_OVER_B, TWO_LEVELS)?;
+    assert!(rt; is_accepted(rt.alloc(), &table, A_OVER_B, TWO_LEVELS, &x)?);
+    x.necessary = 1;
+    assert!(rt; !is_accepted(rt.alloc(), &table, A_OVER_B, TWO_LEVELS, &x)?);
     Ok(())
 }
 
-/// At the first of those levels it does not follow without the statement, and here it does with it.
-#[test]
-fn a_span_of_other_levels_is_refused(rt: HostRuntime) -> Result<(), Fail> {
-    let table = three_alternatives(rt.alloc())?;
-    let x = found(rt.alloc(), &table, FIRST, TWO_LEVELS)?;
-    let said = said_of(rt.alloc(), &table, FIRST, ALL_ON_THE_FIRST, &x)?;
-    assert!(rt; said == Said::Answer(3));
-    Ok(())
-}
-
-/// What a check says where the necessary preference is said to hold from this level on.
-fn said_from(alloc: Global, table: &Table, necessary: u32) -> Result<Said, Fail> {
-    let mut x = found(alloc, table, FIRST, TWO_LEVELS)?;
-    x.necessary = necessary;
-    said_of(alloc, table, FIRST, TWO_LEVELS, &x)
-}
-
-#[test]
-fn another_level_is_refused(rt: HostRuntime) -> Result<(), Fail> {
-    let table = three_alternatives(rt.alloc())?;
-    assert!(rt; said_from(rt.alloc(), &table, 1)? == Said::Shape);
-    assert!(rt; said_from(rt.alloc(), &table, 4)? == Said::Range);
-    Ok(())
-}
-
-/// The span of two alternatives over three levels, and how often the decider was asked.
+/// The span of the first two alternatives, as a search finds it, and how often the decider was asked.
 fn searched(
     alloc: Global,
     table: &Table,
-    first: usize,
-    second: usize,
+    standing: &[Numbered],
+    text: &[u8],
 ) -> Result<(Span, u32), Fail> {
-    need_a_pair(alloc, table, BOTH)?;
-    if first >= table.alternatives() {
-        return Err(Fail::new("there is no such alternative"));
-    }
-    if second >= table.alternatives() {
-        return Err(Fail::new("there is no such alternative"));
-    }
-    let levels = levels_in(alloc, BOTH, THREE_LEVELS)?;
+    need_a_pair(alloc, table, standing)?;
+    let levels = levels_in(alloc, standing, text)?;
     let mut decider = Counting { asked: 0 };
-    let mut search = LevelSearch::new(alloc, &mut decider, table, BOTH, &levels, Bits::B127)?;
-    match search.find(alloc, &mut decider, table, first, second, Bits::B127) {
+    let mut search = LevelSearch::new(alloc, &mut decider, table, standing, &levels, Bits::B127)?;
+    match search.find(alloc, &mut decider, table, 0, 1, Bits::B127) {
         Ok(span) => Ok((span, decider.asked)),
         Err(_) => Err(Fail::new("nothing is too wide")),
     }
 }
 
-/// Both end at the second level. Three levels for the base and the one level below it for each of two questions were decided at
-/// most.
+// Two levels for the base, and each of two levels for each of two questions, are decided at most.
 #[test]
-fn spans_end_where_statements_contradict_each_other(rt: HostRuntime) -> Result<(), Fail> {
+fn a_search_finds_the_span(rt: HostRuntime) -> Result<(), Fail> {
     let table = three_alternatives(rt.alloc())?;
-    let (first, asked) = searched(rt.alloc(), &table, 0, 1)?;
-    assert!(rt; asked <= 5);
-    assert!(rt; is_span(&first, 2, 1, 1, 4));
+    let (x, asked) = searched(rt.alloc(), &table, A_OVER_B, TWO_LEVELS)?;
+    assert!(rt; asked <= 6);
+    assert!(rt; ends_of(&x) == (3, 2, 2));
     Ok(())
 }
 
-#[test]
-fn the_span_of_the_pair_turned_round_is_another(rt: HostRuntime) -> Result<(), Fail> {
-    let table = three_alternatives(rt.alloc())?;
-    let (second, asked) = searched(rt.alloc(), &table, 1, 0)?;
-    assert!(rt; asked <= 5);
-    assert!(rt; is_span(&second, 2, 2, 0, 4));
-    Ok(())
-}
-
-/// Whether the span is accepted for its own pair, and not for the pair turned round.
-fn is_told_apart(alloc: Global, table: &Table, x: &Span) -> Result<bool, Fail> {
-    need_a_pair(alloc, table, BOTH)?;
-    let levels = levels_in(alloc, BOTH, THREE_LEVELS)?;
-    let mut checker = SpanChecker::new(alloc, table, BOTH, &levels)?;
-    let own = checker.check(alloc, table, 0, 1, x).is_ok();
-    let turned = checker.check(alloc, table, 1, 0, x).is_ok();
-    Ok(own && !turned)
+/// Whether a checker accepts the span of the first two alternatives.
+fn is_accepted_by_one(
+    alloc: Global,
+    table: &Table,
+    standing: &[Numbered],
+    text: &[u8],
+    x: &Span,
+) -> Result<bool, Fail> {
+    need_a_pair(alloc, table, standing)?;
+    let levels = levels_in(alloc, standing, text)?;
+    let mut checker = SpanChecker::new(alloc, table, standing, &levels)?;
+    Ok(checker.check(alloc, table, 0, 1, x).is_ok())
 }
 
 #[test]
-fn a_span_is_of_its_own_pair(rt: HostRuntime) -> Result<(), Fail> {
+fn a_checker_accepts_a_span(rt: HostRuntime) -> Result<(), Fail> {
     let table = three_alternatives(rt.alloc())?;
-    let (first, _asked) = searched(rt.alloc(), &table, 0, 1)?;
-    assert!(rt; is_told_apart(rt.alloc(), &table, &first)?);
+    let x = found(rt.alloc(), &table, A_OVER_B, TWO_LEVELS)?;
+    assert!(rt; is_accepted_by_one(rt.alloc(), &table, A_OVER_B, TWO_LEVELS, &x)?);
     Ok(())
 }
