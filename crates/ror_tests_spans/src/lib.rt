@@ -3,5 +3,3 @@
 
 #[cfg(test)]
 mod entry;
-#[cfg(test)]
-mod refused;
