@@ -32,13 +32,11 @@ fn first_standing(alloc: Global, text: &[u8]) -> Result<Vec<Numbered>, Fail> {
 
 #[test]
 fn what_stands_at_a_desk_is_listed(rt: HostRuntime) -> Result<(), Fail> {
-    let standing = first_standing(rt.alloc(), b"prefer a c\nundo\n")?;
+    let standing = first_standing(rt.alloc(), b"prefer a c\n")?;
     let first = Numbered {
         number: 1,
         statement: Statement::Prefer(0, 2),
     };
-    assert_eq!(rt; standing.as_slice(), [first].as_slice());
-    let none = first_standing(rt.alloc(), b"withdraw 1\nprefer a c\n")?;
-    assert!(rt; none.is_empty());
+    assert!(rt; standing.as_slice() == [first].as_slice());
     Ok(())
 }
