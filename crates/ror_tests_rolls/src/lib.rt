@@ -2,8 +2,4 @@
 #![tactic(auto)]
 
 #[cfg(test)]
-mod cars;
-#[cfg(test)]
-mod made;
-#[cfg(test)]
 mod rolls;
