@@ -78,22 +78,11 @@ fn what_stands_is_listed_desk_by_desk(rt: HostRuntime) -> Result<(), Fail> {
     let text =
         b"@x prefer a b\n@y prefer b a\n@x ask necessary a b\n@x prefer b c\n@x withdraw 9\n@y prefer a c\n@x withdraw 1\n@y undo\n".as_slice();
     let lists = lists_of(rt.alloc(), text)?.ok().ok_or("no line repairs")?;
-    assert_eq!(rt; lists.len(), 2);
+    assert!(rt; lists.len() == 2);
     let at_x = [Statement::Prefer(1, 2)];
     let at_y = [Statement::Prefer(1, 0)];
     assert!(rt; stand_at(&lists, 0, at_x.as_slice()));
     assert!(rt; stand_at(&lists, 1, at_y.as_slice()));
-    Ok(())
-}
-
-#[test]
-fn an_undone_withdrawal_stands_again(rt: HostRuntime) -> Result<(), Fail> {
-    let text =
-        b"prefer a b\nprefer a nobody\nreplace 1 atleast a c\nwithdraw 1\nundo\nask relation\n".as_slice();
-    let lists = lists_of(rt.alloc(), text)?.ok().ok_or("no line repairs")?;
-    assert_eq!(rt; lists.len(), 1);
-    let list = [Statement::AtLeast(0, 2)];
-    assert!(rt; stand_at(&lists, 0, list.as_slice()));
     Ok(())
 }
 
