@@ -1,0 +1,4 @@
+pub mod Parts
+pub mod LawLemmas
+pub mod FaultLemmas
+pub mod SearchLemmas
