@@ -33,19 +33,19 @@ impl Weighed {
         for i in 0..rows.len() {
             let multiplier = multipliers.entry(i);
             if i == 0 || multiplier != 0 {
-                few.push(alloc, &rows[i], multiplier)?;
+                few.push(&rows[i], multiplier)?;
             }
         }
         Ok(few)
     }
 
     /// Adds a copy of the row with its multiplier.
-    fn push(&mut self, alloc: Global, row: &Row, multiplier: i128) -> Result<(), AllocError>
+    fn push(&mut self, row: &Row, multiplier: i128) -> Result<(), AllocError>
         ensures rows { OnOk result (self.new.rows.items ≡ self.old.rows.items ++ row.now ∷ []) }
         ensures multipliers { OnOk result
             (self.new.multipliers ≡ self.old.multipliers ++ multiplier ∷ []) }
     {
-        self.rows.push(row.copied(alloc)?)?;
+        self.rows.push(row.copied()?)?;
         self.multipliers.push(multiplier)?;
         Ok(())
     }

@@ -18,5 +18,5 @@ pub(crate) fn row_of_tops(alloc: Global, table: &Table) -> Result<Row, AllocErro
     for column in 0..table.columns() {
         entries.push(i128::from(table.top(column)))?;
     }
-    Ok(Row::from_vec(entries))
+    Row::from_vec(alloc, entries)
 }

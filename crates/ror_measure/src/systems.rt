@@ -53,7 +53,7 @@ pub fn made_system(alloc: Global, plan: Plan) -> Option<System>
     if plan.rows == 0 || plan.rows > MOST_SYSTEM_ROWS || plan.columns > MOST_COLUMNS {
         return None;
     }
-    let total = Row::from_vec(vec![in alloc; 1i128; plan.columns].ok()?);
+    let total = Row::from_vec(alloc, vec![in alloc; 1i128; plan.columns].ok()?).ok()?;
     let mut strict = made_rows(alloc, plan)?;
     strict.insert(0, total).ok()?;
     Some(System::new(plan.columns, Vec::new(alloc), strict))
@@ -104,7 +104,8 @@ fn statement_row(alloc: Global, numbers: &mut Numbers, columns: usize) -> Option
         }
         entries.push(step_entry(step, first, second)).ok()?;
     }
-    Some(Row::from_vec(entries))
+    let row = Row::from_vec(alloc, entries).ok()?;
+    Some(row)
 }
 
 /// The entry of a step: 1 below the first rank alone, -1 below the second alone, and else 0.
@@ -128,7 +129,8 @@ fn dense_row(alloc: Global, numbers: &mut Numbers, columns: usize) -> Option<Row
     for _ in 0..columns {
         entries.push(numbers.below(7) as i128 - 3).ok()?;
     }
-    Some(Row::from_vec(entries))
+    let row = Row::from_vec(alloc, entries).ok()?;
+    Some(row)
 }
 
 /// What a system of strict rows comes to at the width of so many bits, unless memory runs out.

@@ -29,7 +29,7 @@ pub(crate) fn row_of_form(alloc: Global, table: &Table, form: Form) -> Result<Ro
     for i in 0..table.criteria() {
         push_criterion(&mut entries, table, i, ranks_on(table, form, i))?;
     }
-    Ok(Row::from_vec(entries))
+    Row::from_vec(alloc, entries)
 }
 
 fn ranks_on(table: &Table, form: Form, i: usize) -> Ranks

@@ -52,7 +52,7 @@ pub fn with_extras(
         weak: Vec::with_capacity(alloc, base.weak().len() + extra.len())?,
         strict: Vec::with_capacity(alloc, base.strict().len() + extra.len())?,
     };
-    rows.push_system(alloc, base)?;
+    rows.push_system(base)?;
     rows.push_extras(alloc, table, extra)?;
     Ok(System::new(base.columns(), rows.weak, rows.strict))
 }
@@ -80,13 +80,13 @@ impl Rows {
     }
 
     /// Pushes copies of the rows of a system, in order.
-    fn push_system(&mut self, alloc: Global, system: &System) -> Result<(), AllocError>
+    fn push_system(&mut self, system: &System) -> Result<(), AllocError>
         ensures weak { OnOk result (self.new.weak.items ≡ self.old.weak.items ++ system.now.weak) }
         ensures strict { OnOk result
             (self.new.strict.items ≡ self.old.strict.items ++ system.now.strict) }
     {
-        push_copies(&mut self.weak, alloc, system.weak())?;
-        push_copies(&mut self.strict, alloc, system.strict())
+        push_copies(&mut self.weak, system.weak())?;
+        push_copies(&mut self.strict, system.strict())
     }
 
     /// Pushes the rows of a comparison.
@@ -219,11 +219,11 @@ impl Rows {
 }
 
 /// Pushes copies of the rows, in order.
-fn push_copies(rows: &mut Vec<Row>, alloc: Global, more: &[Row]) -> Result<(), AllocError>
+fn push_copies(rows: &mut Vec<Row>, more: &[Row]) -> Result<(), AllocError>
     ensures { OnOk result (rows.new.items ≡ rows.old.items ++ more.now) }
 {
     for row in more {
-        rows.push(row.copied(alloc)?)?;
+        rows.push(row.copied()?)?;
     }
     Ok(())
 }

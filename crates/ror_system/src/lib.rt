@@ -27,5 +27,5 @@ pub use accept::{Multipliers, Solution, accept_multipliers, accept_solution};
 pub use limits::{MOST_COLUMNS, MOST_SYSTEM_ROWS};
 pub use numbers::Numbers;
 pub use reject::Reject;
-pub use row::Row;
+pub use row::{Row, shared_front};
 pub use system::System;

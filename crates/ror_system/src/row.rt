@@ -1,17 +1,18 @@
 //! The rows of a system.
 
-ghost use Rattle.std.specs.Prelude.{◌≡◌, ◌<◌, ◌==◌, length, IfOk};
+ghost use Rattle.std.specs.Prelude.{◌≡◌, ◌<◌, ◌≤◌, ◌==◌, length, IfOk};
 ghost use Rattle.std.specs.List.{AllByRecursion};
 ghost use Rattle.ror_integers.specs.Vectors.{entry};
 ghost use Rattle.ror_system.specs.System.{IsNarrow};
 
 use std::alloc::{AllocError, Global};
 use std::marker::Model;
+use std::rc::Rc;
 
-/// A row of a system: whole numbers of absolute value at most 2^127 - 1.
+/// A row of a system: whole numbers of absolute value at most 2^127 - 1. A copy of it shares its entries.
 #[derive(Debug, Drop)]
 pub struct Row {
-    entries: Vec<i128>,
+    entries: Rc<Vec<i128>, Global>,
 }
 
 impl Model for Row {
@@ -21,9 +22,9 @@ impl Model for Row {
 
     ghost Value = { List ℤ };
 
-    ghost view = { λ row. row.entries.items };
+    ghost view = { λ row. row.entries.value.items };
 
-    ghost invariant = { λ row. AllByRecursion IsNarrow row.entries.items };
+    ghost invariant = { λ row. AllByRecursion IsNarrow row.entries.value.items };
 }
 
 impl Row {
@@ -36,27 +37,32 @@ impl Row {
         requires { AllByRecursion IsNarrow entries.now }
         ensures { IfOk result (λ row. row ≡ entries.now) }
     {
-        let entries = Vec::from_slice(alloc, entries)?;
-        Ok(Row { entries })
+        Row::from_vec(alloc, Vec::from_slice(alloc, entries)?)
     }
 
-    /// The row with these entries. It takes no memory.
-    pub fn from_vec(entries: Vec<i128>) -> Row
-        requires { AllByRecursion IsNarrow entries.items }
-        ensures { result ≡ entries.items }
-    {
-        Row { entries }
-    }
-
-    /// The same row again.
+    /// The row with these entries, which are moved and not copied.
     ///
     /// # Errors
     ///
     /// Only want of memory.
-    pub fn copied(&self, alloc: Global) -> Result<Row, AllocError>
+    pub fn from_vec(alloc: Global, entries: Vec<i128>) -> Result<Row, AllocError>
+        requires { AllByRecursion IsNarrow entries.items }
+        ensures { IfOk result (λ row. row ≡ entries.items) }
+    {
+        let entries = Rc::new(alloc, entries)?;
+        Ok(Row { entries })
+    }
+
+    /// The same row again. It shares the entries, and takes no memory.
+    ///
+    /// # Errors
+    ///
+    /// Want of memory is said where more copies share the entries than can be counted.
+    pub fn copied(&self) -> Result<Row, AllocError>
         ensures { IfOk result (λ row. row ≡ self.now) }
     {
-        Row::from_slice(alloc, self.as_slice())
+        let entries = self.entries.clone()?;
+        Ok(Row { entries })
     }
 
     /// The entries as a slice.
@@ -89,4 +95,21 @@ impl Row {
     {
         self.entries[j]
     }
+}
+
+/// How many rows at the front of two lists share their entries, as a row and its copies do. Rows that don't share them may be the
+/// same all the same: it saves the comparison of most that are. It takes no memory.
+pub fn shared_front(rows: &[Row], others: &[Row]) -> usize
+    ensures within { result ≤ length rows.now }
+    ensures within_others { result ≤ length others.now }
+{
+    let most = rows.len().min(others.len());
+    for place in 0..most {
+        let row = &rows[place];
+        let other = &others[place];
+        if !Rc::ptr_eq(&row.entries, &other.entries) {
+            return place;
+        }
+    }
+    most
 }

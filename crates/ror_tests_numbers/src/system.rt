@@ -33,7 +33,7 @@ fn refutation(
 #[test]
 fn a_row_is_copied(rt: HostRuntime) -> Result<(), Fail> {
     let row = Row::from_slice(rt.alloc(), &[3, -i128::MAX])?;
-    let copy = row.copied(rt.alloc())?;
+    let copy = row.copied()?;
     assert!(rt; copy.as_slice() == [3, -i128::MAX].as_slice());
     Ok(())
 }

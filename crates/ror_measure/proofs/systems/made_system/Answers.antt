@@ -16,6 +16,6 @@ pub new-requires-2-clause-strict_widths : goal.new-requires-2-clause-strict_widt
 new-requires-2-clause-strict_widths c =
     let plan = c.args.plan in
     let inserted = rw (← c.in_ok-ok-2.ensures.variant) at c.insert.ensures.items in
-    let total : length c.from_vec-total.result ≡ plan.columns = search rules in
+    let total : length c.in_ok-total.total ≡ plan.columns = search rules in
     let rows = subst (AllByRecursion (λ row. length row ≡ plan.columns)) (sym c.in_ok-strict.ensures) (made_rows_widths plan.kind plan.columns plan.number (plan.rows - 1)) in
     subst (AllByRecursion (λ row. length row ≡ plan.columns)) (sym inserted) (total, rows)

@@ -1,4 +1,4 @@
-use Rattle.std.proofs.Common.{◌≡◌, length, sym, subst, ap, ◌∙◌, arith}
+use Rattle.std.proofs.Common.{◌≡◌, IfOk, List, ℤ, length, sym, subst, ap, ◌∙◌, arith}
 use Rattle.std.specs.List.{AllByRecursion, flat_map, range_with_len}
 use Rattle.ror_system.specs.System.{IsNarrow}
 use Rattle.ror_rows.proofs.FormLemmas.{form_block, form_row-blocks, form_row-narrow, blocks_more}
@@ -18,4 +18,5 @@ from_vec-requires c =
 pub returns : goal.returns
 returns c =
     let last : c.loop-i.i ≡ length c.args.table.now.criteria = omega arith in
-    c.from_vec.ensures ∙ c.loop-i.invariant ∙ ap (λ n. flat_map (form_block c.args.table.now c.args.form) (range_with_len 0 n)) last ∙ sym (form_row-blocks c.args.table.now c.args.form)
+    let whole = c.loop-i.invariant ∙ ap (λ n. flat_map (form_block c.args.table.now c.args.form) (range_with_len 0 n)) last ∙ sym (form_row-blocks c.args.table.now c.args.form) in
+    subst (λ (xs : List ℤ). IfOk c.from_vec.result (λ row. row ≡ xs)) whole c.from_vec.ensures
