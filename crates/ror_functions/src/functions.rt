@@ -20,23 +20,12 @@ pub(crate) fn function_of(
     ensures value { IfOk result (λ found. found ≡ spec.function_of table.now steps.now) }
     ensures function { IfOk result (λ found. IfSome found (IsFunctionOf table.now)) }
 {
-    let numbers = numbers_of(alloc, steps)?;
+    let numbers = steps.to_vec(alloc)?;
     match ValueFunction::new(alloc, table, numbers.as_slice()) {
         Ok(function) => Ok(Some(function)),
         Err(ValueFault::Memory) => Err(AllocError),
         Err(ValueFault::Length | ValueFault::Negative(_) | ValueFault::Total) => Ok(None),
     }
-}
-
-/// The numbers in a row.
-fn numbers_of(alloc: Global, steps: &Numbers) -> Result<Vec<i128>, AllocError>
-    ensures { IfOk result (λ numbers. numbers.items ≡ steps.now) }
-{
-    let mut numbers = Vec::new(alloc);
-    for k in 0..steps.len() {
-        numbers.push(steps.entry(k))?;
-    }
-    Ok(numbers)
 }
 
 /// The solution that a certificate is, where it is one.

@@ -100,7 +100,7 @@ pub(crate) fn numbers_of<W: Word>(alloc: Global, words: &[W]) -> Result<Numbers,
     requires { AllByRecursion (λ word. IsWithin W.most (W.value word)) words.now }
     ensures { IfOk result (λ numbers. numbers ≡ map W.value words.now) }
 {
-    let mut numbers = Numbers::with_capacity(alloc, words.len())?;
+    let mut numbers = Numbers::new(alloc);
     for word in words {
         numbers.push(word.to_i128())?;
     }

@@ -340,9 +340,20 @@ fn write_numbers(text: &mut Vec<u8>, numbers: &Numbers) -> Result<(), AllocError
     ensures front { StandsInFront text.old.items text.new.items }
 {
     for k in 0..numbers.len() {
-        write_number(text, numbers.entry(k))?;
+        write_often_zero(text, numbers.entry(k))?;
     }
     Ok(())
+}
+
+/// A number that is mostly 0, as the next word of a line.
+fn write_often_zero(text: &mut Vec<u8>, number: i128) -> Result<(), AllocError>
+    ensures ok { OnOk result (text.new.items ≡ text.old.items ++ 32 ∷ signed_decimal number) }
+    ensures front { StandsInFront text.old.items text.new.items }
+{
+    if number == 0 {
+        return text.extend_from_slice(b" 0");
+    }
+    write_number(text, number)
 }
 
 /// A number, as the next word of a line.

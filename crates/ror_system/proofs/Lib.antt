@@ -1,7 +1,9 @@
 pub mod Motzkin
 pub mod MultiplierTests
 pub mod NumberLemmas
+pub mod Others
 pub mod Reasons
 pub mod SolutionTests
 pub mod Sums
 pub mod Totals
+pub mod ValueLemmas

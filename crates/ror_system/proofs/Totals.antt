@@ -1,5 +1,5 @@
 -- A running total of numbers none of which is below 0, signs in two lists, and columns of weak and strict rows.
-use Rattle.std.proofs.Common.{negsuc, IsTrue, ◌↔◌, subst, ◌≡◌, ℕ, zero, suc, ◌+◌, ◌<◌, ◌≤◌, ◌^◌, List, [], ◌∷◌, ◌++◌, length, drop, ℤ, pos, ◌+ℤ◌, ◌≤ℤ◌, ◌<ℤ◌, unsigned_abs, FitsSigned, ◌-◌, ◌⊎◌, inl, inr, refl, ap, sym, ◌∙◌, arith, length-append}
+use Rattle.std.proofs.Common.{true, false, negsuc, IsTrue, ◌↔◌, subst, ◌≡◌, ℕ, zero, suc, ◌+◌, ◌<◌, ◌≤◌, ◌^◌, List, [], ◌∷◌, ◌++◌, length, drop, ℤ, pos, ◌+ℤ◌, ◌≤ℤ◌, ◌<ℤ◌, unsigned_abs, FitsSigned, ◌-◌, ◌⊎◌, inl, inr, refl, ap, sym, ◌∙◌, arith, length-append}
 use Rattle.std.specs.Int.{w128}
 use Rattle.std.specs.Int.Signed.{lt_z}
 use Rattle.std.specs.List.{AllByRecursion}
@@ -57,6 +57,12 @@ IsLeftOfTotal-end sum xs i h l =
     omega (arith, sums)
 
 -- ---- signs
+pub not_below : (x y : ℤ) → lt_z x y ≡ false → y ≤ℤ x
+not_below x y h = grind (arith, ints)
+
+pub is_below : (x y : ℤ) → lt_z x y ≡ true → x <ℤ y
+is_below x y h = grind (arith, ints)
+
 pub none_positive : (xs : List ℤ) (n : ℕ) → ((k : ℕ) → k < n → entry xs k ≤ℤ pos 0) → length xs ≤ n → ¬ (SomePositive xs)
 none_positive xs n h l s =
     let p = h s.0 (omega (arith, s.1)) in

@@ -4,3 +4,4 @@ pub mod Numbers
 pub mod Signs
 pub mod Steps
 pub mod System
+pub mod Values

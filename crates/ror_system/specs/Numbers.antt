@@ -1,21 +1,23 @@
--- How whole numbers are kept, one place of 32 bits each: what a place stands for.
-use Rattle.std.specs.Prelude.{ℕ, ◌+◌, ◌-◌, ◌<◌, nat_lt, List, ℤ, pos, negsuc, if◌then◌else◌, ⊤}
+-- How whole numbers are kept of which most are 0: those other than 0, each with its place.
+use Rattle.std.specs.Prelude.{◌≡◌, ◌≢◌, ℕ, ◌+◌, ◌-◌, ◌<◌, ◌≤◌, List, [], ◌∷◌, ◌++◌, length, replicate, ℤ, pos}
 use Rattle.ror_integers.specs.Vectors.{entry}
 
--- the numbers that stand in their places themselves are those of at least -2^30
-abbrev pub plain_limit : ℕ
-plain_limit = 1073741824
+-- the numbers from one place up to another: these at their places, and 0 elsewhere
+abbrev pub spread : ℕ → ℕ → List ℕ → List ℤ → List ℤ
+spread from len [] values = replicate (len - from) (pos 0)
+spread from len (place ∷ places) [] = replicate (len - from) (pos 0)
+spread from len (place ∷ places) (value ∷ values) =
+    replicate (place - from) (pos 0) ++ value ∷ spread (place + 1) len places values
 
-abbrev pub IsPlain : ℤ → Type 0
-IsPlain (pos n) = ⊤
-IsPlain (negsuc n) = n < plain_limit
+-- the places rise between the two, and each has its number, which isn't 0
+abbrev pub ArePlaced : ℕ → ℕ → List ℕ → List ℤ → Type 0
+ArePlaced from len [] values = (from ≤ len) × (values ≡ [])
+ArePlaced from len (place ∷ places) [] = ⊥
+ArePlaced from len (place ∷ places) (value ∷ values) = (from ≤ place) × (value ≢ pos 0)
+    × ArePlaced (place + 1) len places values
 
--- what is below that names one of the numbers beside
-abbrev pub number_at : List ℤ → ℤ → ℤ
-number_at wide (pos n) = pos n
-number_at wide (negsuc n) = if nat_lt n plain_limit then negsuc n else entry wide (n - plain_limit)
-
--- a place that names none but the first so many numbers beside
-abbrev pub IsPlaceAmong : ℕ → ℤ → Type 0
-IsPlaceAmong count (pos n) = ⊤
-IsPlaceAmong count (negsuc n) = n < plain_limit + count
+-- from one place on the numbers at these places alone may be other than 0
+abbrev pub AreTheOthers : List ℤ → ℕ → List ℕ → Type 0
+AreTheOthers xs from [] = (k : ℕ) → from ≤ k → entry xs k ≡ pos 0
+AreTheOthers xs from (place ∷ places) = (from ≤ place) × (place < length xs)
+    × ((k : ℕ) → from ≤ k → k < place → entry xs k ≡ pos 0) × AreTheOthers xs (place + 1) places

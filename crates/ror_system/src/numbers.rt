@@ -1,37 +1,38 @@
-//! Whole numbers in 32 bits each.
+//! Whole numbers of which those other than 0 alone take memory.
 
-ghost use Rattle.std.specs.Prelude.{◌≡◌, ◌<◌, ◌+◌, ◌++◌, ◌∷◌, ◌==◌, ◌↔◌, [], ⊤, length, drop, negsuc, IsTrue, IfOk, IfErr, OnOk, MatchOption};
+ghost use Rattle.std.specs.Prelude.{◌≡◌, ◌<◌, ◌+◌, ◌++◌, ◌∷◌, ◌==◌, ◌≤◌, ◌≢◌, ◌↔◌, ◌-◌, [], pos, replicate, length, map, drop, unsigned_abs, IsTrue, IfOk, IfErr, OnOk};
+ghost use Rattle.std.specs.List.{AllByRecursion};
 ghost use Rattle.ror_integers.specs.Vectors.{entry};
-ghost use Rattle.ror_system.specs.Numbers.{plain_limit, number_at, IsPlain, IsPlaceAmong};
+ghost use Rattle.ror_system.specs.Numbers.{AreTheOthers};
+ghost use Rattle.ror_system.specs.declared.numbers.TheConstants.{MOST_NUMBERS};
 
+use crate::values::Values;
 use std::alloc::{AllocError, Global};
 use std::marker::Model;
 
-/// So many of the least places name a number beside.
-const MOST_BESIDE: usize = 1 << 30;
+/// So many numbers at most stand in a list.
+const MOST_NUMBERS: usize = u32::MAX as usize;
 
-/// The least number that stands in its place itself.
-const LEAST_PLAIN: i32 = -(1 << 30);
-
-/// Whole numbers in order: those from -2^30 to 2^31 - 1 in 4 bytes each, others in 20.
+/// Whole numbers in order. 0 takes no memory, a number from -2^30 to 2^31 - 1 takes 8 bytes, and others take 24.
 #[derive(Debug, Drop)]
 pub struct Numbers {
-    /// A number of at least -2^30 stands here itself; what is below names one of the numbers beside.
-    places: Vec<i32>,
-    beside: Vec<i128>,
+    len: usize,
+    /// The places of the numbers other than 0, which rise.
+    places: Vec<u32>,
+    /// The numbers at these places.
+    values: Values,
 }
 
 impl Model for Numbers {
-    ghost use Rattle.std.specs.Prelude.{ℤ, List, length, map};
-    ghost use Rattle.std.specs.List.{AllByRecursion};
-    ghost use Rattle.ror_system.specs.Numbers.{number_at, IsPlaceAmong};
+    ghost use Rattle.std.specs.Prelude.{ℤ, List};
+    ghost use Rattle.ror_system.specs.Numbers.{spread, ArePlaced};
 
     ghost Value = { List ℤ };
 
-    ghost view = { λ numbers. map (number_at numbers.beside.items) numbers.places.items };
+    ghost view = { λ numbers. spread 0 numbers.len numbers.places.items numbers.values };
 
     ghost invariant = { λ numbers.
-        AllByRecursion (IsPlaceAmong (length numbers.beside.items)) numbers.places.items };
+        ArePlaced 0 numbers.len numbers.places.items numbers.values };
 }
 
 impl Numbers {
@@ -40,23 +41,10 @@ impl Numbers {
         ensures { result ≡ [] }
     {
         Numbers {
+            len: 0,
             places: Vec::new(alloc),
-            beside: Vec::new(alloc),
+            values: Values::new(alloc),
         }
-    }
-
-    /// No numbers, with room for so many that stand in their places themselves.
-    ///
-    /// # Errors
-    ///
-    /// Only want of memory.
-    pub fn with_capacity(alloc: Global, count: usize) -> Result<Numbers, AllocError>
-        ensures { IfOk result (λ list. list ≡ []) }
-    {
-        Ok(Numbers {
-            places: Vec::with_capacity(alloc, count)?,
-            beside: Vec::new(alloc),
-        })
     }
 
     /// These numbers.
@@ -67,7 +55,7 @@ impl Numbers {
     pub fn of(alloc: Global, numbers: &[i128]) -> Result<Numbers, AllocError>
         ensures { IfOk result (λ list. list ≡ numbers.now) }
     {
-        let mut list = Numbers::with_capacity(alloc, numbers.len())?;
+        let mut list = Numbers::new(alloc);
         for number in numbers {
             list.push(*number)?;
         }
@@ -83,23 +71,41 @@ impl Numbers {
         ensures { IfOk result (λ copy. copy ≡ self.now) }
     {
         Ok(Numbers {
+            len: self.len,
             places: Vec::from_slice(alloc, self.places.as_slice())?,
-            beside: Vec::from_slice(alloc, self.beside.as_slice())?,
+            values: self.values.copied(alloc)?,
         })
+    }
+
+    /// The numbers one by one, each 0 too.
+    ///
+    /// # Errors
+    ///
+    /// Only want of memory.
+    pub fn to_vec(&self, alloc: Global) -> Result<Vec<i128>, AllocError>
+        ensures { IfOk result (λ numbers. numbers.items ≡ self.now) }
+    {
+        let mut numbers = Vec::with_capacity(alloc, self.len)?;
+        for index in 0..self.places.len() {
+            push_zeros(&mut numbers, self.places[index] as usize)?;
+            numbers.push(self.values.entry(index))?;
+        }
+        push_zeros(&mut numbers, self.len)?;
+        Ok(numbers)
     }
 
     /// How many numbers there are.
     pub fn len(&self) -> usize
         ensures { result ≡ length self.now }
     {
-        self.places.len()
+        self.len
     }
 
     /// Whether there is no number.
     pub fn is_empty(&self) -> bool
         ensures { result ≡ (length self.now == 0) }
     {
-        self.places.is_empty()
+        self.len == 0
     }
 
     /// The number at a place.
@@ -107,43 +113,73 @@ impl Numbers {
         requires { k < length self.now }
         ensures { result ≡ entry self.now k }
     {
-        number_at(self.beside.as_slice(), self.places[k])
+        let index = self.places.partition_point(|place| (*place as usize) < k);
+        if index >= self.places.len() {
+            return 0;
+        }
+        if self.places[index] as usize != k {
+            return 0;
+        }
+        self.values.entry(index)
+    }
+
+    /// The places of the numbers other than 0, in order, and these numbers.
+    pub(crate) fn others(&self) -> (&[u32], &Values)
+        ensures places { AreTheOthers self.now 0 result.0.now }
+        ensures values { result.1.now ≡ map (entry self.now) result.0.now }
+    {
+        (self.places.as_slice(), &self.values)
+    }
+
+    /// Whether no number has a greater absolute value than this. It takes no memory.
+    pub fn are_within(&self, most: u128) -> bool
+        ensures { IsTrue result ↔ AllByRecursion (λ number. unsigned_abs number ≤ most) self.now }
+    {
+        for index in 0..self.values.len() {
+            if self.values.entry(index).unsigned_abs() > most {
+                return false;
+            }
+        }
+        true
     }
 
     /// Puts a number behind those that are there, which stay as they are also where memory runs out.
     ///
     /// # Errors
     ///
-    /// Only want of memory, which is said too where 2^30 numbers stand beside.
+    /// Only want of memory, which is said too where 2^32 - 1 numbers are there.
     pub fn push(&mut self, number: i128) -> Result<(), AllocError>
         ensures ok { OnOk result (self.new ≡ self.old ++ number ∷ []) }
         ensures kept { IfErr result (λ _. self.new ≡ self.old) }
     {
-        match plain_place(number) {
-            Some(place) => self.push_plain(place),
-            None => self.push_beside(number),
+        if self.len >= MOST_NUMBERS {
+            return Err(AllocError);
         }
-    }
-
-    /// Puts a number that stands in its place itself behind those that are there.
-    fn push_plain(&mut self, place: i32) -> Result<(), AllocError>
-        requires { IsPlain place }
-        ensures ok { OnOk result (self.new ≡ self.old ++ place ∷ []) }
-        ensures kept { IfErr result (λ _. self.new ≡ self.old) }
-    {
-        self.places.push(place)?;
+        if number != 0 {
+            return self.push_other(number);
+        }
+        self.len += 1;
         Ok(())
     }
 
-    /// Puts a number behind those that are there, by a place that names it beside.
-    fn push_beside(&mut self, number: i128) -> Result<(), AllocError>
+    /// Puts a number that isn't 0 behind those that are there.
+    fn push_other(&mut self, number: i128) -> Result<(), AllocError>
+        requires other { number ≢ pos 0 }
+        requires room { length self.old < MOST_NUMBERS }
         ensures ok { OnOk result (self.new ≡ self.old ++ number ∷ []) }
         ensures kept { IfErr result (λ _. self.new ≡ self.old) }
     {
-        let place = place_beside(self.beside.len()).ok_or(AllocError)?;
-        self.beside.push(number)?;
-        self.places.push(place)?;
-        Ok(())
+        self.places.push(self.len as u32)?;
+        match self.values.push(number) {
+            Ok(()) => {
+                self.len += 1;
+                Ok(())
+            }
+            Err(error) => {
+                let _place = self.places.pop();
+                Err(error)
+            }
+        }
     }
 
     /// Puts the numbers of another list, from a place on, behind those that are there.
@@ -164,46 +200,24 @@ impl Numbers {
     pub fn is_same(&self, other: &Numbers) -> bool
         ensures { IsTrue result ↔ (self.now ≡ other.now) }
     {
-        if self.len() != other.len() {
+        if self.len != other.len {
             return false;
         }
-        for k in 0..self.len() {
-            if self.entry(k) != other.entry(k) {
-                return false;
-            }
+        let are_placed_alike = self.places.as_slice() == other.places.as_slice();
+        if !are_placed_alike {
+            return false;
         }
-        true
+        self.values.is_same(&other.values)
     }
 }
 
-/// The number that a place stands for.
-fn number_at(beside: &[i128], place: i32) -> i128
-    requires { IsPlaceAmong (length beside.now) place }
-    ensures { result ≡ number_at beside.now place }
+/// Puts as many zeros behind the numbers as make so many of them.
+fn push_zeros(numbers: &mut Vec<i128>, count: usize) -> Result<(), AllocError>
+    ensures { OnOk result (numbers.new.items
+        ≡ numbers.old.items ++ replicate (count - length numbers.old.items) (pos 0)) }
 {
-    if place >= LEAST_PLAIN {
-        return i128::from(place);
+    for _place in 0..count.saturating_sub(numbers.len()) {
+        numbers.push(0)?;
     }
-    let index = (-(place + 1)) as usize;
-    beside[index - MOST_BESIDE]
-}
-
-/// The place of a number that stands there itself, where it can.
-fn plain_place(number: i128) -> Option<i32>
-    ensures { MatchOption result ⊤ (λ place. (place ≡ number) × IsPlain place) }
-{
-    if number < i128::from(LEAST_PLAIN) {
-        return None;
-    }
-    i32::try_from(number).ok()
-}
-
-/// The place that names the number beside at this index.
-fn place_beside(index: usize) -> Option<i32>
-    ensures { MatchOption result ⊤ (λ place. place ≡ negsuc (plain_limit + index)) }
-{
-    if index >= MOST_BESIDE {
-        return None;
-    }
-    Some(LEAST_PLAIN - 1 - index as i32)
+    Ok(())
 }

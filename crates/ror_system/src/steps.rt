@@ -23,9 +23,10 @@ pub fn first_negative(numbers: &[i128]) -> Option<usize>
 pub(crate) fn first_negative_of(numbers: &Numbers) -> Option<usize>
     ensures { MatchOption result (NoneNegative numbers.now) (IsFirstNegative numbers.now) }
 {
-    for place in 0..numbers.len() {
-        if numbers.entry(place) < 0 {
-            return Some(place);
+    let (places, values) = numbers.others();
+    for i in 0..places.len() {
+        if values.entry(i) < 0 {
+            return Some(places[i] as usize);
         }
     }
     None
@@ -35,8 +36,9 @@ pub(crate) fn first_negative_of(numbers: &Numbers) -> Option<usize>
 pub(crate) fn is_some_positive(numbers: &Numbers) -> bool
     ensures { IsTrue result ↔ SomePositive numbers.now }
 {
-    for place in 0..numbers.len() {
-        if numbers.entry(place) > 0 {
+    let (_places, values) = numbers.others();
+    for i in 0..values.len() {
+        if values.entry(i) > 0 {
             return true;
         }
     }
@@ -50,9 +52,10 @@ pub fn positive_total(numbers: &Numbers) -> Option<i128>
         (λ sum. (sum ≡ total numbers.now) × (pos 0 <ℤ total numbers.now)
         × IsNarrow (total numbers.now)) }
 {
+    let (_places, values) = numbers.others();
     let mut sum: i128 = 0;
-    for place in 0..numbers.len() {
-        sum = sum.checked_add(numbers.entry(place))?;
+    for i in 0..values.len() {
+        sum = sum.checked_add(values.entry(i))?;
     }
     if sum > 0 { Some(sum) } else { None }
 }

@@ -32,7 +32,7 @@ impl Sum {
             (λ sum. (sum.value ≡ self.value +ℤ a *ℤ b)
             × (sum.width ≡ self.width + unsigned_abs (a *ℤ b))) }
     {
-        // Most entries and most multipliers are 0, and a product of 128 bits is slow.
+        // Most entries of rows are 0, and a product of 128 bits is slow.
         if a == 0 || b == 0 {
             return Some(self);
         }
@@ -56,9 +56,11 @@ impl Sum {
             (λ sum. (sum.value ≡ self.value +ℤ dot multipliers.now (column rows.now j))
             × (sum.width ≡ self.width + absolute_dot multipliers.now (column rows.now j))) }
     {
+        let (places, values) = multipliers.others();
         let mut sum = self;
-        for i in 0..rows.len() {
-            sum = sum.plus(multipliers.entry(i), rows[i].entry(j))?;
+        for i in 0..places.len() {
+            let row = &rows[places[i] as usize];
+            sum = sum.plus(values.entry(i), row.entry(j))?;
         }
         Some(sum)
     }
@@ -70,9 +72,10 @@ pub(crate) fn row_at_steps(row: &Row, steps: &Numbers) -> Option<i128>
     ensures { MatchOption result (sum_limit ≤ absolute_dot row.now steps.now)
         (λ sum. (sum ≡ dot row.now steps.now) × (absolute_dot row.now steps.now < sum_limit)) }
 {
+    let (places, values) = steps.others();
     let mut sum = Sum::zero();
-    for j in 0..row.len() {
-        sum = sum.plus(row.entry(j), steps.entry(j))?;
+    for i in 0..places.len() {
+        sum = sum.plus(row.entry(places[i] as usize), values.entry(i))?;
     }
     Some(sum.value)
 }

@@ -1,9 +1,9 @@
 //! Lists of whole numbers.
 
-use ror_system::Numbers;
+use ror_system::{Numbers, Row, shared_front};
 use std::test::Fail;
 
-// 2^31 is the first number that doesn't stand in its place itself.
+// 2^31 is the first number that takes more than 8 bytes.
 #[test]
 fn numbers_of_any_width_are_kept(rt: HostRuntime) -> Result<(), Fail> {
     let mut list = Numbers::new(rt.alloc());
@@ -25,9 +25,33 @@ fn a_list_is_copied(rt: HostRuntime) -> Result<(), Fail> {
 #[test]
 fn lists_are_put_behind_others(rt: HostRuntime) -> Result<(), Fail> {
     let list = Numbers::of(rt.alloc(), &[0, -1, 1 << 31])?;
-    let mut other = Numbers::with_capacity(rt.alloc(), 3)?;
+    let mut other = Numbers::new(rt.alloc());
     other.push(0)?;
     other.push_rest(&list, 1)?;
     assert!(rt; other.is_same(&list));
+    Ok(())
+}
+
+#[test]
+fn zeros_come_back_among_the_numbers(rt: HostRuntime) -> Result<(), Fail> {
+    let list = Numbers::of(rt.alloc(), &[0, -1, 0, 1 << 31, 0])?;
+    let numbers = list.to_vec(rt.alloc())?;
+    assert!(rt; numbers.as_slice() == [0, -1, 0, 1 << 31, 0].as_slice());
+    assert!(rt; list.entry(2) == 0);
+    assert!(rt; list.are_within(1 << 31));
+    assert!(rt; !list.are_within(1 << 30));
+    Ok(())
+}
+
+#[test]
+fn a_row_shares_its_entries_with_its_copies(rt: HostRuntime) -> Result<(), Fail> {
+    let mut rows = Vec::new(rt.alloc());
+    rows.push(Row::from_slice(rt.alloc(), &[1, -1])?)?;
+    rows.push(Row::from_slice(rt.alloc(), &[2, 0])?)?;
+    let mut copies = Vec::new(rt.alloc());
+    copies.push(rows[0].copied()?)?;
+    copies.push(Row::from_slice(rt.alloc(), &[2, 0])?)?;
+    assert!(rt; shared_front(rows.as_slice(), copies.as_slice()) == 1);
+    assert!(rt; copies[0].entry(1) == -1);
     Ok(())
 }

@@ -5,7 +5,7 @@ use Rattle.ror_system.proofs.NumberLemmas.{IsLeftToPush-more, IsLeftToPush-end}
 use Rattle.ror_system.proofs.numbers.Numbers.of.Goals as goal
 
 pub loop-number-init : goal.loop-number-init
-loop-number-init c = ap (λ (xs : List ℤ). xs ++ c.args.numbers.now) c.in_ok-list.ensures
+loop-number-init c = ap (λ (xs : List ℤ). xs ++ c.args.numbers.now) c.new-list.ensures
 
 pub loop-number-preserved : goal.loop-number-preserved
 loop-number-preserved c =

@@ -1,6 +1,6 @@
 use Rattle.std.proofs.Common.{◌≡◌, ◌<◌, ℕ}
 use Rattle.ror_integers.specs.Vectors.{entry}
-use Rattle.ror_system.proofs.numbers.Numbers.is_same.Given as goal
+use Rattle.ror_system.proofs.values.Values.is_same.Given as goal
 
 abbrev pub invariant-loop-k : goal.invariant-loop-k
 invariant-loop-k l = (j : ℕ) → j < l.k → entry l.self j ≡ entry l.other j

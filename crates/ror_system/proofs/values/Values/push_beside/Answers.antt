@@ -1,9 +1,9 @@
 use Rattle.std.proofs.Common.{◌≡◌, ◌+◌, ◌∙◌, ◌++◌, ◌∷◌, [], negsuc, FitsSigned, length, rules}
 use Rattle.std.specs.Int.{w32, w128}
 use Rattle.std.proofs.lemmas.Int.{to_z-of_z}
-use Rattle.ror_system.specs.Numbers.{plain_limit}
-use Rattle.ror_system.proofs.NumberLemmas.{kept, with_one_beside, all_among}
-use Rattle.ror_system.proofs.numbers.Numbers.push_beside.Goals as goal
+use Rattle.ror_system.specs.Values.{plain_limit}
+use Rattle.ror_system.proofs.ValueLemmas.{kept, with_one_beside, all_among}
+use Rattle.ror_system.proofs.values.Values.push_beside.Goals as goal
 
 pub returns-in_err-push-2-clause-kept : goal.returns-in_err-push-2-clause-kept
 returns-in_err-push-2-clause-kept c =
