@@ -7,9 +7,7 @@ ghost use Rattle.ror_confidence.specs.Levels.{AreLevelsOf};
 ghost use Rattle.ror_pivot.specs.Answers.{most_of};
 ghost use Rattle.ror_given.specs.Answers.{IsGiven};
 
-use ror_confidence::{
-    Decider, LevelSearch, Levels, Span, SpanChecker, check_span, find_span, read_levels,
-};
+use ror_confidence::{Decider, Levels, Span, SpanChecker, check_span, find_span, read_levels};
 use ror_made::{may_stand, three_alternatives};
 use ror_pivot::Bits;
 use ror_proof::Answer;
@@ -68,8 +66,13 @@ fn need_a_pair(alloc: Global, table: &Table, standing: &[Numbered]) -> Result<()
     Ok(())
 }
 
-/// The span of the first two alternatives.
-fn found(alloc: Global, table: &Table, standing: &[Numbered], text: &[u8]) -> Result<Span, Fail> {
+/// The span of the first two alternatives, and how often the decider was asked.
+fn found(
+    alloc: Global,
+    table: &Table,
+    standing: &[Numbered],
+    text: &[u8],
+) -> Result<(Span, u32), Fail> {
     need_a_pair(alloc, table, standing)?;
     let levels = levels_in(alloc, standing, text)?;
     let mut decider = Counting { asked: 0 };
@@ -83,7 +86,7 @@ fn found(alloc: Global, table: &Table, standing: &[Numbered], text: &[u8]) -> Re
         1,
         Bits::B127,
     ) {
-        Ok(span) => Ok(span),
+        Ok(span) => Ok((span, decider.asked)),
         Err(_) => Err(Fail::new("nothing is too wide")),
     }
 }
@@ -93,10 +96,12 @@ fn ends_of(x: &Span) -> (u32, u32, u32) {
     (x.contradictory, x.necessary, x.possible)
 }
 
+// Two levels for the base, and each of two levels for each of two questions, are decided at most.
 #[test]
 fn a_span_is_found(rt: HostRuntime) -> Result<(), Fail> {
     let table = three_alternatives(rt.alloc())?;
-    let x = found(rt.alloc(), &table, A_OVER_B, TWO_LEVELS)?;
+    let (x, asked) = found(rt.alloc(), &table, A_OVER_B, TWO_LEVELS)?;
+    assert!(rt; asked <= 6);
     assert!(rt; ends_of(&x) == (3, 2, 2));
     Ok(())
 }
@@ -117,37 +122,10 @@ fn is_accepted(
 #[test]
 fn a_span_is_accepted_at_its_level_alone(rt: HostRuntime) -> Result<(), Fail> {
     let table = three_alternatives(rt.alloc())?;
-    let mut x = found(rt.alloc(), &table, A_OVER_B, TWO_LEVELS)?;
+    let (mut x, _) = found(rt.alloc(), &table, A_OVER_B, TWO_LEVELS)?;
     assert!(rt; is_accepted(rt.alloc(), &table, A_OVER_B, TWO_LEVELS, &x)?);
     x.necessary = 1;
     assert!(rt; !is_accepted(rt.alloc(), &table, A_OVER_B, TWO_LEVELS, &x)?);
-    Ok(())
-}
-
-/// The span of the first two alternatives, as a search finds it, and how often the decider was asked.
-fn searched(
-    alloc: Global,
-    table: &Table,
-    standing: &[Numbered],
-    text: &[u8],
-) -> Result<(Span, u32), Fail> {
-    need_a_pair(alloc, table, standing)?;
-    let levels = levels_in(alloc, standing, text)?;
-    let mut decider = Counting { asked: 0 };
-    let mut search = LevelSearch::new(alloc, &mut decider, table, standing, &levels, Bits::B127)?;
-    match search.find(alloc, &mut decider, table, 0, 1, Bits::B127) {
-        Ok(span) => Ok((span, decider.asked)),
-        Err(_) => Err(Fail::new("nothing is too wide")),
-    }
-}
-
-// Two levels for the base, and each of two levels for each of two questions, are decided at most.
-#[test]
-fn a_search_finds_the_span(rt: HostRuntime) -> Result<(), Fail> {
-    let table = three_alternatives(rt.alloc())?;
-    let (x, asked) = searched(rt.alloc(), &table, A_OVER_B, TWO_LEVELS)?;
-    assert!(rt; asked <= 6);
-    assert!(rt; ends_of(&x) == (3, 2, 2));
     Ok(())
 }
 
@@ -168,7 +146,7 @@ fn is_accepted_by_one(
 #[test]
 fn a_checker_accepts_a_span(rt: HostRuntime) -> Result<(), Fail> {
     let table = three_alternatives(rt.alloc())?;
-    let x = found(rt.alloc(), &table, A_OVER_B, TWO_LEVELS)?;
+    let (x, _) = found(rt.alloc(), &table, A_OVER_B, TWO_LEVELS)?;
     assert!(rt; is_accepted_by_one(rt.alloc(), &table, A_OVER_B, TWO_LEVELS, &x)?);
     Ok(())
 }
