@@ -1,4 +1,4 @@
-//! Systems of two rows, and what deciding one comes to.
+//! Systems of few rows, and what deciding one comes to.
 
 ghost use Rattle.std.specs.List.{AllByRecursion};
 ghost use Rattle.ror_system.specs.System.{IsNarrow};
@@ -21,6 +21,27 @@ pub(crate) fn system(alloc: Global, entries: &[i128]) -> Option<System>
     strict.push(total).ok()?;
     strict.push(row).ok()?;
     Some(System::new(columns, Vec::new(alloc), strict))
+}
+
+/// The system of the row of ones and these weak rows, within the limits and of one width.
+pub(crate) fn weak_system(alloc: Global, first: &[i128], second: &[i128]) -> Option<System>
+    requires first { AllByRecursion IsNarrow first.now }
+    requires second { AllByRecursion IsNarrow second.now }
+{
+    let columns = first.len();
+    if columns > 2000 {
+        return None;
+    }
+    if second.len() != columns {
+        return None;
+    }
+    let total = Row::from_slice(alloc, vec![in alloc; 1i128; columns].ok()?.as_slice()).ok()?;
+    let mut weak = Vec::new(alloc);
+    weak.push(Row::from_slice(alloc, first).ok()?).ok()?;
+    weak.push(Row::from_slice(alloc, second).ok()?).ok()?;
+    let mut strict = Vec::new(alloc);
+    strict.push(total).ok()?;
+    Some(System::new(columns, weak, strict))
 }
 
 /// What a system comes to: an accepted solution, accepted multipliers, a number that is too wide, or nothing that is accepted.

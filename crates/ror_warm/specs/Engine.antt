@@ -7,12 +7,8 @@ use Rattle.ror_pivot.specs.declared.note.SolveFault.TheVariants.{Wide, Memory}
 use Rattle.ror_pivot.specs.Answers.{IsAccepted, IsNarrowOutcome, IsNoteWithin}
 use Rattle.ror_pivot.specs.Notes.{IsWideNote}
 
--- The present system has the rows that the weak chain links and those that the strict chain links, each in order, over so
--- many columns. At first, and after want of memory, there is none.
-pub record PresentView : Type 0 where
-  pub system : Option LinearSystem
-
--- an engine, by its present system and the pivots made so far
+-- An engine, by its present system and the pivots made so far. The present system is the one that was asked of last. At first,
+-- and after want of memory, there is none.
 pub record EngineView : Type 0 where
   pub present : Option LinearSystem
   pub pivots : ℕ

@@ -6,7 +6,7 @@ ghost use Rattle.ror_pivot.specs.declared.note.SolveFault.TheVariants.{Memory};
 ghost use Rattle.ror_warm.specs.Engine.{IsFitting, IsFaultOf, present_after};
 
 use crate::fitting::outcome_fits;
-use crate::present::Present;
+use crate::present::{copied, front_of, is_same};
 use crate::warm::Warm;
 use ror_pivot::{Bits, Outcome, SolveFault, solve_counted};
 use ror_system::System;
@@ -17,7 +17,7 @@ use std::marker::Model;
 /// which is the last one that was asked of, and how many pivots were made.
 #[derive(Drop)]
 pub struct Engine {
-    present: Present,
+    present: Option<System>,
     warm: Warm,
     pivots: u64,
     alloc: Global,
@@ -28,7 +28,7 @@ impl Model for Engine {
 
     ghost Value = { EngineView };
 
-    ghost view = { λ engine. record { present = engine.present.system; pivots = engine.pivots } };
+    ghost view = { λ engine. record { present = engine.present; pivots = engine.pivots } };
 }
 
 impl Engine {
@@ -38,7 +38,7 @@ impl Engine {
         ensures pivots { result.pivots ≡ 0 }
     {
         Engine {
-            present: Present::new(alloc),
+            present: None,
             warm: Warm::new(alloc),
             pivots: 0,
             alloc,
@@ -68,12 +68,15 @@ impl Engine {
         }
     }
 
-    /// Whether the rows that are linked are those of the system: the weak ones, and the strict ones, each in order, over as
+    /// Whether the rows of the present system are those of this one: the weak ones, and the strict ones, each in order, over as
     /// many columns. It takes no memory.
     pub fn holds(&self, s: &System) -> bool
         ensures { IsTrue result ↔ (self.now.present ≡ Some s.now) }
     {
-        self.present.holds(s)
+        match &self.present {
+            Some(present) => is_same(present, s),
+            None => false,
+        }
     }
 
     /// How many pivots were made so far. The count stands still at its greatest value.
@@ -90,7 +93,8 @@ impl Engine {
         ensures present { result ≢ Err Memory → self.new.present ≡ Some s.now }
         ensures counted { self.old.pivots ≤ self.new.pivots }
     {
-        let front = self.present.take_over(s)?;
+        let front = front_of(&self.present, s);
+        self.present = Some(copied(self.alloc, s)?);
         self.warm.take_over(s, front)?;
         if let Some(outcome) = self.kept(s, bits)? {
             return Ok(outcome);
@@ -135,13 +139,40 @@ impl Engine {
         }
     }
 
-    /// What the pivots from the last tableau come to, where it is accepted for the present system and fits the width.
+    /// What the pivots from the last tableau come to, where it is accepted for the present system and fits the width. Where it
+    /// isn't, rounding may have taken too much, and the basis is built anew.
     fn pivoted(&mut self, s: &System, bits: Bits) -> Result<Option<Outcome>, AllocError>
         ensures fitting { IfOk result (λ found. IfSome found (IsFitting (most_of bits) s.now)) }
         ensures present { self.new.present ≡ self.old.present }
         ensures counted { self.old.pivots ≤ self.new.pivots }
     {
         match self.warm.pivoted(&mut self.pivots)? {
+            Some(outcome) if outcome_fits(s, &outcome, bits) => Ok(Some(outcome)),
+            Some(_) => self.pivoted_anew(s, bits),
+            None => self.pivoted_exactly(s, bits),
+        }
+    }
+
+    /// What the pivots from the basis of the last tableau, built anew, come to, where it is accepted and fits the width.
+    fn pivoted_anew(&mut self, s: &System, bits: Bits) -> Result<Option<Outcome>, AllocError>
+        ensures fitting { IfOk result (λ found. IfSome found (IsFitting (most_of bits) s.now)) }
+        ensures present { self.new.present ≡ self.old.present }
+        ensures counted { self.old.pivots ≤ self.new.pivots }
+    {
+        match self.warm.pivoted_anew(&mut self.pivots)? {
+            Some(outcome) if outcome_fits(s, &outcome, bits) => Ok(Some(outcome)),
+            _ => self.pivoted_exactly(s, bits),
+        }
+    }
+
+    /// What exact pivots from nothing come to, where it is accepted and fits the width: what is rounded may pass it, or its steps
+    /// lie too far apart.
+    fn pivoted_exactly(&mut self, s: &System, bits: Bits) -> Result<Option<Outcome>, AllocError>
+        ensures fitting { IfOk result (λ found. IfSome found (IsFitting (most_of bits) s.now)) }
+        ensures present { self.new.present ≡ self.old.present }
+        ensures counted { self.old.pivots ≤ self.new.pivots }
+    {
+        match self.warm.pivoted_exactly(&mut self.pivots)? {
             Some(outcome) if outcome_fits(s, &outcome, bits) => Ok(Some(outcome)),
             _ => Ok(None),
         }
@@ -152,7 +183,7 @@ impl Engine {
         ensures present { self.new.present ≡ None }
         ensures pivots { self.new.pivots ≡ self.old.pivots }
     {
-        self.present.forget();
+        self.present = None;
         self.warm.forget();
     }
 }

@@ -29,3 +29,18 @@ impl<T: Drop> From<AllocFailed<T>> for TableauFault {
         TableauFault::Memory
     }
 }
+
+/// Nothing in the place of what was lost.
+///
+/// # Errors
+///
+/// Only want of memory.
+pub(crate) fn without_lost<T: Drop>(
+    given: Result<T, TableauFault>,
+) -> Result<Option<T>, AllocError> {
+    match given {
+        Ok(value) => Ok(Some(value)),
+        Err(TableauFault::Lost) => Ok(None),
+        Err(TableauFault::Memory) => Err(AllocError),
+    }
+}

@@ -40,13 +40,7 @@ fn multipliers_fit(s: &System, multipliers: &Multipliers, bits: Bits) -> bool
 fn are_within(numbers: &Numbers, bits: Bits) -> bool
     ensures { IsTrue result → AllByRecursion (IsWithin (most_of bits)) numbers.now }
 {
-    let most = most(bits);
-    for k in 0..numbers.len() {
-        if numbers.entry(k).unsigned_abs() > most {
-            return false;
-        }
-    }
-    true
+    numbers.are_within(most(bits))
 }
 
 /// The greatest number of a width.

@@ -2,10 +2,11 @@
 //! Deciding many systems that have most of their rows in common.
 //!
 //! An [`Engine`] answers as `ror_pivot::solve_bits` does, by outcomes that `ror_system` accepts and that fit the width, and
-//! names a number that is too wide only where the system has that note. To save pivots it keeps what it has met: the rows,
-//! whose places two chains link in the order of the present system; up to 100 solutions and 100 lists of multipliers, of which
-//! the first that seems to hold at the rows is put to acceptance before any pivot is made; and a tableau of the last system.
-//! Where these settle nothing the system is decided anew. That pivots are saved is no part of any contract.
+//! names a number that is too wide only where the system has that note. The *present system* is the one that was asked of last:
+//! its weak rows and its strict rows, in order, over its columns. To save pivots the engine keeps, besides these rows, up to 100
+//! solutions and 100 lists of multipliers, of which the first that seems to hold at the rows is put to acceptance before any
+//! pivot is made; and a tableau of the last system, whose numbers are rounded. Where these settle nothing the system is decided
+//! anew by `ror_pivot`. That pivots are saved is no part of any contract.
 //!
 //! Over two columns let `s` have the strict rows (1, 1) and (1, -1), and `t` have (-1, 1) behind them.
 //! [`Engine::solve_warm`] gives
@@ -17,15 +18,22 @@
 
 mod certificates;
 mod engine;
+mod entering;
+mod exact;
 mod fault;
 mod fitting;
 mod line;
-mod linking;
-mod met;
+mod near;
+mod outcomes;
+mod pivoting;
 mod present;
+mod rebuilding;
+mod rounding;
 mod rows;
+mod solved;
 mod store;
 mod tableau;
+mod ties;
 mod warm;
 
 pub use engine::Engine;

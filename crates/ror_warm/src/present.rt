@@ -1,108 +1,91 @@
-//! The present system, by chains of the rows that were met.
+//! The present system: a copy of the one that was asked of last.
 
-ghost use Rattle.std.specs.Prelude.{◌≡◌, ◌↔◌, ◌≤◌, Some, None, IsTrue, IfOk, OnOk, OnErr, length};
-ghost use Rattle.ror_warm.specs.Chains.{linked_rows, ArePlaces};
+ghost use Rattle.std.specs.Prelude.{◌≡◌, ◌↔◌, IsTrue, IfOk};
 
-use crate::linking::{common_front, link_rows};
-use crate::met::MetRow;
 use crate::store::Front;
-use ror_chain::Chain;
-use ror_system::{Row, System};
+use ror_system::{Row, System, shared_front};
 use std::alloc::{AllocError, Global};
-use std::marker::Model;
 
-/// Past so many nodes the rows and the chains are made anew.
-const MOST_NODES: usize = 4_400;
-
-/// The rows that were met, each at its place, and which of them are those of the present system.
-#[derive(Drop)]
-pub(crate) struct Present {
-    rows: Vec<MetRow>,
-    weak: Chain<usize>,
-    strict: Chain<usize>,
-    columns: Option<usize>,
-    alloc: Global,
-}
-
-impl Model for Present {
-    ghost use Rattle.ror_warm.specs.Engine.{PresentView};
-
-    ghost Value = { PresentView };
-
-    ghost use Rattle.ror_warm.specs.Present.{contents, IsWhole};
-
-    ghost view = { contents };
-
-    ghost invariant = { IsWhole };
-}
-
-impl Present {
-    /// No row was met, and no system is present.
-    pub(crate) fn new(alloc: Global) -> Present
-        ensures { result.system ≡ None }
-    {
-        Present {
-            rows: Vec::new(alloc),
-            weak: Chain::new(alloc),
-            strict: Chain::new(alloc),
-            columns: None,
-            alloc,
-        }
-    }
-
-    /// Whether this system is present.
-    pub(crate) fn holds(&self, s: &System) -> bool
-        ensures { IsTrue result ↔ (self.now.system ≡ Some s.now) }
-    {
-        if self.columns != Some(s.columns()) {
-            return false;
-        }
-        if !links(self.rows.as_slice(), &self.weak, s.weak()) {
-            return false;
-        }
-        links(self.rows.as_slice(), &self.strict, s.strict())
-    }
-
-    /// Makes this system the present one. Rows that it has in common with the one before, at the front, stay linked.
-    ///
-    /// # Errors
-    ///
-    /// Only want of memory. Then no system is present.
-    pub(crate) fn take_over(&mut self, s: &System) -> Result<Front, AllocError>
-        ensures taken_over { OnOk result (self.new.system ≡ Some s.now) }
-        ensures weak { IfOk result (λ front. front.weak ≤ length s.now.weak) }
-        ensures strict { IfOk result (λ front. front.strict ≤ length s.now.strict) }
-        ensures none { OnErr result (self.new.system ≡ None) }
-    {
-        if self.rows.len() > MOST_NODES {
-            self.forget();
-        }
-        self.columns = None;
-        let weak = link_rows(&mut self.rows, &mut self.weak, self.alloc, s.weak())?;
-        let strict = link_rows(&mut self.rows, &mut self.strict, self.alloc, s.strict())?;
-        self.columns = Some(s.columns());
-        Ok(Front { weak, strict })
-    }
-
-    /// Forgets all rows; no system is present.
-    pub(crate) fn forget(&mut self)
-        ensures { self.new.system ≡ None }
-    {
-        self.rows = Vec::new(self.alloc);
-        self.weak = Chain::new(self.alloc);
-        self.strict = Chain::new(self.alloc);
-        self.columns = None;
-    }
-}
-
-/// Whether the chain links the rows of the list and no others.
-fn links(rows: &[MetRow], chain: &Chain<usize>, list: &[Row]) -> bool
-    requires { ArePlaces rows.now chain.now.state }
-    ensures { IsTrue result ↔ (linked_rows rows.now chain.now.state ≡ list.now) }
+/// The same system again.
+///
+/// # Errors
+///
+/// Only want of memory.
+pub(crate) fn copied(alloc: Global, s: &System) -> Result<System, AllocError>
+    ensures { IfOk result (λ copy. copy ≡ s.now) }
 {
-    let front = common_front(rows, chain, list);
-    if front.common < front.linked {
+    let weak = copied_rows(alloc, s.weak())?;
+    let strict = copied_rows(alloc, s.strict())?;
+    Ok(System::new(s.columns(), weak, strict))
+}
+
+/// The same rows again.
+fn copied_rows(alloc: Global, rows: &[Row]) -> Result<Vec<Row>, AllocError>
+    ensures { IfOk result (λ copies. copies.items ≡ rows.now) }
+{
+    let mut copies = Vec::with_capacity(alloc, rows.len())?;
+    for row in rows {
+        copies.push(row.copied()?)?;
+    }
+    Ok(copies)
+}
+
+/// Whether two systems have the same rows: the weak ones, and the strict ones, each in order, over as many columns.
+pub(crate) fn is_same(a: &System, b: &System) -> bool
+    ensures { IsTrue result ↔ (a.now ≡ b.now) }
+{
+    if a.columns() != b.columns() {
         return false;
     }
-    front.common == list.len()
+    if !are_same(a.weak(), b.weak()) {
+        return false;
+    }
+    are_same(a.strict(), b.strict())
+}
+
+/// Whether two lists have the same rows in order.
+fn are_same(a: &[Row], b: &[Row]) -> bool
+    ensures { IsTrue result ↔ (a.now ≡ b.now) }
+{
+    if a.len() != b.len() {
+        return false;
+    }
+    for place in 0..a.len() {
+        if !is_same_row(&a[place], &b[place]) {
+            return false;
+        }
+    }
+    true
+}
+
+/// Whether two rows have the same entries.
+fn is_same_row(a: &Row, b: &Row) -> bool
+    ensures { IsTrue result ↔ (a.now ≡ b.now) }
+{
+    a.as_slice() == b.as_slice()
+}
+
+/// How many rows at the front of either part are those of the present system, if there is one. Nothing is promised of it: it
+/// saves work.
+pub(crate) fn front_of(present: &Option<System>, s: &System) -> Front {
+    match present {
+        Some(old) => Front {
+            weak: common_front(old.weak(), s.weak()),
+            strict: common_front(old.strict(), s.strict()),
+        },
+        None => Front { weak: 0, strict: 0 },
+    }
+}
+
+/// How many rows at the front of two lists are the same. Most are copies of one, whose entries needn't be compared.
+fn common_front(a: &[Row], b: &[Row]) -> usize {
+    let shared = shared_front(a, b);
+    let mut common = shared;
+    for (own, other) in a.iter().zip(b.iter()).skip(shared) {
+        if !is_same_row(own, other) {
+            return common;
+        }
+        common = common.saturating_add(1);
+    }
+    common
 }

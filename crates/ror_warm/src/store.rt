@@ -164,6 +164,17 @@ impl RowStore {
             .position(|uses| !uses.present && !uses.in_tableau)
     }
 
+    /// Twice the widest entry of the rows of the present system.
+    pub(crate) fn widest_sum(&self) -> i64 {
+        let mut widest: i64 = 0;
+        for (row, uses) in self.rows.iter().zip(self.uses.iter()) {
+            if uses.present {
+                widest = widest.max(row.widest);
+            }
+        }
+        widest.saturating_mul(2)
+    }
+
     /// Takes note that no tableau has a row.
     pub(crate) fn leave_tableau(&mut self) {
         for uses in self.uses.iter_mut() {

@@ -3,19 +3,19 @@
 
 ghost use Rattle.std.specs.Prelude.{◌≤◌};
 
-use crate::certificates::{KeptLists, KeptMultipliers, Weight};
-use crate::fault::TableauFault;
-use crate::store::{Front, Position, RowStore};
-use crate::tableau::{End, Multiplier, Tableau};
+use crate::certificates::KeptLists;
+use crate::exact::exact_end;
+use crate::fault::{TableauFault, without_lost};
+use crate::near::near;
+use crate::outcomes::{kept_outcome, multipliers_outcome, solution_outcome, sums_of};
+use crate::store::{Front, RowStore};
+use crate::tableau::{End, Tableau};
 use ror_pivot::Outcome;
-use ror_system::{Multipliers, Numbers, Solution, System};
+use ror_system::System;
 use std::alloc::{AllocError, Global};
 
-/// So many pivots are made in one call at most.
-const MOST_PIVOTS: u64 = 1_000;
-
-/// The pivots of one call change so many numbers at most, where each changes the square of the rows.
-const MOST_WORK: u64 = 1 << 32;
+/// So many pivots are made from one tableau at most.
+const MOST_PIVOTS: u64 = 20_000;
 
 /// Rows, certificates and a tableau of the systems that were decided.
 #[derive(Drop)]
@@ -100,10 +100,7 @@ impl Warm {
             return Ok(None);
         };
         match self.lists.multipliers_of(store, self.front) {
-            Some((position, kept)) => {
-                let multipliers = multipliers_with(self.alloc, store, kept, position)?;
-                Ok(Some(Outcome::Infeasible(multipliers)))
-            }
+            Some((position, kept)) => { Ok(Some(kept_outcome(self.alloc, store, kept, position)?)) }
             None => Ok(None),
         }
     }
@@ -122,6 +119,40 @@ impl Warm {
         let found = self.pivoted_over(&mut store, pivots)?;
         self.store = Some(store);
         Ok(found)
+    }
+
+    /// What the pivots from the basis of the last tableau, built anew, come to at the present system. They are counted.
+    ///
+    /// # Errors
+    ///
+    /// Only want of memory.
+    pub(crate) fn pivoted_anew(&mut self, pivots: &mut u64) -> Result<Option<Outcome>, AllocError>
+        ensures { pivots.old ≤ pivots.new }
+    {
+        let Some(mut store) = self.store.take() else {
+            return Ok(None);
+        };
+        let found = self.found_anew(&mut store, pivots)?;
+        self.store = Some(store);
+        Ok(found)
+    }
+
+    /// What exact pivots from nothing come to at the present system. They are counted.
+    ///
+    /// # Errors
+    ///
+    /// Only want of memory.
+    pub(crate) fn pivoted_exactly(&self, pivots: &mut u64) -> Result<Option<Outcome>, AllocError>
+        ensures { pivots.old ≤ pivots.new }
+    {
+        let Some(store) = &self.store else {
+            return Ok(None);
+        };
+        let end = exact_end(self.alloc, store, pivots);
+        match without_lost(end)? {
+            Some(end) => outcome_of(self.alloc, store, end, pivots),
+            None => Ok(None),
+        }
     }
 
     /// Keeps an outcome of the present system.
@@ -155,49 +186,74 @@ impl Warm {
     ) -> Result<Option<Outcome>, AllocError>
         ensures { pivots.old ≤ pivots.new }
     {
-        let most = most_pivots(store.rows.len());
-        let before = *pivots;
         if self.tableau.is_some() {
-            match self.end_over(store, most, pivots) {
-                Ok(end) => return outcome_of(self.alloc, store, end),
-                Err(TableauFault::Memory) => return Err(AllocError),
-                Err(TableauFault::Lost) => {}
+            if let Some(outcome) = self.found_or_anew(store, pivots)? {
+                return Ok(Some(outcome));
             }
         }
         store.leave_tableau();
-        self.tableau = Some(Tableau::new(self.alloc, store.columns)?);
-        let made = pivots.saturating_sub(before);
-        match self.end_over(store, most.saturating_sub(made), pivots) {
-            Ok(end) => outcome_of(self.alloc, store, end),
-            Err(TableauFault::Memory) => Err(AllocError),
-            Err(TableauFault::Lost) => Ok(None),
+        let widest_sum = store.widest_sum();
+        self.tableau = Some(Tableau::new(self.alloc, store.columns, false, widest_sum)?);
+        self.found_or_anew(store, pivots)
+    }
+
+    /// What the tableau that is there comes to, or else the same basis built anew.
+    fn found_or_anew(
+        &mut self,
+        store: &mut RowStore,
+        pivots: &mut u64,
+    ) -> Result<Option<Outcome>, AllocError>
+        ensures { pivots.old ≤ pivots.new }
+    {
+        match self.found(store, pivots)? {
+            Some(outcome) => Ok(Some(outcome)),
+            None => self.found_anew(store, pivots),
         }
     }
 
-    /// How at most so many pivots end from the tableau that is there, once it has the rows of the present system. At a fault it
-    /// is gone.
-    fn end_over(
+    /// What the basis of the tableau that is there, built anew, comes to.
+    fn found_anew(
         &mut self,
         store: &mut RowStore,
-        most: u64,
         pivots: &mut u64,
-    ) -> Result<End, TableauFault>
+    ) -> Result<Option<Outcome>, AllocError>
+        ensures { pivots.old ≤ pivots.new }
+    {
+        let Some(old) = self.tableau.take() else {
+            return Ok(None);
+        };
+        let new = old.rebuilt(self.alloc, store.rows.as_slice(), pivots);
+        self.tableau = without_lost(new)?;
+        self.found(store, pivots)
+    }
+
+    /// What the tableau that is there comes to.
+    fn found(
+        &mut self,
+        store: &mut RowStore,
+        pivots: &mut u64,
+    ) -> Result<Option<Outcome>, AllocError>
+        ensures { pivots.old ≤ pivots.new }
+    {
+        let end = self.end_over(store, pivots);
+        match without_lost(end)? {
+            Some(end) => outcome_of(self.alloc, store, end, pivots),
+            None => Ok(None),
+        }
+    }
+
+    /// How the pivots end from the tableau that is there, once it has the rows of the present system. At a fault it is gone.
+    fn end_over(&mut self, store: &mut RowStore, pivots: &mut u64) -> Result<End, TableauFault>
         ensures { pivots.old ≤ pivots.new }
     {
         let Some(mut tableau) = self.tableau.take() else {
             return Err(TableauFault::Lost);
         };
         bring_up(&mut tableau, self.alloc, store, pivots)?;
-        let end = tableau.run(self.alloc, store.rows.as_slice(), most, pivots)?;
+        let end = tableau.run(self.alloc, store.rows.as_slice(), MOST_PIVOTS, pivots)?;
         self.tableau = Some(tableau);
         Ok(end)
     }
-}
-
-/// How many pivots are made at most over so many rows.
-fn most_pivots(rows: usize) -> u64 {
-    let numbers = (rows as u64).saturating_mul(rows as u64).max(1);
-    (MOST_WORK / numbers).min(MOST_PIVOTS)
 }
 
 /// Brings a tableau to the rows of the present system.
@@ -228,116 +284,32 @@ fn bring_up(
     Ok(())
 }
 
-/// What an end shows of the present system, if anything.
+/// What an end shows of the present system, if anything. Pivots are counted.
 ///
 /// # Errors
 ///
 /// Only want of memory.
-fn outcome_of(alloc: Global, store: &RowStore, end: End) -> Result<Option<Outcome>, AllocError> {
+fn outcome_of(
+    alloc: Global,
+    store: &RowStore,
+    end: End,
+    pivots: &mut u64,
+) -> Result<Option<Outcome>, AllocError>
+    ensures { pivots.old ≤ pivots.new }
+{
     match end {
         End::Solution(sums) => Ok(Some(solution_outcome(alloc, sums.as_slice())?)),
         End::Multipliers(list) => {
-            let multipliers = multipliers_of(alloc, store, list.as_slice())?;
-            Ok(Some(Outcome::Infeasible(multipliers)))
+            let outcome = multipliers_outcome(alloc, store, list.as_slice())?;
+            Ok(Some(outcome))
         }
-        End::TooLong => Ok(None),
-    }
-}
-
-/// The solution whose steps have these sums before each place.
-fn solution_outcome(alloc: Global, sums: &[i64]) -> Result<Outcome, AllocError> {
-    let mut steps = Numbers::with_capacity(alloc, sums.len())?;
-    let mut before: i64 = 0;
-    for sum in sums.iter().skip(1) {
-        steps.push(i128::from(sum.wrapping_sub(before)))?;
-        before = *sum;
-    }
-    Ok(Outcome::Feasible(Solution { steps }))
-}
-
-/// The sums of these steps before each place, unless one is too wide.
-fn sums_of(alloc: Global, steps: &Numbers) -> Result<Option<Vec<i64>>, AllocError> {
-    let mut sums = Vec::with_capacity(alloc, steps.len().saturating_add(1))?;
-    let mut sum: i64 = 0;
-    sums.push(0)?;
-    for place in 0..steps.len() {
-        let Some(next) = next_sum(sum, steps.entry(place)) else {
-            return Ok(None);
-        };
-        sum = next;
-        sums.push(sum)?;
-    }
-    Ok(Some(sums))
-}
-
-/// A sum with one step more, unless it is too wide.
-fn next_sum(sum: i64, step: i128) -> Option<i64> {
-    sum.checked_add(i64::try_from(step).ok()?)
-}
-
-/// Multipliers for the rows of the present system, all 0.
-fn no_multipliers(alloc: Global, store: &RowStore) -> Result<(Vec<i128>, Vec<i128>), AllocError> {
-    let weak = vec![in alloc; 0; store.weak.len()]?;
-    let strict = vec![in alloc; 0; store.strict.len()]?;
-    Ok((weak, strict))
-}
-
-/// The multipliers of these rows, those of other rows being 0.
-fn multipliers_of(
-    alloc: Global,
-    store: &RowStore,
-    list: &[Multiplier],
-) -> Result<Multipliers, AllocError> {
-    let (mut weak, mut strict) = no_multipliers(alloc, store)?;
-    for multiplier in list {
-        set_at_place(&mut weak, &store.weak, *multiplier);
-        set_at_place(&mut strict, &store.strict, *multiplier);
-    }
-    Ok(Multipliers {
-        weak: Numbers::of(alloc, weak.as_slice())?,
-        strict: Numbers::of(alloc, strict.as_slice())?,
-    })
-}
-
-/// Sets the number at the position at which the place of the row stands, if it does.
-fn set_at_place(numbers: &mut Vec<i128>, places: &Vec<usize>, multiplier: Multiplier) {
-    for (number, place) in numbers.iter_mut().zip(places.iter()) {
-        if *place == multiplier.place {
-            *number = multiplier.value;
-        }
-    }
-}
-
-/// Kept multipliers with their further row.
-fn multipliers_with(
-    alloc: Global,
-    store: &RowStore,
-    kept: &KeptMultipliers,
-    position: Position,
-) -> Result<Multipliers, AllocError> {
-    let (mut weak, mut strict) = no_multipliers(alloc, store)?;
-    set_weights(&mut weak, &kept.weak);
-    set_weights(&mut strict, &kept.strict);
-    match position {
-        Position::Weak(position) => set_at(&mut weak, position, kept.weight),
-        Position::Strict(position) => set_at(&mut strict, position, kept.weight),
-    }
-    Ok(Multipliers {
-        weak: Numbers::of(alloc, weak.as_slice())?,
-        strict: Numbers::of(alloc, strict.as_slice())?,
-    })
-}
-
-/// Sets each weight at its position.
-fn set_weights(numbers: &mut Vec<i128>, weights: &Vec<Weight>) {
-    for weight in weights.iter() {
-        set_at(numbers, weight.position, weight.value);
-    }
-}
-
-/// Sets the number at a position, if there is one.
-fn set_at(numbers: &mut Vec<i128>, position: usize, value: i128) {
-    if let Some(number) = numbers.get_mut(position) {
-        *number = value;
+        End::Near(list, steps) => match near(alloc, store, list, steps.as_slice(), pivots)? {
+            Some(list) => {
+                let outcome = multipliers_outcome(alloc, store, list.as_slice())?;
+                Ok(Some(outcome))
+            }
+            None => Ok(None),
+        },
+        End::Apart | End::TooLong => Ok(None),
     }
 }
