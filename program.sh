@@ -16,9 +16,9 @@ if [ $# = 1 ]; then
   esac
 fi
 
+# Definitions and proofs make no difference to what the program does, and looking them over would take as long as a small run.
 is_fresh() {
-  [ -x "$program" ] && [ -z "$(find "$top/crates" "$top/crates.txt" -name out -prune -o -type f -newer "$program" \
-    \( -name '*.rt' -o -name '*.antt' -o -name crates.txt \) -print -quit)" ]
+  [ -x "$program" ] && [ -z "$(find "$top"/crates/*/src "$top/crates.txt" -type f -newer "$program" -print -quit)" ]
 }
 
 # the crates of this repository that a crate stands on, lowest first: those that its line in crates.txt has, and theirs
