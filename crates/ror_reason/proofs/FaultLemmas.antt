@@ -22,7 +22,7 @@ use Rattle.ror_check.proofs.FirstFaults.{passes_each_test}
 use Rattle.ror_reason.specs.declared.fault.ReductFault.{ReductFault}
 use Rattle.ror_reason.specs.declared.fault.ReductFault.TheVariants as faults
 use Rattle.ror_reason.specs.declared.reducts.Reduct.{Reduct}
-use Rattle.ror_reason.specs.Reducts.{stated, without, Concludes, IsReduct, IsProvedOther, IsProvedReduct}
+use Rattle.ror_reason.specs.Reducts.{stated, without, RestsOnPart, Concludes, IsReduct, IsProvedOther, IsProvedReduct}
 use Rattle.ror_reason.specs.ReductFaults.{IsSameAt, FailsOther, FailsReduct, reduct_stage, reduct_place, IsEarlierReductFault}
 use Rattle.ror_reason.specs.CheckSteps.{RefusesPart, RefusesOther, RefusesOthers, AreProvedBefore}
 use Rattle.ror_reason.proofs.LawLemmas.{at_place, proved_is_reduct}
@@ -69,6 +69,7 @@ module _ (t : DecisionTable) (list : List Numbered) (q : Question) (c : Conclusi
     λ b is. subst (AreProvedBefore t list q c ns xs) (let e = h.0 in omega (arith, e, counted, is)) before,
   )
   others_refuse i at n other faults.Memory counted before number there h = tt
+  others_refuse i at n other faults.NotCarried counted before number there h = absurd h
   others_refuse i at n other faults.WrongNumbers counted before number there h = absurd h
   others_refuse i at n other faults.Count counted before number there h = absurd h
   others_refuse i at n other faults.AnotherAnswer counted before number there h = absurd h
@@ -80,17 +81,31 @@ module _ (t : DecisionTable) (list : List Numbered) (q : Question) (c : Conclusi
   abbrev Refused : ReductFault → Type 0
   Refused e = IsRefusedBy (FailsReduct t list q c x) IsEarlierReductFault faults.Memory e
 
-  pub numbers_refused : (AreNumbersIn list x.numbers → ⊥) → Refused faults.WrongNumbers
-  numbers_refused fails ne = record { fails = fails; none_before = before }
+  pub carried_refused : (RestsOnPart q c → ⊥) → Refused faults.NotCarried
+  carried_refused fails ne = record { fails = fails; none_before = before }
+    where
+      before : (g : ReductFault) → IsEarlierReductFault g faults.NotCarried → FailsReduct t list q c x g → ⊥
+      before g earlier h = not_earlier reduct_stage reduct_place g faults.NotCarried (omega arith) (omega arith) earlier
+
+  pub numbers_refused : RestsOnPart q c → (AreNumbersIn list x.numbers → ⊥) → Refused faults.WrongNumbers
+  numbers_refused rests fails ne = record { fails = fails; none_before = before }
     where
       before : (g : ReductFault) → IsEarlierReductFault g faults.WrongNumbers → FailsReduct t list q c x g → ⊥
-      before g earlier h = not_earlier reduct_stage reduct_place g faults.WrongNumbers (omega arith) (omega arith) earlier
+      before faults.NotCarried earlier h = h rests
+      before faults.WrongNumbers earlier h = not_earlier reduct_stage reduct_place faults.WrongNumbers faults.WrongNumbers (omega arith) (omega arith) earlier
+      before faults.Count earlier h = not_earlier reduct_stage reduct_place faults.Count faults.WrongNumbers (omega arith) (omega arith) earlier
+      before faults.AnotherAnswer earlier h = not_earlier reduct_stage reduct_place faults.AnotherAnswer faults.WrongNumbers (omega arith) (omega arith) earlier
+      before (faults.Answer f) earlier h = not_earlier reduct_stage reduct_place (faults.Answer f) faults.WrongNumbers (omega arith) (omega arith) earlier
+      before (faults.SameAnswer k) earlier h = not_earlier reduct_stage reduct_place (faults.SameAnswer k) faults.WrongNumbers (omega arith) (omega arith) earlier
+      before (faults.Other k f) earlier h = not_earlier reduct_stage reduct_place (faults.Other k f) faults.WrongNumbers (omega arith) (omega arith) earlier
+      before faults.Memory earlier h = h
 
-  module _ (numbers : AreNumbersIn list x.numbers) where
+  module _ (rests : RestsOnPart q c) (numbers : AreNumbersIn list x.numbers) where
     pub count_refused : length x.others ≢ length x.numbers → Refused faults.Count
     count_refused fails ne = record { fails = fails; none_before = before }
       where
         before : (g : ReductFault) → IsEarlierReductFault g faults.Count → FailsReduct t list q c x g → ⊥
+        before faults.NotCarried earlier h = h rests
         before faults.WrongNumbers earlier h = h numbers
         before faults.Count earlier h = not_earlier reduct_stage reduct_place faults.Count faults.Count (omega arith) (omega arith) earlier
         before faults.AnotherAnswer earlier h = not_earlier reduct_stage reduct_place faults.AnotherAnswer faults.Count (omega arith) (omega arith) earlier
@@ -104,6 +119,7 @@ module _ (t : DecisionTable) (list : List Numbered) (q : Question) (c : Conclusi
       another_refused fails ne = record { fails = fails; none_before = before }
         where
           before : (g : ReductFault) → IsEarlierReductFault g faults.AnotherAnswer → FailsReduct t list q c x g → ⊥
+          before faults.NotCarried earlier h = h rests
           before faults.WrongNumbers earlier h = h numbers
           before faults.Count earlier h = h as_many
           before faults.AnotherAnswer earlier h = not_earlier reduct_stage reduct_place faults.AnotherAnswer faults.AnotherAnswer (omega arith) (omega arith) earlier
@@ -117,6 +133,7 @@ module _ (t : DecisionTable) (list : List Numbered) (q : Question) (c : Conclusi
         answer_first f fails = record { fails = fails; none_before = before }
           where
             before : (g : ReductFault) → IsEarlierReductFault g (faults.Answer f) → FailsReduct t list q c x g → ⊥
+            before faults.NotCarried earlier h = h rests
             before faults.WrongNumbers earlier h = h numbers
             before faults.Count earlier h = h as_many
             before faults.AnotherAnswer earlier h = h same
@@ -128,6 +145,7 @@ module _ (t : DecisionTable) (list : List Numbered) (q : Question) (c : Conclusi
         pub part_refused : (e : ReductFault) → RefusesPart t list q x.numbers x.answer e → Refused e
         part_refused (faults.Answer f) h ne = answer_first f h
         part_refused faults.Memory h ne = absurd (ne refl)
+        part_refused faults.NotCarried h ne = absurd h
         part_refused faults.WrongNumbers h ne = absurd h
         part_refused faults.Count h ne = absurd h
         part_refused faults.AnotherAnswer h ne = absurd h
@@ -139,6 +157,7 @@ module _ (t : DecisionTable) (list : List Numbered) (q : Question) (c : Conclusi
           same_first k fails so_far = record { fails = fails; none_before = before }
             where
               before : (g : ReductFault) → IsEarlierReductFault g (faults.SameAnswer k) → FailsReduct t list q c x g → ⊥
+              before faults.NotCarried earlier h = h rests
               before faults.WrongNumbers earlier h = h numbers
               before faults.Count earlier h = h as_many
               before faults.AnotherAnswer earlier h = h same
@@ -157,6 +176,7 @@ module _ (t : DecisionTable) (list : List Numbered) (q : Question) (c : Conclusi
               same_at j h (inr le) lt = let at : j ≡ k = omega (arith, le, lt) in differs (subst (IsSameAt c x.others) at h)
 
               before : (g : ReductFault) → IsEarlierReductFault g (faults.Other k f) → FailsReduct t list q c x g → ⊥
+              before faults.NotCarried earlier h = h rests
               before faults.WrongNumbers earlier h = h numbers
               before faults.Count earlier h = h as_many
               before faults.AnotherAnswer earlier h = h same
@@ -171,6 +191,7 @@ module _ (t : DecisionTable) (list : List Numbered) (q : Question) (c : Conclusi
           others_refused (faults.SameAnswer k) h ne = same_first k h.0 h.1
           others_refused (faults.Other k f) h ne = other_first k f h.0 h.1 h.2
           others_refused faults.Memory h ne = absurd (ne refl)
+          others_refused faults.NotCarried h ne = absurd h
           others_refused faults.WrongNumbers h ne = absurd h
           others_refused faults.Count h ne = absurd h
           others_refused faults.AnotherAnswer h ne = absurd h
@@ -178,6 +199,7 @@ module _ (t : DecisionTable) (list : List Numbered) (q : Question) (c : Conclusi
 
           all_proved : AreProvedBefore t list q c x.numbers x.others (length x.numbers) → IsProvedReduct t list q c x
           all_proved each = record {
+            rests = rests;
             numbers = numbers;
             as_many = as_many;
             concludes = same;
@@ -188,6 +210,7 @@ module _ (t : DecisionTable) (list : List Numbered) (q : Question) (c : Conclusi
   -- ---- what is proved passes each test
 
   pub reduct_passes : (fault : ReductFault) → IsProvedReduct t list q c x → FailsReduct t list q c x fault → ⊥
+  reduct_passes faults.NotCarried p h = h p.rests
   reduct_passes faults.WrongNumbers p h = h p.numbers
   reduct_passes faults.Count p h = h p.as_many
   reduct_passes faults.AnotherAnswer p h = h p.concludes
@@ -207,13 +230,13 @@ module _ (t : DecisionTable) (list : List Numbered) (q : Question) (c : Conclusi
     pub refused : IfErr r Refused
     pub not_proved : IfErr r (λ g. g ≢ faults.Memory → IsProvedReduct t list q c x → ⊥)
 
-  pub others_answer : (r : Result (Unit {0}) ReductFault) (ns : List ℕ) (xs : List Answer) → ns ≡ x.numbers → xs ≡ x.others → IsLawfulIn t (statements_in list) → IsAskedIn t q → AreNumbersIn list ns → length xs ≡ length ns → Concludes c x.answer.verdict → IsProvedAnswer t (stated ns list) q x.answer
+  pub others_answer : (r : Result (Unit {0}) ReductFault) (ns : List ℕ) (xs : List Answer) → ns ≡ x.numbers → xs ≡ x.others → IsLawfulIn t (statements_in list) → IsAskedIn t q → RestsOnPart q c → AreNumbersIn list ns → length xs ≡ length ns → Concludes c x.answer.verdict → IsProvedAnswer t (stated ns list) q x.answer
       → OnOk r (AreProvedBefore t list q c ns xs (length ns)) → IfErr r (RefusesOthers t list q c ns xs) → IsAnsweredBy r
-  others_answer (Ok u) ns xs own beside lawful asked numbers as_many same proved ok err =
-      let p = all_proved (subst (AreNumbersIn list) own numbers) (sym (ap length beside) ∙ as_many ∙ ap length own) same (subst (λ ms. IsProvedAnswer t (stated ms list) q x.answer) own proved)
+  others_answer (Ok u) ns xs own beside lawful asked rests numbers as_many same proved ok err =
+      let p = all_proved rests (subst (AreNumbersIn list) own numbers) (sym (ap length beside) ∙ as_many ∙ ap length own) same (subst (λ ms. IsProvedAnswer t (stated ms list) q x.answer) own proved)
       (subst (λ ys. AreProvedBefore t list q c x.numbers ys (length x.numbers)) beside (subst (λ ms. AreProvedBefore t list q c ms xs (length ms)) own ok)) in
       record { accepted = p; true_reduct = λ whole. proved_is_reduct t list q c x lawful asked whole p; refused = tt; not_proved = tt }
-  others_answer (Err e) ns xs own beside lawful asked numbers as_many same proved ok err =
-      let refused : Refused e = others_refused (subst (AreNumbersIn list) own numbers) (sym (ap length beside) ∙ as_many ∙ ap length own) same (subst (λ ms. IsProvedAnswer t (stated ms list) q x.answer) own proved) e
+  others_answer (Err e) ns xs own beside lawful asked rests numbers as_many same proved ok err =
+      let refused : Refused e = others_refused rests (subst (AreNumbersIn list) own numbers) (sym (ap length beside) ∙ as_many ∙ ap length own) same (subst (λ ms. IsProvedAnswer t (stated ms list) q x.answer) own proved) e
       (subst (λ ys. RefusesOthers t list q c x.numbers ys e) beside (subst (λ ms. RefusesOthers t list q c ms xs e) own err)) in
       record { accepted = tt; true_reduct = tt; refused = refused; not_proved = λ ne p. reduct_passes e p (refused ne).fails }

@@ -1,4 +1,4 @@
--- Where more statements keep an answer, and that reducts are then least; and that what is proved is true.
+-- More statements keep what statements carry, so reducts are least; and what is proved is true.
 use Rattle.std.proofs.Common.{◌≡◌, inl, inr, ℕ, zero, suc, ◌<◌, ◌≤◌, true, List, [], ◌∷◌, length, ℤ, Some, refl, sym, ap, subst, ◌∙◌, arith}
 use Rattle.std.specs.Prelude.{nat_eq, slice_get}
 use Rattle.std.specs.Set.{is_member}
@@ -30,8 +30,8 @@ use Rattle.ror_check.specs.Proof.{IsTrueVerdict}
 use Rattle.ror_check.proofs.Checking.{answer_is_true}
 use Rattle.ror_check.proofs.Numbers.{rises, same_members}
 use Rattle.ror_reason.specs.declared.reducts.Reduct.{Reduct}
-use Rattle.ror_reason.specs.Reducts.{stated, without, Concludes, IsReduct, IsProvedReduct, IsProvedOther}
-use Rattle.ror_reason.specs.Laws.{KeepsWithMore, AreAmong, MoreStatementsKeep, ReductsAreLeast}
+use Rattle.ror_reason.specs.Reducts.{stated, without, RestsOnPart, Concludes, IsReduct, IsProvedReduct, IsProvedOther}
+use Rattle.ror_reason.specs.Laws.{AreAmong, MoreStatementsKeep, ReductsAreLeast}
 use Rattle.ror_reason.proofs.Parts.{member_all, all_members, among_or_not, without-member, stated-among, stated-within, stated-none, stated_lawful, numbers_none}
 
 -- ---- with fewer statements
@@ -73,7 +73,7 @@ has-fewer t xs ys w a h sub has =
 
 -- ---- with more
 
-pub answers_keep : (t : DecisionTable) (q : Question) (c : Conclusion) (xs ys : List Statement) → KeepsWithMore q c → IsSublist xs ys → IsConsistent t ys → Answers t xs q c → Answers t ys q c
+pub answers_keep : (t : DecisionTable) (q : Question) (c : Conclusion) (xs ys : List Statement) → RestsOnPart q c → IsSublist xs ys → IsConsistent t ys → Answers t xs q c → Answers t ys q c
 answers_keep t q Contradiction xs ys keeps sub consistent answers = contradictory-sublist t xs ys sub answers
 answers_keep t (Necessary a b) Yes xs ys keeps sub consistent answers = (consistent, λ w compatible. answers.1 w (fewer t xs ys sub w compatible))
 answers_keep t (NecessaryStrength p r s) Yes xs ys keeps sub consistent answers = (consistent, λ w compatible. answers.1 w (fewer t xs ys sub w compatible))
@@ -97,46 +97,47 @@ more_keep = record {
 }
 
 -- within a list that has the answer
-within_answered : (t : DecisionTable) (q : Question) (c : Conclusion) (xs ys all : List Statement) → KeepsWithMore q c → IsSublist xs ys → IsSublist ys all → Answers t all q c → Answers t xs q c → Answers t ys q c
+within_answered : (t : DecisionTable) (q : Question) (c : Conclusion) (xs ys all : List Statement) → RestsOnPart q c → IsSublist xs ys → IsSublist ys all → Answers t all q c → Answers t xs q c → Answers t ys q c
 within_answered t q Contradiction xs ys all keeps sub sup whole answers = contradictory-sublist t xs ys sub answers
 within_answered t q Yes xs ys all keeps sub sup whole answers = answers_keep t q Yes xs ys keeps sub (consistent-sublist t ys all sup whole.0) answers
 within_answered t q No xs ys all keeps sub sup whole answers = answers_keep t q No xs ys keeps sub (consistent-sublist t ys all sup whole.0) answers
 
 -- ---- reducts are least
 
-pub least : (t : DecisionTable) (list : List Numbered) (q : Question) (c : Conclusion) (ms ns : List ℕ) → KeepsWithMore q c → IsReduct t list q c ns → AreAmong ms ns → (AreAmong ns ms → ⊥) → Answers t (stated ms list) q c → ⊥
-least t list q c ms ns keeps reduct among smaller answers = elim (among_or_not ns ms) [
+pub least : (t : DecisionTable) (list : List Numbered) (q : Question) (c : Conclusion) (ms ns : List ℕ) → IsReduct t list q c ns → AreAmong ms ns → (AreAmong ns ms → ⊥) → Answers t (stated ms list) q c → ⊥
+least t list q c ms ns reduct among smaller answers = elim (among_or_not ns ms) [
   | inl all ↦ smaller all
   | inr spared ↦
       let n = spared.0 in
       let within : AreAmong ms (without n ns) = all_members (λ m. is_member nat_eq (without n ns) m ≡ true) ms (λ m there. without-member n m ns (member_all (λ m. is_member nat_eq ns m ≡ true) ms among m there) (λ same. false≢true (sym spared.2 ∙ subst (λ k. is_member nat_eq ms k ≡ true) same there))) in
       member_all (λ k. Answers t (stated (without k ns) list) q c → ⊥) ns reduct.needed n spared.1
-      (within_answered t q c (stated ms list) (stated (without n ns) list) (statements_in list) keeps (stated-among list ms (without n ns) within) (stated-within list (without n ns)) reduct.whole answers)
+      (within_answered t q c (stated ms list) (stated (without n ns) list) (statements_in list) reduct.rests (stated-among list ms (without n ns) within) (stated-within list (without n ns)) reduct.whole answers)
 ]
 
-one_of_two : (t : DecisionTable) (list : List Numbered) (q : Question) (c : Conclusion) (ms ns : List ℕ) → KeepsWithMore q c → IsReduct t list q c ms → IsReduct t list q c ns → AreAmong ms ns → ms ≡ ns
-one_of_two t list q c ms ns keeps first second among = elim (among_or_not ns ms) [
+one_of_two : (t : DecisionTable) (list : List Numbered) (q : Question) (c : Conclusion) (ms ns : List ℕ) → IsReduct t list q c ms → IsReduct t list q c ns → AreAmong ms ns → ms ≡ ns
+one_of_two t list q c ms ns first second among = elim (among_or_not ns ms) [
   | inl all ↦ same_members ms ns (rises ms first.numbers.rising) (rises ns second.numbers.rising) among all
-  | inr spared ↦ absurd (least t list q c ms ns keeps second among (λ all. false≢true (sym spared.2 ∙ member_all (λ n. is_member nat_eq ms n ≡ true) ns all spared.0 spared.1)) first.carries)
+  | inr spared ↦ absurd (least t list q c ms ns second among (λ all. false≢true (sym spared.2 ∙ member_all (λ n. is_member nat_eq ms n ≡ true) ns all spared.0 spared.1)) first.carries)
 ]
 
-empty_reduct : (t : DecisionTable) (list : List Numbered) (q : Question) (c : Conclusion) → Answers t (statements_in list) q c → Answers t [] q c → IsReduct t list q c []
-empty_reduct t list q c whole answers = record {
+empty_reduct : (t : DecisionTable) (list : List Numbered) (q : Question) (c : Conclusion) → RestsOnPart q c → Answers t (statements_in list) q c → Answers t [] q c → IsReduct t list q c []
+empty_reduct t list q c rests whole answers = record {
+  rests = rests;
   numbers = numbers_none list;
   whole = whole;
   carries = subst (λ xs. Answers t xs q c) (sym (stated-none list)) answers;
   needed = tt;
 }
 
-only_empty : (t : DecisionTable) (list : List Numbered) (q : Question) (c : Conclusion) (ns : List ℕ) → KeepsWithMore q c → Answers t [] q c → IsReduct t list q c ns → ns ≡ []
-only_empty t list q c [] keeps answers reduct = refl
-only_empty t list q c (n ∷ ns) keeps answers reduct = absurd (least t list q c [] (n ∷ ns) keeps reduct tt (λ all. let none = all.0 in cc) (subst (λ xs. Answers t xs q c) (sym (stated-none list)) answers))
+only_empty : (t : DecisionTable) (list : List Numbered) (q : Question) (c : Conclusion) (ns : List ℕ) → Answers t [] q c → IsReduct t list q c ns → ns ≡ []
+only_empty t list q c [] answers reduct = refl
+only_empty t list q c (n ∷ ns) answers reduct = absurd (least t list q c [] (n ∷ ns) reduct tt (λ all. let none = all.0 in cc) (subst (λ xs. Answers t xs q c) (sym (stated-none list)) answers))
 
 pub reducts_least : ReductsAreLeast
 reducts_least = record {
   least = least;
   neither_within = one_of_two;
-  of_nothing = λ t list q c ns keeps whole answers. (λ reduct. only_empty t list q c ns keeps answers reduct, λ none. subst (IsReduct t list q c) (sym none) (empty_reduct t list q c whole answers));
+  of_nothing = λ t list q c ns rests whole answers. (λ reduct. only_empty t list q c ns answers reduct, λ none. subst (IsReduct t list q c) (sym none) (empty_reduct t list q c rests whole answers));
 }
 
 -- ---- what is proved is true
@@ -162,6 +163,7 @@ at_place (x ∷ xs) (suc k) lt = at_place xs k (omega arith)
 
 pub proved_is_reduct : (t : DecisionTable) (list : List Numbered) (q : Question) (c : Conclusion) (x : Reduct) → IsLawfulIn t (statements_in list) → IsAskedIn t q → Answers t (statements_in list) q c → IsProvedReduct t list q c x → IsReduct t list q c x.numbers
 proved_is_reduct t list q c x lawful asked whole p = record {
+  rests = p.rests;
   numbers = p.numbers;
   whole = whole;
   carries = concluded t (stated x.numbers list) q c x.answer.verdict (answer_is_true t (stated x.numbers list) q x.answer (stated_lawful t list x.numbers lawful) asked p.answer) p.concludes;

@@ -2,3 +2,4 @@ pub mod Parts
 pub mod LawLemmas
 pub mod FaultLemmas
 pub mod SearchLemmas
+pub mod FunctionLemmas

@@ -1,14 +1,19 @@
 -- What the parts of a list that are decided on the way to a reduct say, and what a reason says.
-use Rattle.std.proofs.Common.{◌≡◌, ◌⊎◌, inl, inr, ℕ, zero, suc, ◌+◌, ◌<◌, true, List, [], ◌∷◌, ◌++◌, length, length-append, Some, Result, Ok, Err, refl, sym, ap, subst, ◌∙◌}
-use Rattle.std.specs.Prelude.{nat_eq, slice_get, IfOk, IfErr}
+use Rattle.std.proofs.Common.{◌≡◌, ◌⊎◌, inl, inr, ℕ, zero, suc, ◌+◌, ◌<◌, Bool, true, false, List, [], ◌∷◌, ◌++◌, length, length-append, Some, Result, Ok, Err, refl, sym, ap, subst, ◌∙◌}
+use Rattle.std.specs.Prelude.{nat_eq, ◌||◌, slice_get, IfOk}
+use Rattle.std.specs.List.{list_any}
 use Rattle.std.specs.Set.{is_member}
 use Rattle.ror_text.proofs.Everywhere.{all-append}
 use Rattle.ror_statement.specs.declared.statement.Statement.{Statement}
 use Rattle.ror_statement.specs.declared.statement.Numbered.{Numbered}
+use Rattle.ror_statement.specs.declared.question.QuestionKind.{QuestionKind}
+use Rattle.ror_statement.specs.declared.question.QuestionKind.TheVariants.{Plain, Any, Every}
 use Rattle.ror_statement.specs.declared.question.Question.{Question}
+use Rattle.ror_statement.specs.declared.question.Question.TheVariants as questions
 use Rattle.ror_statement.specs.declared.question.Conclusion.{Conclusion}
 use Rattle.ror_statement.specs.declared.question.Conclusion.TheVariants as conclusions
 use Rattle.ror_statement.specs.Statements.{numbers_in, statements_in}
+use Rattle.ror_statement.specs.Questions.{kind_of}
 use Rattle.ror_table.specs.Table.{DecisionTable}
 use Rattle.ror_value.specs.Over.{IsLawfulIn}
 use Rattle.ror_value.specs.Meaning.{Answers}
@@ -17,22 +22,20 @@ use Rattle.ror_proof.specs.declared.answer.Answer.{Answer}
 use Rattle.ror_proof.specs.declared.answer.Verdict.{Verdict}
 use Rattle.ror_proof.specs.declared.answer.Verdict.TheVariants as verdicts
 use Rattle.ror_proof.specs.declared.answer.WideText.{WideText}
-use Rattle.ror_check.specs.Proof.{OfProof, Proves, IsWide, IsProvedAnswer, IsTrueVerdict, IsWideOrTrue, IsAllowedAnswer, IsAllowedVerdict, IsWideAt}
+use Rattle.ror_check.specs.Proof.{OfProof, Proves, IsWide, is_wide, may_conclude, IsProvedAnswer, IsWideOrTrue, IsAllowedAnswer, IsAllowedVerdict}
 use Rattle.ror_check.specs.Repair.{AreNumbersIn}
 use Rattle.ror_check.proofs.Checking.{answer_is_true}
 use Rattle.ror_given.specs.Notes.{HasNoteAt}
 use Rattle.ror_given.specs.Answers.{IsGiven, IsVerdictWithin}
 use Rattle.ror_reason.specs.declared.reducts.Reason.{Reason}
-use Rattle.ror_reason.specs.declared.reducts.Reduct.{Reduct}
+use Rattle.ror_reason.specs.declared.reducts.Reason.TheVariants as reasons
 use Rattle.ror_reason.specs.declared.sought.Sought.{Sought}
 use Rattle.ror_reason.specs.declared.sought.Part.{Part}
-use Rattle.ror_reason.specs.declared.sought.Stop.{Stop}
-use Rattle.ror_reason.specs.declared.sought.Stop.TheVariants as stops
-use Rattle.ror_reason.specs.Reducts.{stated, without, Concludes, IsProvedOther}
-use Rattle.ror_reason.specs.Reasons.{IsGivenReduct, IsReasonOf, IsReason}
-use Rattle.ror_reason.specs.SearchSteps.{IsSought, IsDecided, IsWideOver, IsPart, IsOther, IsStop, AreOthersBefore, IsFound}
+use Rattle.ror_reason.specs.Reducts.{stated, without, RestsOnPart, Concludes, IsProvedOther, IsProvedReduct}
+use Rattle.ror_reason.specs.Reasons.{IsGivenOther, IsProvedSo, IsReasonOf, IsReason, IsReasonWithin}
+use Rattle.ror_reason.specs.SearchSteps.{IsSought, IsNarrow, IsDecided, IsPart, IsOther, AreOthersBefore, IsFound, decided_by}
 use Rattle.ror_reason.proofs.Parts.{stated-whole, stated_lawful, numbers-whole, numbers-without, without-shorter}
-use Rattle.ror_reason.proofs.LawLemmas.{concluded, concludes_so, proved_is_reduct}
+use Rattle.ror_reason.proofs.LawLemmas.{concluded, proved_is_reduct}
 
 -- ---- one answer
 
@@ -42,6 +45,15 @@ allowed_proved most t xs q (verdicts.Yes proof) concludes h = h
 allowed_proved most t xs q (verdicts.No proof) concludes h = h
 allowed_proved most t xs q (verdicts.Contradiction proof) concludes h = h
 allowed_proved most t xs q (verdicts.Wide system note) concludes h = absurd (concludes tt)
+
+allowed_answer_proved : (most : ℕ) (t : DecisionTable) (xs : List Statement) (q : Question) (x : Answer) → (IsWide x.verdict → ⊥) → IsAllowedAnswer (HasNoteAt most) t xs q x → IsProvedAnswer t xs q x
+allowed_answer_proved most t xs q x concludes h = record { question = h.question; proof = allowed_proved most t xs q x.verdict concludes h.verdict }
+
+concludes_not_wide : (c : Conclusion) (v : Verdict) → Concludes c v → IsWide v → ⊥
+concludes_not_wide c (verdicts.Yes proof) same wide = wide
+concludes_not_wide c (verdicts.No proof) same wide = wide
+concludes_not_wide c (verdicts.Contradiction proof) same wide = wide
+concludes_not_wide c (verdicts.Wide system note) same wide = same
 
 -- what holds of a conclusion holds of the one of the verdict
 pub of_concluded : (P : Conclusion → Type 0) (c : Conclusion) (v : Verdict) → Concludes c v → P c → OfProof (λ d proof. P d) v
@@ -59,76 +71,59 @@ proved_not_wide t xs q x p wide = by x.verdict p.proof wide
     by (verdicts.Contradiction proof) p wide = wide
     by (verdicts.Wide system note) p wide = p
 
+is_wide-wide : (v : Verdict) → is_wide v ≡ false → IsWide v → ⊥
+is_wide-wide (verdicts.Yes proof) no_ wide = wide
+is_wide-wide (verdicts.No proof) no_ wide = wide
+is_wide-wide (verdicts.Contradiction proof) no_ wide = wide
+is_wide-wide (verdicts.Wide system note) no_ wide = absurd cc
+
+neither : (a b : Bool) → (a || b) ≡ false → (a ≡ false) × (b ≡ false)
+neither true b e = absurd cc
+neither false b e = (refl, e)
+
+none_wide : (xs : List Answer) (k : ℕ) (x : Answer) → list_any (λ x. is_wide x.verdict) xs ≡ false → slice_get xs k ≡ Some x → IsWide x.verdict → ⊥
+none_wide [] k x none there = absurd cc
+none_wide (y ∷ xs) zero x none there =
+    let same : y ≡ x = cc in
+    is_wide-wide x.verdict (subst (λ (z : Answer). is_wide z.verdict ≡ false) same (neither (is_wide y.verdict) (list_any (λ x. is_wide x.verdict) xs) none).0)
+none_wide (y ∷ xs) (suc k) x none there = none_wide xs k x (neither (is_wide y.verdict) (list_any (λ x. is_wide x.verdict) xs) none).1 there
+
 -- ---- the parts on the way
 
 module _ (s : Sought) (sought : IsSought s) where
   pub part_lawful : (ns : List ℕ) (xs : List Statement) → xs ≡ stated ns s.list.now → IsLawfulIn s.table.now xs
   part_lawful ns xs is = subst (IsLawfulIn s.table.now) (sym is) (stated_lawful s.table.now s.list.now ns sought.lawful)
 
-  pub part_decided : (ns : List ℕ) (xs : List Statement) (x : Answer) (part : Part) → xs ≡ stated ns s.list.now → IsGiven (most_of s.bits) s.table.now xs s.question x → (IsWide x.verdict → ⊥) → part.numbers.items ≡ ns → part.answer.question ≡ x.question → part.answer.verdict ≡ x.verdict → IsDecided s ns part
-  part_decided ns xs x part is given concludes named asked same = record {
-    named = named;
-    proved = record {
-      question = asked ∙ given.allowed.question;
-      proof = subst (λ ys. OfProof (Proves s.table.now ys s.question) part.answer.verdict) is (subst (OfProof (Proves s.table.now xs s.question)) (sym same) (allowed_proved (most_of s.bits) s.table.now xs s.question x.verdict concludes given.allowed.verdict));
-    };
-    narrow = subst (IsVerdictWithin (most_of s.bits)) (sym same) given.narrow;
-  }
+  pub part_decided : {E : Type 0} (ns : List ℕ) (xs : List Statement) (r : Result Answer E) → xs ≡ stated ns s.list.now → IfOk r (IsGiven (most_of s.bits) s.table.now xs s.answer.now.question) → IfOk r (IsDecided s ns)
+  part_decided ns xs r is h = subst (λ ys. IfOk r (IsGiven (most_of s.bits) s.table.now ys s.answer.now.question)) is h
 
-  pub part_wide : (ns numbers : List ℕ) (xs : List Statement) (x : Answer) (system : ℕ) (note : WideText) → xs ≡ stated ns s.list.now → IsGiven (most_of s.bits) s.table.now xs s.question x → x.verdict ≡ verdicts.Wide system note → numbers ≡ ns → IsWideOver s ns (stops.Wide numbers system note)
-  part_wide ns numbers xs x system note is given wide named =
-      (named, subst (λ ys. IsWideAt (HasNoteAt (most_of s.bits)) s.table.now ys s.question system note) is (subst (IsAllowedVerdict (HasNoteAt (most_of s.bits)) s.table.now xs s.question) wide given.allowed.verdict))
-
-  answer_over : (ns : List ℕ) (part : Part) → IsDecided s ns part → IsTrueVerdict s.table.now (stated ns s.list.now) s.question part.answer.verdict
-  answer_over ns part d = answer_is_true s.table.now (stated ns s.list.now) s.question part.answer (stated_lawful s.table.now s.list.now ns sought.lawful) sought.asked d.proved
-
-  pub part_of_decided : (ns : List ℕ) (part : Part) → AreNumbersIn s.list.now ns → IsDecided s ns part → Concludes s.conclusion part.answer.verdict → IsPart s part
-  part_of_decided ns part numbers d concludes = record {
-    numbers = subst (AreNumbersIn s.list.now) (sym d.named) numbers;
+  pub decided_part : (part : Part) → AreNumbersIn s.list.now part.numbers.items → IsDecided s part.numbers.items part.answer → Concludes s.conclusion part.answer.verdict → IsPart s part
+  decided_part part are d concludes = record {
+    numbers = are;
     concludes = concludes;
-    decided = subst (λ ms. IsDecided s ms part) (sym d.named) d;
+    proved = allowed_answer_proved (most_of s.bits) s.table.now (stated part.numbers.items s.list.now) s.answer.now.question part.answer (concludes_not_wide s.conclusion part.answer.verdict concludes) d.allowed;
+    narrow = λ within. d.narrow;
   }
 
-  -- ---- the whole list
-
-  pub whole_part : (ns : List ℕ) (part : Part) → ns ≡ numbers_in s.list.now → IsDecided s ns part → IsPart s part
-  whole_part ns part is d =
-      let all : IsDecided s (numbers_in s.list.now) part = subst (λ ms. IsDecided s ms part) is d in
-      part_of_decided (numbers_in s.list.now) part (numbers-whole s.list.now sought.rising) all
-      (concludes_so s.table.now (stated (numbers_in s.list.now) s.list.now) s.question s.conclusion part.answer.verdict (answer_over (numbers_in s.list.now) part all) (subst (λ xs. Answers s.table.now xs s.question s.conclusion) (sym (stated-whole s.list.now)) sought.answers))
-
-  pub whole_stops : (ns : List ℕ) (e : Stop) → ns ≡ numbers_in s.list.now → IsWideOver s ns e → IsStop s e
-  whole_stops ns stops.Memory is wide = tt
-  whole_stops ns (stops.Wide numbers system note) is wide = record {
-    numbers = subst (AreNumbersIn s.list.now) (sym (wide.0 ∙ is)) (numbers-whole s.list.now sought.rising);
-    reached = inl (wide.0 ∙ is);
-    noted = subst (λ ms. IsWideAt (HasNoteAt (most_of s.bits)) s.table.now (stated ms s.list.now) s.question system note) (sym wide.0) wide.1;
+  pub whole_part : (part : Part) → part.numbers.items ≡ numbers_in s.list.now → part.answer ≡ s.answer.now → IsPart s part
+  whole_part part all same = record {
+    numbers = subst (AreNumbersIn s.list.now) (sym all) (numbers-whole s.list.now sought.rising);
+    concludes = subst (λ (x : Answer). Concludes s.conclusion x.verdict) (sym same) sought.concludes;
+    proved = subst (IsProvedAnswer s.table.now (stated part.numbers.items s.list.now) s.answer.now.question) (sym same) (subst (λ xs. IsProvedAnswer s.table.now xs s.answer.now.question s.answer.now) (sym (ap (λ ns. stated ns s.list.now) all ∙ stated-whole s.list.now)) sought.proved);
+    narrow = subst (λ (x : Answer). IsNarrow s x.verdict) (sym same) (λ within. within);
   }
 
   -- ---- without one statement
 
-  module _ (part : Part) (p : IsPart s part) (n : ℕ) (there : is_member nat_eq part.numbers.items n ≡ true) (rest : List ℕ) (is : rest ≡ without n part.numbers.items) where
-    pub smaller_part : (smaller : Part) → IsDecided s rest smaller → Concludes s.conclusion smaller.answer.verdict → IsPart s smaller × (length smaller.numbers.items < length part.numbers.items)
-    smaller_part smaller d concludes = (
-      part_of_decided (without n part.numbers.items) smaller (numbers-without s.list.now n part.numbers.items p.numbers) (subst (λ ms. IsDecided s ms smaller) is d) concludes,
-      subst (λ ms. length ms < length part.numbers.items) (sym (d.named ∙ is)) (without-shorter n part.numbers.items there),
+  module _ (part : Part) (p : IsPart s part) (n : ℕ) (there : is_member nat_eq part.numbers.items n ≡ true) where
+    pub smaller_part : (smaller : Part) → smaller.numbers.items ≡ without n part.numbers.items → IsDecided s smaller.numbers.items smaller.answer → Concludes s.conclusion smaller.answer.verdict → IsPart s smaller × (length smaller.numbers.items < length part.numbers.items)
+    smaller_part smaller is d concludes = (
+      decided_part smaller (subst (AreNumbersIn s.list.now) (sym is) (numbers-without s.list.now n part.numbers.items p.numbers)) d concludes,
+      subst (λ ms. length ms < length part.numbers.items) (sym is) (without-shorter n part.numbers.items there),
     )
 
-    pub other_answer : (other : Part) → IsDecided s rest other → (Concludes s.conclusion other.answer.verdict → ⊥) → IsOther s part.numbers.items n other.answer
-    other_answer other d differs = (
-      record { proved = (subst (λ ms. IsDecided s ms other) is d).proved; differs = differs },
-      d.narrow,
-    )
-
-    pub without_stops : (e : Stop) → IsWideOver s rest e → IsStop s e
-    without_stops stops.Memory wide = tt
-    without_stops (stops.Wide numbers system note) wide =
-        let answers = concluded s.table.now (stated part.numbers.items s.list.now) s.question s.conclusion part.answer.verdict (answer_over part.numbers.items part p.decided) p.concludes in
-        record {
-          numbers = subst (AreNumbersIn s.list.now) (sym (wide.0 ∙ is)) (numbers-without s.list.now n part.numbers.items p.numbers);
-          reached = inr (part.numbers.items, n, p.numbers, there, answers, wide.0 ∙ is);
-          noted = subst (λ ms. IsWideAt (HasNoteAt (most_of s.bits)) s.table.now (stated ms s.list.now) s.question system note) (sym wide.0) wide.1;
-        }
+    pub other_answer : (rest : List ℕ) (answer : Answer) → rest ≡ without n part.numbers.items → IsDecided s rest answer → (Concludes s.conclusion answer.verdict → ⊥) → IsOther s part.numbers.items n answer
+    other_answer rest answer is d differs = (((subst (λ ms. IsDecided s ms answer) is d).allowed, differs), d.narrow)
 
   -- ---- the answers beside the numbers
 
@@ -148,56 +143,115 @@ module _ (s : Sought) (sought : IsSought s) where
     narrow = all-append (λ (other : Answer). IsVerdictWithin (most_of s.bits) other.verdict) xs (other ∷ []) before.narrow (beside.1, tt);
   })
     where
-      each : (k m : ℕ) (y : Answer) → slice_get ns k ≡ Some m → slice_get (xs ++ other ∷ []) k ≡ Some y → IsProvedOther s.table.now s.list.now s.question s.conclusion ns m y
+      each : (k m : ℕ) (y : Answer) → slice_get ns k ≡ Some m → slice_get (xs ++ other ∷ []) k ≡ Some y → IsGivenOther (most_of s.bits) s.table.now s.list.now s.answer.now.question s.conclusion ns m y
       each k m y number' there = elim (last_there xs other y k there) [
         | inl front ↦ before.each k m y number' front
         | inr last ↦
             let at : k ≡ i = last.0 ∙ before.as_many in
             let same : Some n ≡ Some m = sym number ∙ subst (λ j. slice_get ns j ≡ Some m) at number' in
             let same_number : n ≡ m = cc in
-            subst (λ z. IsProvedOther s.table.now s.list.now s.question s.conclusion ns m z) last.1 (subst (λ j. IsProvedOther s.table.now s.list.now s.question s.conclusion ns j other) same_number beside.0)
+            subst (λ z. IsGivenOther (most_of s.bits) s.table.now s.list.now s.answer.now.question s.conclusion ns m z) last.1 (subst (λ j. IsGivenOther (most_of s.bits) s.table.now s.list.now s.answer.now.question s.conclusion ns j other) same_number beside.0)
       ]
-
-  pub found_by : (part : Part) (xs ys : List Answer) (ns : List ℕ) → IsPart s part → AreOthersBefore s part.numbers.items xs (length part.numbers.items) → ns ≡ part.numbers.items → ys ≡ xs → IsFound s (record { numbers = ns; answer = part.answer; others = ys })
-  found_by part xs ys ns p each numbers others = rw (numbers, others) (record {
-    proved = record { numbers = p.numbers; as_many = each.as_many; concludes = p.concludes; answer = p.decided.proved; others = each.each };
-    answer_narrow = p.decided.narrow;
-    others_narrow = each.narrow;
-  })
 
   -- ---- reasons
 
-  pub given_reduct : (x : Reduct) → IsFound s x → IsGivenReduct (most_of s.bits) s.table.now s.list.now s.question s.conclusion x
-  given_reduct x f = record {
-    proved = f.proved;
-    answer_narrow = f.answer_narrow;
-    others_narrow = f.others_narrow;
-    true_reduct = proved_is_reduct s.table.now s.list.now s.question s.conclusion x sought.lawful sought.asked sought.answers f.proved;
-  }
+  whole_answers : Answers s.table.now (statements_in s.list.now) s.answer.now.question s.conclusion
+  whole_answers = concluded s.table.now (statements_in s.list.now) s.answer.now.question s.conclusion s.answer.now.verdict (answer_is_true s.table.now (statements_in s.list.now) s.answer.now.question s.answer.now sought.lawful sought.asked sought.proved) sought.concludes
 
--- ---- answers that are decided, by what was answered
+  part_answers : (part : Part) → IsPart s part → Answers s.table.now (stated part.numbers.items s.list.now) s.answer.now.question s.conclusion
+  part_answers part p =
+      let xs = stated part.numbers.items s.list.now in
+      concluded s.table.now xs s.answer.now.question s.conclusion part.answer.verdict (answer_is_true s.table.now xs s.answer.now.question part.answer (stated_lawful s.table.now s.list.now part.numbers.items sought.lawful) sought.asked p.proved) p.concludes
 
-module _ (s : Sought) (sought : IsSought s) where
-  pub whole_answers : (ns : List ℕ) (r : Result Part Stop) → ns ≡ numbers_in s.list.now → IfOk r (IsDecided s ns) → IfOk r (IsPart s)
-  whole_answers ns (Ok part) is d = whole_part s sought ns part is d
-  whole_answers ns (Err e) is d = tt
+  module _ (part : Part) (p : IsPart s part) (others : List Answer) (beside : AreOthersBefore s part.numbers.items others (length part.numbers.items)) where
+    carried : list_any (λ x. is_wide x.verdict) others ≡ false → IsProvedReduct s.table.now s.list.now s.answer.now.question s.conclusion (record { numbers = part.numbers.items; answer = part.answer; others = others })
+    carried none = record {
+      rests = sought.rests;
+      numbers = p.numbers;
+      as_many = beside.as_many;
+      concludes = p.concludes;
+      answer = p.proved;
+      others = other;
+    }
+      where
+        other : (k n : ℕ) (x : Answer) → slice_get part.numbers.items k ≡ Some n → slice_get others k ≡ Some x → IsProvedOther s.table.now s.list.now s.answer.now.question s.conclusion part.numbers.items n x
+        other k n x number there =
+            let given = beside.each k n x number there in
+            record { proved = allowed_answer_proved (most_of s.bits) s.table.now (stated (without n part.numbers.items) s.list.now) s.answer.now.question x (none_wide others k x none there) given.0; differs = given.1 }
 
-  pub whole_refuses : (ns : List ℕ) (r : Result Part Stop) → ns ≡ numbers_in s.list.now → IfErr r (IsWideOver s ns) → IfErr r (IsStop s)
-  whole_refuses ns (Ok part) is wide = tt
-  whole_refuses ns (Err e) is wide = whole_stops s sought ns e is wide
+    pub carried_found : (numbers : List ℕ) (xs : List Answer) → numbers ≡ part.numbers.items → xs ≡ others → list_any (λ x. is_wide x.verdict) others ≡ false → IsFound s (reasons.Carried (record { numbers = numbers; answer = part.answer; others = xs }))
+    carried_found numbers xs own are none =
+        let proved = carried none in
+        rw (own, are) ((proved, proved_is_reduct s.table.now s.list.now s.answer.now.question s.conclusion (record { numbers = part.numbers.items; answer = part.answer; others = others }) sought.lawful sought.asked whole_answers proved), λ within. (p.narrow within, beside.narrow))
 
-  pub start_part : (ns : List ℕ) (r : Result Part Stop) (part : Part) → AreNumbersIn s.list.now ns → IfOk r (IsDecided s ns) → r ≡ Ok part → Concludes s.conclusion part.answer.verdict → IsPart s part
-  start_part ns r part numbers d is same = part_of_decided s sought ns part numbers (subst (λ (x : Result Part Stop). IfOk x (IsDecided s ns)) is d) same
+    pub wide_found : (numbers : List ℕ) (xs : List Answer) → numbers ≡ part.numbers.items → xs ≡ others → list_any (λ x. is_wide x.verdict) others ≡ true → IsFound s (reasons.Wide numbers part.answer xs)
+    wide_found numbers xs own are some = rw (own, are) (
+      record {
+        rests = sought.rests;
+        numbers = p.numbers;
+        concludes = p.concludes;
+        answer = p.proved;
+        carries = part_answers part p;
+        given = record { as_many = beside.as_many; each = beside.each };
+        some_wide = some;
+      },
+      λ within. (p.narrow within, beside.narrow),
+    )
 
-pub reason_of_verdict : (most : ℕ) (t : DecisionTable) (list : List Numbered) (q : Question) (v : Verdict) (r : Reason) → IsWideOrTrue t (statements_in list) q v → OfProof (λ c proof. IsReasonOf most t list q c r) v → IsReason most t list q r
+-- ---- answers that no statement carries
+
+no_other : (t : DecisionTable) (xs : List Statement) (q : Question) (c : Conclusion) (v : Verdict) → OfProof (Proves t xs q) v → Concludes c v → may_conclude (kind_of q) c ≡ true
+no_other t xs q c (verdicts.Yes proof) p same = subst (λ d. may_conclude (kind_of q) d ≡ true) same p.listed
+no_other t xs q c (verdicts.No proof) p same = subst (λ d. may_conclude (kind_of q) d ≡ true) same p.listed
+no_other t xs q c (verdicts.Contradiction proof) p same = subst (λ d. may_conclude (kind_of q) d ≡ true) same p.listed
+no_other t xs q c (verdicts.Wide system note) p same = absurd same
+
+decided_by_case : (most : ℕ) (t : DecisionTable) (list : List Numbered) (q : Question) (c : Conclusion) (x : Answer) → may_conclude (kind_of q) c ≡ true → (RestsOnPart q c → ⊥) → IsProvedSo t list q c x → IsReasonOf most t list q c (decided_by (kind_of q) c x)
+decided_by_case most t list q conclusions.Contradiction x may not h = absurd (not refl)
+decided_by_case most t list questions.Consistent conclusions.Yes x may not h = (refl, h)
+decided_by_case most t list (questions.Necessary a b) conclusions.Yes x may not h = absurd (not refl)
+decided_by_case most t list (questions.Possible a b) conclusions.Yes x may not h = (refl, h)
+decided_by_case most t list (questions.NecessaryStrength a b r) conclusions.Yes x may not h = absurd (not refl)
+decided_by_case most t list (questions.PossibleStrength a b r) conclusions.Yes x may not h = (refl, h)
+decided_by_case most t list (questions.PossibleClass a h') conclusions.Yes x may not h = (refl, h)
+decided_by_case most t list (questions.NecessaryClass a h') conclusions.Yes x may not h = (refl, h)
+decided_by_case most t list questions.Consistent conclusions.No x may not h = absurd cc
+decided_by_case most t list (questions.Necessary a b) conclusions.No x may not h = (refl, h)
+decided_by_case most t list (questions.Possible a b) conclusions.No x may not h = absurd (not refl)
+decided_by_case most t list (questions.NecessaryStrength a b r) conclusions.No x may not h = (refl, h)
+decided_by_case most t list (questions.PossibleStrength a b r) conclusions.No x may not h = absurd (not refl)
+decided_by_case most t list (questions.PossibleClass a h') conclusions.No x may not h = absurd (not refl)
+decided_by_case most t list (questions.NecessaryClass a h') conclusions.No x may not h = (refl, h)
+
+pub decided_reason : (most : ℕ) (t : DecisionTable) (list : List Numbered) (c : Conclusion) (answer copy : Answer) (r : Reason) → copy ≡ answer → r ≡ decided_by (kind_of copy.question) c copy → IsProvedAnswer t (statements_in list) answer.question answer → Concludes c answer.verdict → (RestsOnPart answer.question c → ⊥) → IsReasonOf most t list answer.question c r
+decided_reason most t list c answer copy r same is proved concludes not =
+    let found = decided_by_case most t list answer.question c answer (no_other t (statements_in list) answer.question c answer.verdict proved.proof concludes) not (record { proved = proved; concludes = concludes }) in
+    subst (IsReasonOf most t list answer.question c) (sym (is ∙ ap (λ (x : Answer). decided_by (kind_of x.question) c x) same)) found
+
+pub decided_narrow : (most : ℕ) (k : QuestionKind) (c : Conclusion) (answer : Answer) → IsVerdictWithin most answer.verdict → IsReasonWithin most (decided_by k c answer)
+decided_narrow most k c answer within = by k c
+  where
+    by : (k : QuestionKind) (c : Conclusion) → IsReasonWithin most (decided_by k c answer)
+    by k conclusions.No = within
+    by Every conclusions.Yes = within
+    by Every conclusions.Contradiction = within
+    by Plain conclusions.Yes = within
+    by Plain conclusions.Contradiction = within
+    by Any conclusions.Yes = within
+    by Any conclusions.Contradiction = within
+
+-- ---- the answers of the calls
+
+reason_of_verdict : (most : ℕ) (t : DecisionTable) (list : List Numbered) (q : Question) (v : Verdict) (r : Reason) → IsWideOrTrue t (statements_in list) q v → OfProof (λ c proof. IsReasonOf most t list q c r) v → IsReason most t list q r
 reason_of_verdict most t list q (verdicts.Yes proof) r is reason = inl (conclusions.Yes, is, reason)
 reason_of_verdict most t list q (verdicts.No proof) r is reason = inl (conclusions.No, is, reason)
 reason_of_verdict most t list q (verdicts.Contradiction proof) r is reason = inl (conclusions.Contradiction, is, reason)
 reason_of_verdict most t list q (verdicts.Wide system note) r is reason = absurd reason
 
-pub carried_so : {E : Type 0} (most : ℕ) (t : DecisionTable) (list : List Numbered) (q : Question) (c : Conclusion) (v : Verdict) (r : Result Reason E) → Concludes c v → IfOk r (IsReasonOf most t list q c) → IfOk r (λ reason. OfProof (λ d proof. IsReasonOf most t list q d reason) v)
-carried_so most t list q c v (Ok reason) same h = of_concluded (λ d. IsReasonOf most t list q d reason) c v same h
-carried_so most t list q c v (Err e) same h = tt
+pub found_so : {E : Type 0} (most : ℕ) (t : DecisionTable) (list : List Numbered) (answer : Answer) (c : Conclusion) (r : Result Reason E) → Concludes c answer.verdict → IfOk r (λ reason. IsReasonOf most t list answer.question c reason × (IsVerdictWithin most answer.verdict → IsReasonWithin most reason))
+    → IfOk r (λ reason. OfProof (λ d proof. IsReasonOf most t list answer.question d reason) answer.verdict)
+found_so most t list answer c (Ok reason) same h = of_concluded (λ d. IsReasonOf most t list answer.question d reason) c answer.verdict same h.0
+found_so most t list answer c (Err e) same h = tt
 
 not_wide : (v : Verdict) → ((system : ℕ) (note : WideText) → v ≡ verdicts.Wide system note → ⊥) → IsWide v → ⊥
 not_wide (verdicts.Wide system note) other wide = other system note refl
@@ -211,3 +265,7 @@ answer_proved most t list q xs x is allowed other = subst (λ ys. OfProof (Prove
 pub answer_reasons : {E : Type 0} (most : ℕ) (t : DecisionTable) (list : List Numbered) (q : Question) (xs : List Statement) (v : Verdict) (r : Result Reason E) → xs ≡ statements_in list → IsWideOrTrue t xs q v → IfOk r (λ reason. OfProof (λ c proof. IsReasonOf most t list q c reason) v) → IfOk r (IsReason most t list q)
 answer_reasons most t list q xs v (Ok reason) is so h = reason_of_verdict most t list q v reason (subst (λ ys. IsWideOrTrue t ys q v) is so) h
 answer_reasons most t list q xs v (Err e) is so h = tt
+
+pub answer_narrow : {E : Type 0} (most : ℕ) (v : Verdict) (r : Result Reason E) → IsVerdictWithin most v → IfOk r (λ reason. IsVerdictWithin most v → IsReasonWithin most reason) → IfOk r (IsReasonWithin most)
+answer_narrow most v (Ok reason) within h = h within
+answer_narrow most v (Err e) within h = tt

@@ -12,7 +12,7 @@ use Rattle.ror_check.specs.Repair.{AreNumbersIn}
 use Rattle.ror_reason.specs.declared.fault.ReductFault.{ReductFault}
 use Rattle.ror_reason.specs.declared.fault.ReductFault.TheVariants as faults
 use Rattle.ror_reason.specs.declared.reducts.Reduct.{Reduct}
-use Rattle.ror_reason.specs.Reducts.{stated, without, Concludes}
+use Rattle.ror_reason.specs.Reducts.{stated, without, RestsOnPart, Concludes}
 
 -- the answer at a place, counted from 1, stands beside a number, and concludes the same
 pub record IsSameAt (c : Conclusion) (others : List Answer) (k : ℕ) : Type 0 where
@@ -36,6 +36,7 @@ pub record FailsOther (t : DecisionTable) (list : List Numbered) (q : Question) 
 -- what each test finds at fault in a reduct, each taken alone
 abbrev pub FailsReduct : DecisionTable → List Numbered → Question → Conclusion → Reduct
     → ReductFault → Type 0
+FailsReduct t list q c x faults.NotCarried = RestsOnPart q c → ⊥
 FailsReduct t list q c x faults.WrongNumbers = AreNumbersIn list x.numbers → ⊥
 FailsReduct t list q c x faults.Count = length x.others ≢ length x.numbers
 FailsReduct t list q c x faults.AnotherAnswer = Concludes c x.answer.verdict → ⊥
@@ -46,11 +47,12 @@ FailsReduct t list q c x (faults.Other k fault) = FailsOther t list q x.numbers 
 FailsReduct t list q c x faults.Memory = ⊥
 
 abbrev pub reduct_stage : ReductFault → ℕ
-reduct_stage faults.WrongNumbers = 0
-reduct_stage faults.Count = 1
-reduct_stage faults.AnotherAnswer = 2
-reduct_stage (faults.Answer fault) = 3
-reduct_stage _ = 4
+reduct_stage faults.NotCarried = 0
+reduct_stage faults.WrongNumbers = 1
+reduct_stage faults.Count = 2
+reduct_stage faults.AnotherAnswer = 3
+reduct_stage (faults.Answer fault) = 4
+reduct_stage _ = 5
 
 -- of two answers beside numbers the earlier comes first, and of one what it concludes before its proof
 abbrev pub reduct_place : ReductFault → ℕ

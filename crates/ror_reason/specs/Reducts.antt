@@ -5,10 +5,13 @@ use Rattle.ror_statement.specs.declared.statement.Statement.{Statement}
 use Rattle.ror_statement.specs.declared.statement.Numbered.{Numbered}
 use Rattle.ror_statement.specs.declared.question.QuestionKind.{QuestionKind}
 use Rattle.ror_statement.specs.declared.question.QuestionKind.TheVariants.{Any, Every}
+use Rattle.ror_statement.specs.declared.question.Property.{Property}
+use Rattle.ror_statement.specs.declared.question.Property.TheVariants.{AtLeast}
 use Rattle.ror_statement.specs.declared.question.Question.{Question}
 use Rattle.ror_statement.specs.declared.question.Conclusion.{Conclusion}
 use Rattle.ror_statement.specs.declared.question.Conclusion.TheVariants.{Yes, No, Contradiction}
 use Rattle.ror_statement.specs.Statements.{statements_in}
+use Rattle.ror_statement.specs.Questions.{kind_of, property_of}
 use Rattle.ror_table.specs.Table.{DecisionTable}
 use Rattle.ror_value.specs.Meaning.{Answers}
 use Rattle.ror_proof.specs.declared.answer.Answer.{Answer}
@@ -29,18 +32,22 @@ stated ns list = statements_in (part_of ns list)
 abbrev pub without : ℕ → List ℕ → List ℕ
 without n ns = filter (λ m. not (nat_eq n m)) ns
 
--- Statements carry that no function meets them, that every compatible function has a property, and that none has it. Where
--- some function has it, or some one lacks it, one function shows so, and no statement carries that.
-abbrev pub rests_on_part : QuestionKind → Conclusion → Bool
-rests_on_part _ Contradiction = true
-rests_on_part Every Yes = true
-rests_on_part Any No = true
-rests_on_part _ _ = false
+-- Statements carry that no function meets them, that every compatible one has two quantities in an order, and that none has
+-- what is asked. More statements keep that, as they leave fewer functions, and each of these fewer classes.
+abbrev pub rests_on_part : QuestionKind → Property → Conclusion → Bool
+rests_on_part _ _ Contradiction = true
+rests_on_part Every (AtLeast form) Yes = true
+rests_on_part Any _ No = true
+rests_on_part _ _ _ = false
 
--- The answer over the list is this, and so it is over the part of these numbers; over the part without any one of its
--- statements it is not.
+abbrev pub RestsOnPart : Question → Conclusion → Type 0
+RestsOnPart q c = rests_on_part (kind_of q) (property_of q) c ≡ true
+
+-- The answer is one that statements carry. Over the list it is this, and so it is over the part of these numbers; over the
+-- part without any one of its statements it is not.
 pub record IsReduct (t : DecisionTable) (list : List Numbered) (q : Question) (c : Conclusion)
     (ns : List ℕ) : Type 0 where
+  pub rests : RestsOnPart q c
   pub numbers : AreNumbersIn list ns
   pub whole : Answers t (statements_in list) q c
   pub carries : Answers t (stated ns list) q c
@@ -58,10 +65,11 @@ pub record IsProvedOther (t : DecisionTable) (list : List Numbered) (q : Questio
   pub proved : IsProvedAnswer t (stated (without n ns) list) q other
   pub differs : Concludes c other.verdict → ⊥
 
--- The numbers name a part of the list, over which the answer has its proof. Beside each number stands, at its place, the
--- answer over the others.
+-- The answer is one that statements carry, and the numbers name a part of the list, over which it has its proof. Beside each
+-- number stands, at its place, the answer over the others.
 pub record IsProvedReduct (t : DecisionTable) (list : List Numbered) (q : Question)
     (c : Conclusion) (x : Reduct) : Type 0 where
+  pub rests : RestsOnPart q c
   pub numbers : AreNumbersIn list x.numbers
   pub as_many : length x.others ≡ length x.numbers
   pub concludes : Concludes c x.answer.verdict

@@ -14,7 +14,7 @@ ghost use Rattle.ror_reason.specs.ReductFaults.{FailsReduct, IsEarlierReductFaul
 ghost use Rattle.ror_reason.specs.CheckSteps.{RefusesPart, RefusesOther, RefusesOthers, AreProvedBefore};
 
 use crate::fault::ReductFault;
-use crate::part::{are_numbers_in, concludes, stated, without};
+use crate::part::{are_numbers_in, concludes, rests_on_part, stated, without};
 use crate::reducts::Reduct;
 use ror_check::{CheckFault, check_answer};
 use ror_proof::Answer;
@@ -22,9 +22,9 @@ use ror_statement::{Conclusion, Numbered, Question};
 use ror_table::Table;
 use std::alloc::Global;
 
-/// Whether the reduct is proved: its numbers name a part of the list, the answer over that has a proof and concludes this, and
-/// so has each answer over all but one statement of the part, and concludes something else. Where the conclusion answers the
-/// question over the list, the part is a reduct of it.
+/// Whether the reduct is proved: the question's answer is one that statements carry, its numbers name a part of the list, the
+/// answer over that has a proof and concludes this, and so has each answer over all but one statement of the part, and concludes
+/// something else. Where the conclusion answers the question over the list, the part is a reduct of it.
 ///
 /// The statements are lawful, their numbers rise, and the question is valid for the table.
 ///
@@ -57,6 +57,9 @@ pub fn check_reduct(
 {
     let numbers = x.numbers.as_slice();
     let others = x.others.as_slice();
+    if !rests_on_part(question, conclusion) {
+        return Err(ReductFault::NotCarried);
+    }
     if !are_numbers_in(list, numbers) {
         return Err(ReductFault::WrongNumbers);
     }

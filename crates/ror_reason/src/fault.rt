@@ -10,6 +10,10 @@ use thiserror::Error;
 /// Why a reduct is not accepted: the first test that fails, in this order. Answers beside numbers are counted from 1.
 #[derive(Debug, Drop, Error)]
 pub enum ReductFault {
+    /// No statement carries that the question is answered so: one function decides it, or it is that each one leaves an
+    /// alternative a class.
+    #[error("no statement carries this answer to the question")]
+    NotCarried,
     /// The numbers are not those of statements of the list, each once, in increasing order.
     #[error("the numbers are not those of statements of the list in increasing order")]
     WrongNumbers,

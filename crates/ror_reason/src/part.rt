@@ -3,13 +3,14 @@
 ghost use Rattle.std.specs.Prelude.{◌≡◌, ◌↔◌, nat_eq, IsTrue, IfOk};
 ghost use Rattle.std.specs.List.Sorted.{IsStrictlyIncreasing};
 ghost use Rattle.std.specs.Set.{is_member};
+ghost use Rattle.ror_statement.specs.Questions as questions;
 ghost use Rattle.ror_statement.specs.Statements.{numbers_in};
 ghost use Rattle.ror_check.specs.Repair.{AreNumbersIn};
 ghost use Rattle.ror_reason.specs.Reducts as reducts;
 ghost use Rattle.ror_reason.specs.Reducts.{Concludes};
 
 use ror_proof::Verdict;
-use ror_statement::{Conclusion, Numbered, QuestionKind, Statement};
+use ror_statement::{Conclusion, Numbered, Property, Question, QuestionKind, Statement, kind_of};
 use std::alloc::{AllocError, Global};
 
 /// Whether the numbers are numbers of the list, each once, in increasing order. The list's numbers rise.
@@ -84,13 +85,14 @@ pub(crate) fn concludes(verdict: &Verdict, conclusion: Conclusion) -> bool
     }
 }
 
-/// Whether statements carry the conclusion, and not one function decides it.
-pub(crate) fn rests_on_part(kind: QuestionKind, conclusion: Conclusion) -> bool
-    ensures { result ≡ reducts.rests_on_part kind conclusion }
+/// Whether statements carry that a question is answered so.
+pub(crate) fn rests_on_part(question: &Question, conclusion: Conclusion) -> bool
+    ensures { result ≡ reducts.rests_on_part (questions.kind_of question.now) (questions.property_of question.now) conclusion }
 {
-    match (kind, conclusion) {
-        (_, Conclusion::Contradiction) => true,
-        (QuestionKind::Every, Conclusion::Yes) | (QuestionKind::Any, Conclusion::No) => true,
+    match (kind_of(question), question.property(), conclusion) {
+        (_, _, Conclusion::Contradiction) => true,
+        (QuestionKind::Every, Property::AtLeast(_), Conclusion::Yes) => true,
+        (QuestionKind::Any, _, Conclusion::No) => true,
         _ => false,
     }
 }

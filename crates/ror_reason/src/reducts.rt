@@ -4,11 +4,8 @@ use ror_proof::{Answer, WideText};
 use ror_text::Items;
 
 /// A part of a list that carries an answer, and of which no statement can be spared: without any one of them the answer is
-/// another. What carries a contradiction is a smallest conflict.
-///
-/// A reduct is least by inclusion, so no smaller part of it has the answer either, but for one form: that an alternative may
-/// belong to a class by every compatible function. The classes that a function leaves go by what the list assigns, so that may
-/// end with one statement more and come back with two; there a reduct says of single statements alone that none can be spared.
+/// another. What carries a contradiction is a smallest conflict. A reduct is least by inclusion, so no smaller part of it has
+/// the answer either; it is one of several, where another part that it doesn't contain carries the answer too.
 #[derive(Debug, Drop)]
 pub struct Reduct {
     /// The numbers of the statements of the part, in increasing order.
@@ -22,15 +19,32 @@ pub struct Reduct {
 /// Why an answer over a list is what it is.
 #[derive(Debug, Drop)]
 pub enum Reason {
-    /// Statements carry it.
+    /// Statements carry it, and none of them can be spared.
     Carried(Reduct),
-    /// One value function decides it, which stands in the answer's proof, and no statement carries it.
-    Decided,
-    /// Nothing is found: over the part of the list with these numbers, which is the whole list or all but one statement of a
-    /// part that has the answer, a number on the way to the certificate of this system, by its number from 1 or 0 for the
-    /// base, passes the width.
+    /// Statements carry it, and of some of them it isn't known whether they can be spared: the answer over the others names a
+    /// number that passes the width. The others can't be spared.
     Wide {
+        /// The numbers of the statements of a part that has the answer, in increasing order.
         numbers: Items<u32>,
+        /// The answer over the part.
+        answer: Answer,
+        /// For each number, at its place, the answer over the part without its statement: another one, or one that concludes
+        /// nothing.
+        others: Items<Answer>,
+    },
+    /// One value function shows it, and no statement carries it: a function that is compatible with the list, and has what is
+    /// asked of some one. In the proof of the answer it is the solution of the part, or that of the base where there is no part.
+    OneHas(Answer),
+    /// One value function shows it, and no statement carries it: a function that is compatible with the list, and lacks what is
+    /// asked of every one. In the proof of the answer it is the solution of the part.
+    OneLacks(Answer),
+    /// Every compatible function leaves the alternative the class. No statement carries that: over no statements every class is
+    /// left, and statements take classes away. What bounds the classes is told by the reasons of those that are not possible:
+    /// ask `PossibleClass` of each class outside.
+    ClassLeft(Answer),
+    /// Nothing is concluded over the whole list: a number on the way to the certificate of this system, by its number from 1 or
+    /// 0 for the base, passes the width.
+    WhollyWide {
         system: u32,
         note: WideText,
     },

@@ -1,96 +1,87 @@
 //! The search for a reduct.
 
-ghost use Rattle.std.specs.Prelude.{◌≡◌, ◌≤◌, Ok, IfOk, IfErr, IfSome};
-ghost use Rattle.ror_reason.specs.Reducts.{Concludes};
-ghost use Rattle.ror_reason.specs.SearchSteps.{IsSought, IsPart, IsStop, AreOthers, IsFound};
+ghost use Rattle.std.specs.Prelude.{◌≡◌, ◌≤◌, length, IfOk, IfSome};
+ghost use Rattle.std.specs.List.{list_any};
+ghost use Rattle.ror_check.specs.Proof.{is_wide};
+ghost use Rattle.ror_reason.specs.SearchSteps.{IsSought, IsPart, AreOthers, AreOthersBefore, IsFound};
 
+use crate::copies::copied_answer;
 use crate::part::{concludes, numbers_of};
-use crate::reducts::Reduct;
-use crate::sought::{Part, Sought, Stop, Without, decide_part, try_without};
+use crate::reducts::{Reason, Reduct};
+use crate::sought::{Part, Sought, Without, decide_part, try_without};
 use crate::weights::weighed;
-use ror_proof::Answer;
-use ror_statement::Conclusion;
+use ror_proof::{Answer, Verdict};
 use ror_text::Items;
 use ror_warm::Engine;
-use std::alloc::Global;
+use std::alloc::{AllocError, Global};
 
 /// What a part comes to without any one of its statements.
 #[derive(Drop)]
 pub(crate) enum Others {
     /// A smaller part has the answer.
     Smaller(Part),
-    /// None has: the answers beside the numbers, in order.
+    /// None has, as far as is known: the answers beside the numbers, in order.
     All(Vec<Answer>),
 }
 
-/// A reduct of the answer that is sought, which the list has by this proof.
+/// The reason of the answer that is sought.
 pub(crate) fn found(
     alloc: Global,
     engine: &mut Engine,
     sought: &Sought,
-    answer: &Answer,
-) -> Result<Reduct, Stop>
+) -> Result<Reason, AllocError>
     requires { IsSought sought.now }
     ensures ok { IfOk result (IsFound sought.now) }
-    ensures err { IfErr result (IsStop sought.now) }
     ensures counted { engine.old.pivots ≤ engine.new.pivots }
 {
-    let part = start(alloc, engine, sought, answer)?;
+    let part = match weighed_part(alloc, engine, sought)? {
+        Some(part) => part,
+        None => whole(alloc, sought)?,
+    };
     let part = without_idle(alloc, engine, sought, part)?;
     smallest(alloc, engine, sought, part)
 }
 
-/// The part of the statements that have weight in the proof, where that has the answer; else the whole list.
-fn start(alloc: Global, engine: &mut Engine, sought: &Sought, answer: &Answer) -> Result<Part, Stop>
+/// The part of the statements that have weight in the proof, where that has the answer.
+fn weighed_part(
+    alloc: Global,
+    engine: &mut Engine,
+    sought: &Sought,
+) -> Result<Option<Part>, AllocError>
     requires { IsSought sought.now }
-    ensures ok { IfOk result (IsPart sought.now) }
-    ensures err { IfErr result (IsStop sought.now) }
+    ensures ok { IfOk result (λ part. IfSome part (IsPart sought.now)) }
     ensures counted { engine.old.pivots ≤ engine.new.pivots }
 {
-    let numbers = weighed(alloc, sought.list, answer)?;
-    match with_answer(
-        decide_part(alloc, engine, sought, numbers),
-        sought.conclusion,
-    ) {
-        Some(part) => Ok(part),
-        None => whole(alloc, engine, sought),
-    }
-}
-
-/// The part, where it is there and the answer over it concludes this.
-fn with_answer(decided: Result<Part, Stop>, conclusion: Conclusion) -> Option<Part>
-    ensures { IfSome result (λ part. (decided ≡ Ok part) × Concludes conclusion part.answer.verdict) }
-{
-    let part = decided.ok()?;
-    if concludes(&part.answer.verdict, conclusion) {
-        Some(part)
+    let numbers = weighed(alloc, sought.list, sought.answer)?;
+    let answer = decide_part(alloc, engine, sought, numbers.as_slice())?;
+    let part = Part { numbers, answer };
+    if concludes(&part.answer.verdict, sought.conclusion) {
+        Ok(Some(part))
     } else {
-        None
+        Ok(None)
     }
 }
 
 /// The whole list as the part.
-fn whole(alloc: Global, engine: &mut Engine, sought: &Sought) -> Result<Part, Stop>
+fn whole(alloc: Global, sought: &Sought) -> Result<Part, AllocError>
     requires { IsSought sought.now }
-    ensures ok { IfOk result (IsPart sought.now) }
-    ensures err { IfErr result (IsStop sought.now) }
-    ensures counted { engine.old.pivots ≤ engine.new.pivots }
+    ensures { IfOk result (IsPart sought.now) }
 {
     let numbers = numbers_of(alloc, sought.list)?;
-    decide_part(alloc, engine, sought, numbers)
+    let answer = copied_answer(alloc, sought.answer)?;
+    Ok(Part { numbers, answer })
 }
 
-/// The part without each statement that can be spared, from the first on, of what is left.
+/// The part without each statement that is found to be spared, from the first on, of what is left.
 fn without_idle(
     alloc: Global,
     engine: &mut Engine,
     sought: &Sought,
     part: Part,
-) -> Result<Part, Stop>
+) -> Result<Part, AllocError>
     requires sought { IsSought sought.now }
     requires part { IsPart sought.now part }
     ensures ok { IfOk result (IsPart sought.now) }
-    ensures err { IfErr result (IsStop sought.now) }
     ensures counted { engine.old.pivots ≤ engine.new.pivots }
 {
     let mut part = part;
@@ -105,35 +96,34 @@ fn without_idle(
     Ok(part)
 }
 
-/// The part as a reduct, or, where a statement of it can be spared still, a smaller one.
-fn smallest(alloc: Global, engine: &mut Engine, sought: &Sought, part: Part) -> Result<Reduct, Stop>
+/// The part as the reason, or, where a statement of it is found to be spared still, a smaller one.
+fn smallest(
+    alloc: Global,
+    engine: &mut Engine,
+    sought: &Sought,
+    part: Part,
+) -> Result<Reason, AllocError>
     requires sought { IsSought sought.now }
     requires part { IsPart sought.now part }
     ensures ok { IfOk result (IsFound sought.now) }
-    ensures err { IfErr result (IsStop sought.now) }
     ensures counted { engine.old.pivots ≤ engine.new.pivots }
 {
     match try_each(alloc, engine, sought, &part)? {
         Others::Smaller(smaller) => smallest(alloc, engine, sought, smaller),
-        Others::All(others) => Ok(Reduct {
-            numbers: Items::from(part.numbers),
-            answer: part.answer,
-            others: Items::from(others),
-        }),
+        Others::All(others) => Ok(reason_with(sought, part, others)),
     }
 }
 
-/// What the part comes to without each one of its statements, up to the first that can be spared.
+/// What the part comes to without each one of its statements, up to the first that is found to be spared.
 fn try_each(
     alloc: Global,
     engine: &mut Engine,
     sought: &Sought,
     part: &Part,
-) -> Result<Others, Stop>
+) -> Result<Others, AllocError>
     requires sought { IsSought sought.now }
     requires part { IsPart sought.now part.now }
     ensures ok { IfOk result (AreOthers sought.now part.now.numbers.items) }
-    ensures err { IfErr result (IsStop sought.now) }
     ensures counted { engine.old.pivots ≤ engine.new.pivots }
 {
     let mut others = Vec::new(alloc);
@@ -144,4 +134,39 @@ fn try_each(
         }
     }
     Ok(Others::All(others))
+}
+
+/// The part with the answers beside its numbers: a reduct, where each of them concludes something.
+fn reason_with(sought: &Sought, part: Part, others: Vec<Answer>) -> Reason
+    requires sought { IsSought sought.now }
+    requires part { IsPart sought.now part }
+    requires others { AreOthersBefore sought.now part.numbers.items others.items (length part.numbers.items) }
+    ensures { IsFound sought.now result }
+{
+    let wide = is_some_wide(others.as_slice());
+    let numbers = Items::from(part.numbers);
+    let answer = part.answer;
+    let others = Items::from(others);
+    if wide {
+        Reason::Wide {
+            numbers,
+            answer,
+            others,
+        }
+    } else {
+        Reason::Carried(Reduct {
+            numbers,
+            answer,
+            others,
+        })
+    }
+}
+
+/// Whether one of the answers concludes nothing.
+fn is_some_wide(answers: &[Answer]) -> bool
+    ensures { result ≡ list_any (λ x. is_wide x.verdict) answers.now }
+{
+    answers
+        .iter()
+        .any(|x| matches!(x.verdict, Verdict::Wide { .. }))
 }
