@@ -1,0 +1,4 @@
+pub mod Weights
+pub mod Sides
+pub mod Parts
+pub mod Reasons
