@@ -19,6 +19,7 @@
 #![tactic(auto)]
 
 mod carried;
+pub mod laws;
 mod owners;
 mod parts;
 mod reasons;
