@@ -1,9 +1,10 @@
 -- Lists of which the numbers other than 0 are kept: each number of them, one number more, and all numbers but 0 one by one.
-use Rattle.std.proofs.Common.{◌≡◌, ◌≢◌, ℕ, zero, suc, ◌+◌, ◌-◌, ◌<◌, ◌≤◌, List, [], ◌∷◌, ◌++◌, length, map, drop, replicate, get_or, nat_lt, ℤ, pos, ◌⊎◌, inl, inr, refl, sym, ap, ◌∙◌, subst, arith, length-append}
+use Rattle.std.proofs.Common.{◌≡◌, ◌≢◌, ℕ, zero, suc, ◌+◌, ◌-◌, ◌<◌, ◌≤◌, List, [], ◌∷◌, ◌++◌, length, map, drop, replicate, get_or, nat_lt, ℤ, pos, ◌⊎◌, inl, inr, refl, sym, ap, ◌∙◌, subst, arith, append-nil, length-append}
 use Rattle.std.specs.List.{AllByRecursion}
 use Rattle.std.specs.List.Sorted.{IsPartitionedBy}
 use Rattle.std.proofs.lemmas.List.Sorted.{IsPartitionedBy-ltb, IsNonDecreasingBy-from_default}
-use Rattle.std.proofs.lemmas.List.{append_assoc, drop_more, get_or_append_left, length-replicate}
+use Rattle.std.proofs.Math.Seq.{get_or-append_right}
+use Rattle.std.proofs.lemmas.List.{append_assoc, drop_all, drop_more, get_or_append_left, length-replicate}
 use Rattle.ror_integers.specs.Vectors.{entry}
 use Rattle.ror_system.specs.Numbers.{spread, ArePlaced, AreTheOthers}
 
@@ -17,18 +18,8 @@ IsLeftToPush-more list more numbers whole i x h l is e =
     let d : drop i numbers ≡ x ∷ drop (i + 1) numbers = drop_more numbers i (pos 0) l ∙ ap (λ (y : ℤ). y ∷ drop (i + 1) numbers) (sym is) in
     ap (λ (xs : List ℤ). xs ++ drop (i + 1) numbers) e ∙ append_assoc list (x ∷ []) (drop (i + 1) numbers) ∙ ap (λ (xs : List ℤ). list ++ xs) (sym d) ∙ h
 
-nothing_left : (xs : List ℤ) (i : ℕ) → length xs ≤ i → drop i xs ≡ []
-nothing_left [] zero h = refl
-nothing_left [] (suc i) h = refl
-nothing_left (x ∷ xs) zero h = absurd (omega arith)
-nothing_left (x ∷ xs) (suc i) h = nothing_left xs i (omega arith)
-
-append_nil : (xs : List ℤ) → xs ++ [] ≡ xs
-append_nil [] = refl
-append_nil (x ∷ xs) = ap (λ (ys : List ℤ). x ∷ ys) (append_nil xs)
-
 pub IsLeftToPush-end : (list numbers whole : List ℤ) (i : ℕ) → IsLeftToPush list numbers i whole → length numbers ≤ i → list ≡ whole
-IsLeftToPush-end list numbers whole i h l = sym (append_nil list) ∙ ap (λ (xs : List ℤ). list ++ xs) (sym (nothing_left numbers i l)) ∙ h
+IsLeftToPush-end list numbers whole i h l = sym (append-nil list) ∙ ap (λ (xs : List ℤ). list ++ xs) (sym (drop_all i numbers l)) ∙ h
 
 -- ---- zeros
 entry-zeros : (n k : ℕ) → entry (replicate n (pos 0)) k ≡ pos 0
@@ -96,21 +87,16 @@ other_more from len (place ∷ places) (value ∷ values) x h =
     ap (λ (xs : List ℤ). replicate (place - from) (pos 0) ++ value ∷ xs) (other_more (place + 1) len places values x h.2) ∙ sym (append_assoc (replicate (place - from) (pos 0)) (value ∷ spread (place + 1) len places values) (x ∷ []))
 
 -- ---- number by number
-entry-append_behind : (xs ys : List ℤ) (k : ℕ) → length xs ≤ k → entry (xs ++ ys) k ≡ entry ys (k - length xs)
-entry-append_behind [] ys k l = let e : k ≡ k - 0 = omega arith in ap (λ (n : ℕ). entry ys n) e
-entry-append_behind (x ∷ xs) ys zero l = absurd (omega arith)
-entry-append_behind (x ∷ xs) ys (suc k) l = let e : k - length xs ≡ suc k - length (x ∷ xs) = omega arith in entry-append_behind xs ys k (omega arith) ∙ ap (λ (n : ℕ). entry ys n) e
-
 gap_is_zero : (front rest : List ℤ) (from place k : ℕ) (value : ℤ) → length front ≡ from → from ≤ k → k < place → entry (front ++ (replicate (place - from) (pos 0) ++ value ∷ rest)) k ≡ pos 0
 gap_is_zero front rest from place k value n l m =
     let z : length (replicate (place - from) (pos 0)) ≡ place - from = length-replicate (place - from) (pos 0) in
-    entry-append_behind front (replicate (place - from) (pos 0) ++ value ∷ rest) k (omega arith) ∙ get_or_append_left (replicate (place - from) (pos 0)) (value ∷ rest) (pos 0) (k - length front) (omega arith) ∙ entry-zeros (place - from) (k - length front)
+    get_or-append_right front (replicate (place - from) (pos 0) ++ value ∷ rest) k (pos 0) (omega arith) ∙ get_or_append_left (replicate (place - from) (pos 0)) (value ∷ rest) (pos 0) (k - length front) (omega arith) ∙ entry-zeros (place - from) (k - length front)
 
 value_at_place : (front rest : List ℤ) (from place : ℕ) (value : ℤ) → length front ≡ from → from ≤ place → entry (front ++ (replicate (place - from) (pos 0) ++ value ∷ rest)) place ≡ value
 value_at_place front rest from place value n l =
     let z : length (replicate (place - from) (pos 0)) ≡ place - from = length-replicate (place - from) (pos 0) in
     let at : place - length front - length (replicate (place - from) (pos 0)) ≡ 0 = omega arith in
-    entry-append_behind front (replicate (place - from) (pos 0) ++ value ∷ rest) place (omega arith) ∙ entry-append_behind (replicate (place - from) (pos 0)) (value ∷ rest) (place - length front) (omega arith) ∙ ap (λ (k : ℕ). entry (value ∷ rest) k) at
+    get_or-append_right front (replicate (place - from) (pos 0) ++ value ∷ rest) place (pos 0) (omega arith) ∙ get_or-append_right (replicate (place - from) (pos 0)) (value ∷ rest) (place - length front) (pos 0) (omega arith) ∙ ap (λ (k : ℕ). entry (value ∷ rest) k) at
 
 next_front : (front rest : List ℤ) (from place : ℕ) (value : ℤ) → front ++ (replicate (place - from) (pos 0) ++ value ∷ rest) ≡ (front ++ (replicate (place - from) (pos 0) ++ value ∷ [])) ++ rest
 next_front front rest from place value =
@@ -125,7 +111,7 @@ length-next_front front from place value n l =
     omega arith
 
 pub others_behind : (front : List ℤ) (from len : ℕ) (places : List ℕ) (values : List ℤ) → length front ≡ from → ArePlaced from len places values → AreTheOthers (front ++ spread from len places values) from places
-others_behind front from len [] values n h = λ k l. entry-append_behind front (replicate (len - from) (pos 0)) k (omega arith) ∙ entry-zeros (len - from) (k - length front)
+others_behind front from len [] values n h = λ k l. get_or-append_right front (replicate (len - from) (pos 0)) k (pos 0) (omega arith) ∙ entry-zeros (len - from) (k - length front)
 others_behind front from len (place ∷ places) [] n h = absurd h
 others_behind front from len (place ∷ places) (value ∷ values) n h =
     let rest = spread (place + 1) len places values in
@@ -230,15 +216,9 @@ IsLeftToSpread-more numbers filled more whole len place value places values i h 
     let both = spread_step numbers filled more whole len place value (drop (i + 1) places) (drop (i + 1) values) a b e f in
     record { placed = both.0; rest = both.1 }
 
-no_place_left : (places : List ℕ) (i : ℕ) → length places ≤ i → drop i places ≡ []
-no_place_left [] zero l = refl
-no_place_left [] (suc i) l = refl
-no_place_left (place ∷ places) zero l = absurd (omega arith)
-no_place_left (place ∷ places) (suc i) l = no_place_left places i (omega arith)
-
 pub IsLeftToSpread-end : (numbers more whole : List ℤ) (len : ℕ) (places : List ℕ) (values : List ℤ) (i : ℕ) → IsLeftToSpread numbers len places values i whole → length places ≤ i → more ≡ numbers ++ replicate (len - length numbers) (pos 0) → more ≡ whole
 IsLeftToSpread-end numbers more whole len places values i h l e =
-    e ∙ subst (λ (ps : List ℕ). numbers ++ spread (length numbers) len ps (drop i values) ≡ whole) (no_place_left places i l) h.rest
+    e ∙ subst (λ (ps : List ℕ). numbers ++ spread (length numbers) len ps (drop i values) ≡ whole) (drop_all i places l) h.rest
 
 -- ---- what holds of 0 and of the others holds of all
 All-zeros : (P : ℤ → Type 0) (n : ℕ) (xs : List ℤ) → P (pos 0) → AllByRecursion P xs → AllByRecursion P (replicate n (pos 0) ++ xs)

@@ -1,7 +1,7 @@
 -- Going through the numbers of a list that are other than 0, where what is kept of a loop lasts over each 0.
 use Rattle.std.proofs.Common.{◌≡◌, ℕ, zero, suc, ◌+◌, ◌-◌, ◌<◌, ◌≤◌, List, [], ◌∷◌, length, map, drop, get_or, ℤ, pos, ◌*ℤ◌, unsigned_abs, ◌⊎◌, inl, inr, refl, sym, ap, ◌∙◌, subst, arith}
 use Rattle.std.proofs.lemmas.Int.{ints}
-use Rattle.std.proofs.lemmas.List.{drop_more}
+use Rattle.std.proofs.lemmas.List.{drop_all, drop_more}
 use Rattle.ror_integers.specs.Vectors.{entry, NoneNegative}
 use Rattle.ror_integers.proofs.Ring.{sums}
 use Rattle.ror_system.specs.Numbers.{AreTheOthers}
@@ -44,15 +44,9 @@ IsWalked-more xs places i place P Q l is w q =
     let h = next_of xs w.0 places i w.1 l in
     (place + 1, subst (λ (k : ℕ). AreTheOthers xs (k + 1) (drop (i + 1) places)) (sym is) h.3, q)
 
-nothing_left : (places : List ℕ) (i : ℕ) → length places ≤ i → drop i places ≡ []
-nothing_left [] zero l = refl
-nothing_left [] (suc i) l = refl
-nothing_left (place ∷ places) zero l = absurd (omega arith)
-nothing_left (place ∷ places) (suc i) l = nothing_left places i (omega arith)
-
 pub IsWalked-end : (xs : List ℤ) (places : List ℕ) (i : ℕ) (P : ℕ → Type 0) → Lasts xs P → length places ≤ i → IsWalked xs places i P → (n : ℕ) × (length xs ≤ n) × P n
 IsWalked-end xs places i P lasts l w =
-    let h = subst (AreTheOthers xs w.0) (nothing_left places i l) w.1 in
+    let h = subst (AreTheOthers xs w.0) (drop_all i places l) w.1 in
     past_end xs P w.0 lasts h w.2
   where
     split : (a b : ℕ) → (a ≤ b) ⊎ (b ≤ a)

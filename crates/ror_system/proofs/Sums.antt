@@ -1,9 +1,10 @@
 -- A running sum of products and the sum of their absolute values, by what is left to add.
 use Rattle.std.proofs.Common.{◌≡◌, ℕ, zero, suc, ◌+◌, ◌<◌, ◌≤◌, List, [], ◌∷◌, length, drop, get_or, ℤ, pos, ◌+ℤ◌, ◌*ℤ◌, unsigned_abs, refl, sym, ap, subst, arith}
 use Rattle.std.specs.List.{AllByRecursion}
+use Rattle.std.proofs.lemmas.List.{drop_all}
 use Rattle.ror_integers.specs.Vectors.{entry, dot, absolute_dot, column}
 use Rattle.ror_integers.proofs.Ring.{sums}
-use Rattle.ror_integers.proofs.Dots.{dot-nil_right, dot_more, absolute_dot_more}
+use Rattle.ror_integers.proofs.Dots.{dot_more, absolute_dot_more}
 
 -- with what is left from place j on, the sums are those of the start and of all products
 pub record IsLeft (value start : ℤ) (width begun : ℕ) (xs ys : List ℤ) (j : ℕ) : Type 0 where
@@ -32,24 +33,13 @@ IsLeft-over value start width begun xs ys j x y limit h l k p q o =
     let v : unsigned_abs (x *ℤ y) ≡ unsigned_abs (entry xs j *ℤ entry ys j) = ap unsigned_abs u in
     omega arith
 
-absolute_dot-nil_right : (xs : List ℤ) → absolute_dot xs [] ≡ 0
-absolute_dot-nil_right [] = refl
-absolute_dot-nil_right (x ∷ xs) = refl
-
-nothing_left : (xs ys : List ℤ) (j : ℕ) → length xs ≤ j → (dot (drop j xs) (drop j ys) ≡ pos 0) × (absolute_dot (drop j xs) (drop j ys) ≡ 0)
-nothing_left [] ys zero h = (refl, refl)
-nothing_left [] ys (suc j) h = (refl, refl)
-nothing_left (x ∷ xs) ys zero h = absurd (omega arith)
-nothing_left (x ∷ xs) [] (suc j) h = (dot-nil_right (drop j xs), absolute_dot-nil_right (drop j xs))
-nothing_left (x ∷ xs) (y ∷ ys) (suc j) h = nothing_left xs ys j (omega arith)
-
 pub IsLeft-end : (value start : ℤ) (width begun : ℕ) (xs ys : List ℤ) (j : ℕ) → IsLeft value start width begun xs ys j → length xs ≤ j → (value ≡ start +ℤ dot xs ys) × (width ≡ begun + absolute_dot xs ys)
 IsLeft-end value start width begun xs ys j h l =
     let a = h.value_left in
     let b = h.width_left in
-    let n = nothing_left xs ys j l in
-    let d = n.0 in
-    let g = n.1 in
+    let none = drop_all j xs l in
+    let d : dot (drop j xs) (drop j ys) ≡ pos 0 = ap (λ (left : List ℤ). dot left (drop j ys)) none in
+    let g : absolute_dot (drop j xs) (drop j ys) ≡ 0 = ap (λ (left : List ℤ). absolute_dot left (drop j ys)) none in
     (omega (arith, sums), omega arith)
 
 -- ---- a row of some rows, as the code reads it

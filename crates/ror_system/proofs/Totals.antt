@@ -1,10 +1,11 @@
 -- A running total of numbers none of which is below 0, signs in two lists, and columns of weak and strict rows.
-use Rattle.std.proofs.Common.{true, false, negsuc, IsTrue, ◌↔◌, subst, ◌≡◌, ℕ, zero, suc, ◌+◌, ◌<◌, ◌≤◌, ◌^◌, List, [], ◌∷◌, ◌++◌, length, drop, ℤ, pos, ◌+ℤ◌, ◌≤ℤ◌, ◌<ℤ◌, unsigned_abs, FitsSigned, ◌-◌, ◌⊎◌, inl, inr, refl, ap, sym, ◌∙◌, arith, length-append}
+use Rattle.std.proofs.Common.{true, false, negsuc, IsTrue, ◌↔◌, subst, ◌≡◌, ℕ, ◌+◌, ◌<◌, ◌≤◌, ◌^◌, List, [], ◌∷◌, ◌++◌, length, drop, ℤ, pos, ◌+ℤ◌, ◌≤ℤ◌, ◌<ℤ◌, unsigned_abs, FitsSigned, ◌-◌, ◌⊎◌, inl, inr, ap, sym, ◌∙◌, arith, length-append}
 use Rattle.std.specs.Int.{w128}
 use Rattle.std.specs.Int.Signed.{lt_z}
 use Rattle.std.specs.List.{AllByRecursion}
 use Rattle.std.proofs.lemmas.Bool.{cases_lt}
 use Rattle.std.proofs.lemmas.Int.{ints, fits_signed_from_abs}
+use Rattle.std.proofs.lemmas.List.{drop_all, get_or-append-add, get_or_append_left}
 use Rattle.ror_integers.specs.Vectors.{entry, dot, absolute_dot, column, total, NoneNegative, SomePositive}
 use Rattle.ror_integers.proofs.Ring.{sums}
 use Rattle.ror_integers.proofs.Dots.{total_more, dot-append, absolute_dot-append}
@@ -44,16 +45,10 @@ IsLeftOfTotal-over sum x xs i h n l e over narrow =
     smaller : (a b : ℤ) (limit : ℕ) → pos 0 ≤ℤ a → a ≤ℤ b → unsigned_abs b < limit → unsigned_abs a < limit
     smaller a b limit h l n = omega (arith, ints)
 
-nothing_left : (xs : List ℤ) (i : ℕ) → length xs ≤ i → total (drop i xs) ≡ pos 0
-nothing_left [] zero h = refl
-nothing_left [] (suc i) h = refl
-nothing_left (x ∷ xs) zero h = absurd (omega arith)
-nothing_left (x ∷ xs) (suc i) h = nothing_left xs i (omega arith)
-
 pub IsLeftOfTotal-end : (sum : ℤ) (xs : List ℤ) (i : ℕ) → IsLeftOfTotal sum xs i → length xs ≤ i → sum ≡ total xs
 IsLeftOfTotal-end sum xs i h l =
     let b = h.left in
-    let e = nothing_left xs i l in
+    let e : total (drop i xs) ≡ pos 0 = ap total (drop_all i xs l) in
     omega (arith, sums)
 
 -- ---- signs
@@ -69,25 +64,16 @@ none_positive xs n h l s =
     let q = s.2 in
     absurd (omega (arith, sums))
 
-entry-append_left : (xs ys : List ℤ) (k : ℕ) → k < length xs → entry (xs ++ ys) k ≡ entry xs k
-entry-append_left [] ys k l = absurd (omega arith)
-entry-append_left (x ∷ xs) ys zero l = refl
-entry-append_left (x ∷ xs) ys (suc k) l = entry-append_left xs ys k (omega arith)
-
-entry-append_right : (xs ys : List ℤ) (k : ℕ) → entry (xs ++ ys) (length xs + k) ≡ entry ys k
-entry-append_right [] ys k = ap (entry ys) (omega arith)
-entry-append_right (x ∷ xs) ys k = let e : suc (length xs) + k ≡ suc (length xs + k) = omega arith in rw e (entry-append_right xs ys k)
-
 -- the first negative number of a list is that of the list with more after it
 pub IsFirstNegative-append_left : (xs ys : List ℤ) (k : ℕ) → IsFirstNegative xs k → IsFirstNegative (xs ++ ys) k
 IsFirstNegative-append_left xs ys k h =
     let l = h.within in
     let n = h.negative in
-    let e = entry-append_left xs ys k l in
+    let e = get_or_append_left xs ys (pos 0) k l in
     record {
       within = omega (arith, length-append xs ys);
       negative = omega (arith, sums);
-      none_before = λ j p. let f = entry-append_left xs ys j (omega arith) in let g = h.none_before j p in omega (arith, sums);
+      none_before = λ j p. let f = get_or_append_left xs ys (pos 0) j (omega arith) in let g = h.none_before j p in omega (arith, sums);
     }
 
 -- after numbers none of which is negative it is as much later
@@ -95,13 +81,13 @@ pub IsFirstNegative-append_right : (xs ys : List ℤ) (k : ℕ) → NoneNegative
 IsFirstNegative-append_right xs ys k m h =
     let l = h.within in
     let n = h.negative in
-    let e = entry-append_right xs ys k in
+    let e = get_or-append-add xs ys k (pos 0) in
     record { within = omega (arith, length-append xs ys); negative = omega (arith, sums); none_before = λ j p. before j p (cases_lt j (length xs)) }
   where
     before : (j : ℕ) → j < length xs + k → (j < length xs) ⊎ (length xs ≤ j) → pos 0 ≤ℤ entry (xs ++ ys) j
-    before j p (inl l) = let f = entry-append_left xs ys j l in let g = NoneNegative-entry xs j m in omega (arith, sums)
+    before j p (inl l) = let f = get_or_append_left xs ys (pos 0) j l in let g = NoneNegative-entry xs j m in omega (arith, sums)
     before j p (inr l) =
-        let f = entry-append_right xs ys (j - length xs) in
+        let f = get_or-append-add xs ys (j - length xs) (pos 0) in
         let i : length xs + (j - length xs) ≡ j = omega arith in
         let a = ap (entry (xs ++ ys)) i in
         let g = h.none_before (j - length xs) (omega arith) in
