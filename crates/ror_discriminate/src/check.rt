@@ -14,14 +14,16 @@ ghost use Rattle.ror_discriminate.specs.Steps.{IsMarginAt, IsMeasured, RefusesSt
 
 use crate::fault::OptimalFault;
 use crate::margin::{Margin, least_value};
-use crate::sum::{column_sum, row_at_steps};
 use crate::tops::row_of_tops;
 use ror_fraction::compare_ratios;
 use ror_pivot::Optimum;
 use ror_rows::system_of;
 use ror_statement::Statement;
 use ror_system::steps::positive_total;
-use ror_system::{Multipliers, Reject, Row, Solution, System, accept_multipliers, accept_solution};
+use ror_system::{
+    Multipliers, Reject, Row, Solution, System, accept_multipliers, accept_solution, column_sum,
+    row_at_steps,
+};
 use ror_table::Table;
 use std::alloc::Global;
 use std::cmp::Ordering;
@@ -186,7 +188,7 @@ fn check_column(
     let Some(scale) = top.entry(column).checked_mul(weight) else {
         return Err(OptimalFault::ScaleWide(column));
     };
-    let Some(sum) = column_sum(s, &x.multipliers, column) else {
+    let Some(sum) = column_sum(s, &x.multipliers.weak, &x.multipliers.strict, column) else {
         return Err(OptimalFault::ColumnWide(column));
     };
     match compare_ratios(sum, scale, margin.least, margin.total) {

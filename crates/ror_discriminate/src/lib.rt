@@ -48,7 +48,6 @@ mod names;
 mod notes;
 mod print;
 mod read;
-mod sum;
 pub mod text_laws;
 mod tops;
 mod words;

@@ -6,8 +6,7 @@ ghost use Rattle.ror_system.specs.System.{IsNarrow, sum_limit};
 ghost use Rattle.ror_system.specs.Acceptance.{IsAcceptedSolution};
 ghost use Rattle.ror_pivot.specs.Optimality.{least_value};
 
-use crate::sum::row_at_steps;
-use ror_system::{Numbers, Row, System};
+use ror_system::{Numbers, Row, System, row_at_steps};
 
 /// By how much a value function has all that is said strictly at least, and the value of its best levels: the least margin of
 /// the normalised function is the first over the second.

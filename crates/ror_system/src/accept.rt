@@ -174,8 +174,9 @@ fn check_column(s: &System, weak: &Numbers, strict: &Numbers, j: usize) -> Resul
     }
 }
 
-/// The weighted sum of a column, unless the absolute values of its terms sum past 2^127 - 1.
-fn column_sum(s: &System, weak: &Numbers, strict: &Numbers, j: usize) -> Option<i128>
+/// The sum of a column, each entry times its row's multiplier, of which there is one for each row, unless the absolute values of
+/// its terms sum past 2^127 - 1.
+pub fn column_sum(s: &System, weak: &Numbers, strict: &Numbers, j: usize) -> Option<i128>
     requires weak_lengths { length weak.now ≡ length s.now.weak }
     requires strict_lengths { length strict.now ≡ length s.now.strict }
     requires within { j < s.now.columns }

@@ -24,9 +24,10 @@ mod sum;
 mod system;
 mod values;
 
-pub use accept::{Multipliers, Solution, accept_multipliers, accept_solution};
+pub use accept::{Multipliers, Solution, accept_multipliers, accept_solution, column_sum};
 pub use limits::{MOST_COLUMNS, MOST_SYSTEM_ROWS};
 pub use numbers::Numbers;
 pub use reject::Reject;
 pub use row::{Row, shared_front};
+pub use sum::row_at_steps;
 pub use system::System;

@@ -66,8 +66,9 @@ impl Sum {
     }
 }
 
-/// What a row comes to at these steps, unless the absolute values of its terms sum past 2^127 - 1.
-pub(crate) fn row_at_steps(row: &Row, steps: &Numbers) -> Option<i128>
+/// What a row comes to at these steps, of which there is one for each entry, unless the absolute values of its terms sum past
+/// 2^127 - 1.
+pub fn row_at_steps(row: &Row, steps: &Numbers) -> Option<i128>
     requires { length row.now ≡ length steps.now }
     ensures { MatchOption result (sum_limit ≤ absolute_dot row.now steps.now)
         (λ sum. (sum ≡ dot row.now steps.now) × (absolute_dot row.now steps.now < sum_limit)) }

@@ -1,6 +1,0 @@
-use Rattle.ror_integers.specs.Vectors.{column}
-use Rattle.ror_system.proofs.Sums.{IsLeft}
-use Rattle.ror_discriminate.proofs.sum.Sum.plus_column.Given as goal
-
-abbrev pub invariant-loop-i : goal.invariant-loop-i
-invariant-loop-i l = IsLeft l.sum.value l.initial.sum.value l.sum.width l.initial.sum.width l.multipliers (column l.rows l.j) l.i
