@@ -17,7 +17,7 @@ ghost use Rattle.ror_bench.specs.Steps as steps;
 ghost use Rattle.ror_bench.specs.declared.bench.BlockFault.TheVariants.{Memory};
 
 use crate::desk::{check, perform};
-use ror_check::{AnswersFault, CheckFault, RepairCheckFault};
+use ror_check::{AnswersChecker, AnswersFault, CheckFault, RepairCheckFault};
 use ror_history::History;
 use ror_pivot::Bits;
 use ror_proof::{Answer, Verdict};
@@ -125,12 +125,15 @@ pub struct Bench {
     desks: Vec<History>,
     /// Decides the questions of all desks.
     engine: Engine,
+    /// Checks the answers of all desks.
+    checker: AnswersChecker,
     repair_pivots: u64,
 }
 
 impl Model for Bench {
     ghost use Rattle.std.specs.Prelude.{map};
     ghost use Rattle.std.specs.List.{AllByRecursion};
+    ghost use Rattle.ror_check.specs.Checkers.{IsCheckerOver};
     ghost use Rattle.ror_bench.specs.Bench.{Workbench, IsLawfulThroughout, pivots_together};
 
     ghost Value = { Workbench };
@@ -142,8 +145,10 @@ impl Model for Bench {
       spare = map (λ h. h.spare) b.desks.items;
     } };
 
-    ghost invariant = { λ b. AllByRecursion
-        (λ h. IsLawfulThroughout b.table h.state) b.desks.items };
+    ghost invariant = { λ b. record {
+      lawful : AllByRecursion (λ h. IsLawfulThroughout b.table h.state) b.desks.items;
+      checker : IsCheckerOver b.table b.checker;
+    } };
 }
 
 impl Bench {
@@ -156,11 +161,13 @@ impl Bench {
     {
         let Input { table, opening } = input;
         let desks = histories(alloc, opening.as_slice(), desks)?;
+        let checker = AnswersChecker::new();
         Ok(Bench {
             alloc,
             table,
             desks,
             engine: Engine::new(alloc),
+            checker,
             repair_pivots: 0,
         })
     }
@@ -299,7 +306,14 @@ impl Bench {
             return Err(BlockFault::WrongBlock);
         }
         let history = &mut self.desks[line.desk as usize];
-        check(self.alloc, &self.table, history, &line.command, &block.body)
+        check(
+            self.alloc,
+            &mut self.checker,
+            &self.table,
+            history,
+            &line.command,
+            &block.body,
+        )
     }
 }
 

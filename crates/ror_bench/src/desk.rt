@@ -4,6 +4,7 @@ ghost use Rattle.std.specs.Prelude.{◌≡◌, ◌≢◌, ◌↔◌, ◌+◌, �
 ghost use Rattle.std.specs.List.{AllByRecursion, AllZip};
 ghost use Rattle.ror_pivot.specs.Answers.{most_of};
 ghost use Rattle.ror_value.specs.Over.{IsAskedIn};
+ghost use Rattle.ror_check.specs.Checkers.{IsCheckerOver};
 ghost use Rattle.ror_check.specs.Repair.{AreNumbersIn, numbers_of};
 ghost use Rattle.ror_history.specs.History.{next_number, standing, statements_of, withdrawal, with_revision};
 ghost use Rattle.ror_session.specs.declared.session.Command.TheVariants.{State, Withdraw, Replace, Repair, Undo, Ask};
@@ -16,7 +17,7 @@ ghost use Rattle.ror_bench.specs.Steps.{body_of, IsMade, IsOneMore, IsSaidOf, Re
 use crate::bench::{BlockFault, Passed};
 use crate::names::{questions_of, statement_of};
 use crate::stop::LineStop;
-use ror_check::{check_answers, check_repair};
+use ror_check::{AnswersChecker, check_repair};
 use ror_history::{History, HistoryFault};
 use ror_pivot::Bits;
 use ror_proof::{Answer, Dropped};
@@ -268,6 +269,7 @@ fn statements_at(alloc: Global, history: &History) -> Result<Vec<Statement>, All
 /// Does the command at a desk where the body is its body, and says how many of its answers passed.
 pub(crate) fn check(
     alloc: Global,
+    checker: &mut AnswersChecker,
     table: &Table,
     history: &mut History,
     command: &Command,
@@ -275,6 +277,8 @@ pub(crate) fn check(
 ) -> Result<Passed, BlockFault>
     requires number { next_number history.old.state < 2 ^ 32 - 1 }
     requires lawful { IsLawfulThroughout table.now history.old.state }
+    requires checker { IsCheckerOver table.now checker.old }
+    ensures checker { IsCheckerOver table.now checker.new }
     ensures body { OnOk result (IsBodyOf proved_unless_wide table.now history.old.state
         command.now body.now) }
     ensures passed { IfOk result (λ passed. passed ≡ passed_of body.now) }
@@ -298,7 +302,7 @@ pub(crate) fn check(
         }
         Command::Repair => check_repaired(alloc, table, history, body),
         Command::Undo => check_undone(table, history, body),
-        Command::Ask(asked) => check_answered(alloc, table, history, asked, body),
+        Command::Ask(asked) => check_answered(alloc, checker, table, history, asked, body),
     }
 }
 
@@ -424,12 +428,15 @@ fn check_repaired(
 /// Whether the body is the one of a line that asks.
 fn check_answered(
     alloc: Global,
+    checker: &mut AnswersChecker,
     table: &Table,
     history: &History,
     asked: &Asked,
     body: &Body,
 ) -> Result<Passed, BlockFault>
     requires lawful { IsLawfulThroughout table.now history.now.state }
+    requires checker { IsCheckerOver table.now checker.old }
+    ensures checker { IsCheckerOver table.now checker.new }
     ensures body { OnOk result (IsBodyOf proved_unless_wide table.now history.now.state
         (Ask asked.now) body.now) }
     ensures passed { IfOk result (λ passed. passed ≡ passed_of body.now) }
@@ -441,6 +448,7 @@ fn check_answered(
             Body::Answers(answers) => {
                 check_each(
                     alloc,
+                    checker,
                     table,
                     history,
                     questions.as_slice(),
@@ -456,6 +464,7 @@ fn check_answered(
 /// Whether the answers are to these questions in order, each too wide or with its proof over what stands.
 fn check_each(
     alloc: Global,
+    checker: &mut AnswersChecker,
     table: &Table,
     history: &History,
     questions: &[Question],
@@ -464,6 +473,8 @@ fn check_each(
     requires lawful { IsLawfulThroughout table.now history.now.state }
     requires asked { AllByRecursion (IsAskedIn table.now) questions.now }
     requires few { length questions.now ≤ 20000 }
+    requires checker { IsCheckerOver table.now checker.old }
+    ensures checker { IsCheckerOver table.now checker.new }
     ensures each { OnOk result (AllZip (IsProvedUnlessWide table.now
         (statements_of history.now.state)) questions.now answers.now) }
     ensures passed { IfOk result (λ passed. passed ≡ answers_passed answers.now) }
@@ -474,7 +485,7 @@ fn check_each(
         return Err(BlockFault::WrongBlock);
     }
     let list = statements_at(alloc, history)?;
-    check_answers(alloc, table, list.as_slice(), answers)?;
+    checker.check(alloc, table, list, answers)?;
     Ok(Passed::of(answers))
 }
 

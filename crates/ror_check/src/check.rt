@@ -51,8 +51,33 @@ pub fn check_answers(
         IsEarlierAnswersFault AnswersFault.Memory) }
 {
     let mut base = Base::new(alloc, system_of(alloc, table, list)?);
+    check_each(alloc, table, list, &mut base, answers)
+}
+
+/// Whether each answer's proof proves its verdict, where the statements have this base, which stays one of theirs.
+pub(crate) fn check_each(
+    alloc: Global,
+    table: &Table,
+    list: &[Statement],
+    base: &mut Base,
+    answers: &[Answer],
+) -> Result<(), AnswersFault>
+    requires lawful { IsLawfulIn table.now list.now }
+    requires named { AllByRecursion (λ x. IsAskedIn table.now x.question) answers.now }
+    requires few { length answers.now < 2 ^ 32 - 1 }
+    requires base { IsBaseOf (base_system table.now list.now) base.old }
+    ensures accepted { OnOk result (AllByRecursion
+        (λ x. IsWideOrProved table.now list.now x.question x.verdict) answers.now) }
+    ensures true_answers { OnOk result (AllByRecursion
+        (λ x. IsWideOrTrue table.now list.now x.question x.verdict) answers.now) }
+    ensures not_proved { IfErr result (λ e. e ≢ AnswersFault.Memory → AllByRecursion
+        (λ x. IsWideOrProved table.now list.now x.question x.verdict) answers.now → ⊥) }
+    ensures refused { IfErr result (IsRefusedBy (FailsAnswers table.now list.now answers.now)
+        IsEarlierAnswersFault AnswersFault.Memory) }
+    ensures base { IsBaseOf (base_system table.now list.now) base.new }
+{
     for (place, answer) in answers.iter().enumerate() {
-        if let Err(fault) = check_unless_wide(alloc, table, list, &mut base, answer) {
+        if let Err(fault) = check_unless_wide(alloc, table, list, base, answer) {
             return Err(refused_at(place as u32 + 1, fault));
         }
     }

@@ -24,13 +24,15 @@
 //! function is against the answer. With the base 0 0 0 1 the answer is refused: the base's row 1
 //! comes to -1.
 //!
-//! `check_answers` takes many answers over the same statements, and a `Checker` one after the other.
+//! `check_answers` takes many answers over the same statements, and a `Checker` one after the other, and an
+//! `AnswersChecker` those over one list after another.
 //!
 //! `check_repair` takes the numbered statements that stand, and which of them a repair drops, with multipliers for each that
 //! refute it together with those kept before it and a base of all that is kept. What is accepted is proved
 //! (`IsProvedRepair`), and what is proved is the repair (`laws::proved_repairs_are_true`). Where 1 `a` over `b`,
 //! 2 `b` over `a` and 3 `b` at least `c` stand, 2 is dropped by the multipliers `| 0 1 1`, with the base 0 1 0 0.
 
+mod answers;
 mod base;
 mod check;
 mod checker;
@@ -41,6 +43,7 @@ mod repair;
 mod side;
 mod weighed;
 
+pub use answers::AnswersChecker;
 pub use check::check_answers;
 pub use checker::{Checker, check_answer};
 pub use fault::{AnswersFault, CheckFault, RepairCheckFault};

@@ -3,8 +3,9 @@
 ghost use Rattle.std.specs.Prelude.{IsTrue};
 ghost use Rattle.std.specs.List.{AllByRecursion};
 ghost use Rattle.ror_value.specs.Over.{IsAskedIn};
+ghost use Rattle.ror_check.specs.Checkers.{IsCheckerOver};
 
-use ror_check::{CheckFault, Checker, check_answer, check_answers, check_repair};
+use ror_check::{AnswersChecker, CheckFault, Checker, check_answer, check_answers, check_repair};
 use ror_made::{is_asked, is_lawful, may_stand, three_alternatives};
 use ror_proof::{Answer, read_answer, read_kept};
 use ror_statement::{Numbered, Question, Statement};
@@ -100,6 +101,42 @@ fn a_checker_accepts_an_answer(rt: HostRuntime) -> Result<(), Fail> {
     let table = three_alternatives(rt.alloc())?;
     let answer = answer_of(rt.alloc(), &table, SETTLED)?;
     assert!(rt; is_accepted_by_one(rt.alloc(), &table, &answer)?);
+    Ok(())
+}
+
+/// Whether the checker accepts the answers over the list.
+fn are_accepted_over(
+    alloc: Global,
+    table: &Table,
+    checker: &mut AnswersChecker,
+    list: &[Statement],
+    answers: &[Answer],
+) -> Result<bool, Fail>
+    requires { IsCheckerOver table.now checker.old }
+    ensures { IsCheckerOver table.now checker.new }
+{
+    let mut statements = Vec::new(alloc);
+    statements.extend_from_slice(list)?;
+    if !is_lawful(table, statements.as_slice())
+        || answers.len() > 100
+        || !are_asked(table, answers)
+    {
+        return Err(Fail::new("the list is lawful and the questions valid, and they are few"));
+    }
+    Ok(checker.check(alloc, table, statements, answers).is_ok())
+}
+
+// Without the statement the multipliers of the answer are one too many.
+#[test]
+fn a_checker_of_lists_knows_each_list(rt: HostRuntime) -> Result<(), Fail> {
+    let table = three_alternatives(rt.alloc())?;
+    let mut answers = Vec::new(rt.alloc());
+    answers.push(answer_of(rt.alloc(), &table, SETTLED)?)?;
+    let answers = answers.as_slice();
+    let mut checker = AnswersChecker::new();
+    assert!(rt; are_accepted_over(rt.alloc(), &table, &mut checker, A_OVER_B, answers)?);
+    assert!(rt; are_accepted_over(rt.alloc(), &table, &mut checker, A_OVER_B, answers)?);
+    assert!(rt; !are_accepted_over(rt.alloc(), &table, &mut checker, &[], answers)?);
     Ok(())
 }
 

@@ -19,6 +19,7 @@ returns-in-Answers-clause-refused c =
 
 pub returns-in-Ok : goal.returns-in-Ok
 returns-in-Ok c = record {
+  checker = c.requires.checker;
   body = tt;
   passed = tt;
   refused = not_answered c.args.table.now c.args.history.now.state c.args.asked.now c.in-Ok.questions.items c.args.body.now c.in-Ok.ensures.exact (λ xs is to. c.in_default.not-Answers xs is);

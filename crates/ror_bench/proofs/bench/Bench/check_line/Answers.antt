@@ -16,7 +16,10 @@ pub invariant_of-self : goal.invariant_of-self
 invariant_of-self c =
     let views = c.self.inside.desks.items in
     let within : c.args.line.now.desk < length (map (λ h. h.state) views) = search rules in
-    checked_lawful c.self.inside.table (pivots_together c.self.inside.engine.pivots c.self.inside.repair_pivots) views c.args.line.now c.args.block.now c.index_mut-history.result.now c.check.new.history c.args.self.now proved_unless_wide c.check.result c.self.invariant within c.index_mut-history.ensures.value c.check.ensures.body c.check.ensures.moved c.check.ensures.kept
+    record {
+      lawful = checked_lawful c.self.inside.table (pivots_together c.self.inside.engine.pivots c.self.inside.repair_pivots) views c.args.line.now c.args.block.now c.index_mut-history.result.now c.check.new.history c.args.self.now proved_unless_wide c.check.result c.self.invariant.lawful within c.index_mut-history.ensures.value c.check.ensures.body c.check.ensures.moved c.check.ensures.kept;
+      checker = c.check.ensures.checker;
+    }
 
 pub returns-clause-accepted : goal.returns-clause-accepted
 returns-clause-accepted c =
@@ -34,7 +37,7 @@ returns-clause-true_block c =
     let old = c.index_mut-history.result.now in
     let within : c.args.line.now.desk < length (map (λ h. h.state) views) = search rules in
     at_bench (λ t r. OnOk c.check.result (IsTrueBlock t r c.args.block.now)) t (pivots_together c.self.inside.engine.pivots c.self.inside.repair_pivots) views c.args.line.now.desk old c.args.self.now within c.index_mut-history.ensures.value c.self.view_is
-    (checked_true t old.state c.args.line.now c.args.block.now c.check.result (lawful_now t old.state (kept_at t views c.args.line.now.desk old c.self.invariant within c.index_mut-history.ensures.value))
+    (checked_true t old.state c.args.line.now c.args.block.now c.check.result (lawful_now t old.state (kept_at t views c.args.line.now.desk old c.self.invariant.lawful within c.index_mut-history.ensures.value))
     (checked_proved t old.state c.args.line.now c.args.block.now c.check.result c.if-block-line.false c.check.ensures.body))
 
 pub returns-clause-refused : goal.returns-clause-refused

@@ -9,8 +9,11 @@ invariant_of-self c =
     let t = c.self.inside.table in
     let views = c.self.inside.desks.items in
     let within : c.args.desk < length (map (λ h. h.state) views) = search rules in
-    let lawful = kept_at t views c.args.desk c.index_mut-history.result.now c.self.invariant within c.index_mut-history.ensures.value in
-    kept_set t views c.args.desk c.reserve.new.self c.self.invariant (subst (IsLawfulThroughout t) (sym c.reserve.ensures.unchanged) lawful)
+    let lawful = kept_at t views c.args.desk c.index_mut-history.result.now c.self.invariant.lawful within c.index_mut-history.ensures.value in
+    record {
+      lawful = kept_set t views c.args.desk c.reserve.new.self c.self.invariant.lawful (subst (IsLawfulThroughout t) (sym c.reserve.ensures.unchanged) lawful);
+      checker = c.self.invariant.checker;
+    }
 
 pub returns-clause-room : goal.returns-clause-room
 returns-clause-room c =

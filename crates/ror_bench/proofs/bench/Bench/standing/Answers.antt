@@ -14,4 +14,4 @@ returns-clause-lawful c =
     let here = c.index.result.now in
     let within : c.args.desk < length (map (λ h. h.state) views) = search rules in
     at_bench (λ t r. IsLawfulIn t (statements_of r)) t p views c.args.desk here c.args.self.now within c.index.ensures c.self.view_is
-    (lawful_now t here.state (kept_at t views c.args.desk here c.self.invariant within c.index.ensures))
+    (lawful_now t here.state (kept_at t views c.args.desk here c.self.invariant.lawful within c.index.ensures))

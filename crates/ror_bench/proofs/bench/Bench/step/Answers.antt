@@ -23,8 +23,11 @@ invariant_of-self-2 c =
     let old = c.index_mut-history.result.now in
     let within : c.args.line.now.desk < length (map (λ h. h.state) views) = search rules in
     let given = given_at (most_of c.args.bits) in
-    let lawful = kept_at t views c.args.line.now.desk old c.self.invariant within c.index_mut-history.ensures.value in
-    kept_set t views c.args.line.now.desk c.perform.new.history c.self.invariant (subst (IsLawfulThroughout t) (sym c.in_ok-body.ensures.moved) (moved_lawful given t old.state c.args.line.now.command c.in_ok-body.body lawful c.in_ok-body.ensures.body))
+    let lawful = kept_at t views c.args.line.now.desk old c.self.invariant.lawful within c.index_mut-history.ensures.value in
+    record {
+      lawful = kept_set t views c.args.line.now.desk c.perform.new.history c.self.invariant.lawful (subst (IsLawfulThroughout t) (sym c.in_ok-body.ensures.moved) (moved_lawful given t old.state c.args.line.now.command c.in_ok-body.body lawful c.in_ok-body.ensures.body));
+      checker = c.self.invariant.checker;
+    }
 
 pub returns-clause-block : goal.returns-clause-block
 returns-clause-block c =
@@ -41,7 +44,7 @@ returns-clause-text c =
     let old = c.index_mut-history.result.now in
     let line = c.args.line.now in
     let within : line.desk < length (map (λ h. h.state) views) = search rules in
-    let lawful = lawful_now t old.state (kept_at t views line.desk old c.self.invariant within c.index_mut-history.ensures.value) in
+    let lawful = lawful_now t old.state (kept_at t views line.desk old c.self.invariant.lawful within c.index_mut-history.ensures.value) in
     let here : old.state ≡ revisions_at c.args.self.now line.desk = state_here t (pivots_together c.self.inside.engine.pivots c.self.inside.repair_pivots) views line.desk old within c.index_mut-history.ensures.value ∙ ap (λ (b : Workbench). revisions_at b line.desk) c.self.view_is in
     let number = subst (λ (r : Revisions). next_number r < 2 ^ 32 - 1) (sym here) c.requires.number in
     let small : line.number < 2 ^ 32 = search rules in

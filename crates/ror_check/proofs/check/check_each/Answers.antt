@@ -1,6 +1,6 @@
 use Rattle.std.proofs.Common.{arith, Err}
 use Rattle.ror_check.proofs.ManyAnswers.{proved_more, all_proved, all_true, answers_refused, none_proved}
-use Rattle.ror_check.proofs.check.check_answers.Goals as goal
+use Rattle.ror_check.proofs.check.check_each.Goals as goal
 
 pub returns-in-Err-clause-refused : goal.returns-in-Err-clause-refused
 returns-in-Err-clause-refused c =
