@@ -3,7 +3,7 @@
 use ror_made::{AB, BC, is_asked, may_stand, three_alternatives};
 use ror_pivot::Bits;
 use ror_proof::Verdict;
-use ror_reason::{Reason, ReductFault, check_reduct, reduct, reduct_of};
+use ror_reason::{Reason, Reduct, ReductFault, check_reduct, reduct, reduct_of};
 use ror_relation::decide_warm;
 use ror_statement::{Conclusion, Numbered, Pair, Question, Scope, Statement, statements_in};
 use ror_table::{Table, read_plain};
@@ -52,6 +52,106 @@ fn numbered(numbers: &[u32]) -> Carries {
     }
 }
 
+/// The reason of the answer at a width, alone in a list, of which it can be lent.
+fn reasons_at(
+    alloc: Global,
+    table: &Table,
+    list: &[Numbered],
+    question: &Question,
+    bits: Bits,
+) -> Result<Vec<Reason>, Fail> {
+    if !may_stand(alloc, table, list)? || !is_asked(table, question) {
+        return Err(Fail::new("the list is lawful and the question valid"));
+    }
+    let reason = reduct(alloc, table, list, question, bits)?;
+    alone(alloc, reason)
+}
+
+fn alone(alloc: Global, reason: Reason) -> Result<Vec<Reason>, Fail> {
+    let mut list = Vec::new(alloc);
+    list.push(reason)?;
+    Ok(list)
+}
+
+fn carrying(reason: &Reason) -> Carries {
+    match reason {
+        Reason::Carried(reduct) => numbered(reduct.numbers.as_slice()),
+        Reason::Wide { .. } => Carries::Wide,
+        Reason::OneHas(_) => Carries::OneHas,
+        Reason::OneLacks(_) => Carries::OneLacks,
+        Reason::ClassLeft(_) => Carries::ClassLeft,
+        Reason::WhollyWide { .. } => Carries::WhollyWide,
+    }
+}
+
+/// Whether a reduct is accepted as one of this conclusion.
+fn is_accepted(
+    alloc: Global,
+    table: &Table,
+    list: &[Numbered],
+    question: &Question,
+    conclusion: Conclusion,
+    reduct: &Reduct,
+) -> Result<bool, Fail> {
+    if !may_stand(alloc, table, list)? || !is_asked(table, question) {
+        return Err(Fail::new("the list is lawful and the question valid"));
+    }
+    match check_reduct(alloc, table, list, question, conclusion, reduct) {
+        Ok(()) => Ok(true),
+        Err(ReductFault::NotCarried) => Ok(false),
+        Err(fault) => Err(fault.into()),
+    }
+}
+
+/// Whether the reason is a reduct that is accepted as one of this conclusion.
+fn is_accepted_reason(
+    alloc: Global,
+    table: &Table,
+    list: &[Numbered],
+    question: &Question,
+    conclusion: Conclusion,
+    reason: &Reason,
+) -> Result<bool, Fail> {
+    match reason {
+        Reason::Carried(reduct) => { is_accepted(alloc, table, list, question, conclusion, reduct) }
+        _ => Ok(false),
+    }
+}
+
+/// What carries this conclusion for this one reason, whose reduct has to be accepted.
+fn judged(
+    alloc: Global,
+    table: &Table,
+    list: &[Numbered],
+    question: &Question,
+    conclusion: Conclusion,
+    reasons: &[Reason],
+) -> Result<Carries, Fail> {
+    match reasons {
+        [reason] => {
+            let accepted = is_accepted_reason(alloc, table, list, question, conclusion, reason);
+            carried_where(accepted, carrying(reason))
+        }
+        _ => Err(Fail::new("there is one reason")),
+    }
+}
+
+fn carried_where(accepted: Result<bool, Fail>, carries: Carries) -> Result<Carries, Fail> {
+    let is_one = match carries {
+        Carries::None
+        | Carries::One(_)
+        | Carries::Two(_, _)
+        | Carries::Three(_, _, _)
+        | Carries::More => true,
+        _ => false,
+    };
+    if accepted? == is_one {
+        Ok(carries)
+    } else {
+        Err(Fail::new("a reduct is accepted"))
+    }
+}
+
 /// What carries this conclusion at a width; a reduct has to be accepted.
 fn carried_at(
     alloc: Global,
@@ -61,20 +161,8 @@ fn carried_at(
     conclusion: Conclusion,
     bits: Bits,
 ) -> Result<Carries, Fail> {
-    if !may_stand(alloc, table, list)? || !is_asked(table, question) {
-        return Err(Fail::new("the list is lawful and the question valid"));
-    }
-    match reduct(alloc, table, list, question, bits)? {
-        Reason::Carried(reduct) => {
-            check_reduct(alloc, table, list, question, conclusion, &reduct)?;
-            Ok(numbered(reduct.numbers.as_slice()))
-        }
-        Reason::Wide { .. } => Ok(Carries::Wide),
-        Reason::OneHas(_) => Ok(Carries::OneHas),
-        Reason::OneLacks(_) => Ok(Carries::OneLacks),
-        Reason::ClassLeft(_) => Ok(Carries::ClassLeft),
-        Reason::WhollyWide { .. } => Ok(Carries::WhollyWide),
-    }
+    let reasons = reasons_at(alloc, table, list, question, bits)?;
+    judged(alloc, table, list, question, conclusion, reasons.as_slice())
 }
 
 fn carried_by(
@@ -248,20 +336,20 @@ fn is_accepted_over(
     question: &Question,
     asked: &Question,
 ) -> Result<bool, Fail> {
-    if !may_stand(alloc, table, list)?
-        || !may_stand(alloc, table, other)?
-        || !is_asked(table, question)
-        || !is_asked(table, asked)
-    {
-        return Err(Fail::new("the lists are lawful and the questions valid"));
-    }
-    let Reason::Carried(reduct) = reduct(alloc, table, list, question, Bits::B15)? else {
-        return Err(Fail::new("the answer is carried"));
-    };
-    match check_reduct(alloc, table, other, asked, Conclusion::Yes, &reduct) {
-        Ok(()) => Ok(true),
-        Err(ReductFault::NotCarried) => Ok(false),
-        Err(fault) => Err(fault.into()),
+    let reasons = reasons_at(alloc, table, list, question, Bits::B15)?;
+    is_accepted_of_yes(alloc, table, other, asked, reasons.as_slice())
+}
+
+fn is_accepted_of_yes(
+    alloc: Global,
+    table: &Table,
+    list: &[Numbered],
+    question: &Question,
+    reasons: &[Reason],
+) -> Result<bool, Fail> {
+    match reasons {
+        [reason] => is_accepted_reason(alloc, table, list, question, Conclusion::Yes, reason),
+        _ => Err(Fail::new("there is one reason")),
     }
 }
 
