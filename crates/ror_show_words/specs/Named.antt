@@ -6,7 +6,7 @@ use Rattle.ror_show_words.specs.declared.words.Asked.TheVariants as asked
 use Rattle.ror_show_words.specs.declared.words.PageWords as words
 use Rattle.ror_show_words.specs.declared.words.SheetWords as sheets
 use Rattle.ror_show_words.specs.Commands.{Row}
-use Rattle.ror_show_words.specs.Words.{PageWords, SheetWords, Asked, OfReport, OfFiles}
+use Rattle.ror_show_words.specs.Words.{PageWords, SheetWords, Asked, OfReport, OfFiles, OfReasons}
 
 abbrev pub row_with : rows.Row → Row
 row_with row = record { shown = row.shown; word = row.word.now }
@@ -32,3 +32,4 @@ sheet_words_of given = record {
 abbrev pub asked_with : given.Asked → Asked
 asked_with (asked.OfReport page words) = OfReport page (page_words_of words)
 asked_with (asked.OfFiles words) = OfFiles (sheet_words_of words)
+asked_with (asked.OfReasons words) = OfReasons (page_words_of words)

@@ -11,7 +11,7 @@ use Rattle.ror_show_words.specs.declared.table.Page.{Page}
 use Rattle.ror_show_words.specs.declared.words.Form.{Form}
 use Rattle.ror_show_words.specs.declared.words.Form.TheVariants as forms
 use Rattle.ror_show_words.specs.declared.table.Shown.{Shown}
-use Rattle.ror_show_words.specs.declared.table.Shown.TheVariants.{Report, Sheet}
+use Rattle.ror_show_words.specs.declared.table.Shown.TheVariants.{Report, Sheet, Reasons}
 use Rattle.ror_show_words.specs.Commands.{row_for, takes_line, needs_line, has_form}
 
 -- ---- what a page takes
@@ -70,10 +70,11 @@ pub record SheetWords : Type 0 where
   pub session : Option (List ℕ)
   pub best_first : Bool
 
--- what words ask for: a page of a report, or what was read of files
+-- what words ask for: a page of a report, what was read of files, or why the answers of a report are what they are
 pub data Asked : Type 0 where
   OfReport : Page → PageWords → Asked
   OfFiles : SheetWords → Asked
+  OfReasons : PageWords → Asked
 
 -- the number of a line has 1 to 9 digits, and isn't 0
 abbrev pub line_of : List ℕ → Option ℕ
@@ -142,9 +143,18 @@ fits page words = fits_line page words.line && has_form page words.form
 abbrev pub of_report : Page → PageWords → Option Asked
 of_report page words = if fits page words then Some (OfReport page words) else None
 
+-- reasons are written as text alone
+abbrev pub is_text : Form → Bool
+is_text forms.Text = true
+is_text _ = false
+
+abbrev pub of_reasons : PageWords → Option Asked
+of_reasons words = if is_text words.form then Some (OfReasons words) else None
+
 abbrev pub asked_by : Shown → List (List ℕ) → Option Asked
 asked_by (Report page) words = option_and_then (of_report page) (given_in words)
 asked_by Sheet words = option_map OfFiles (sheet_in words)
+asked_by Reasons words = option_and_then of_reasons (given_in words)
 
 -- None of words that ask for nothing
 unfoldable pub asked : List (List ℕ) → Option Asked

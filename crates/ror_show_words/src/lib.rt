@@ -1,7 +1,7 @@
 //! The words of a command line: which page they ask for, and of what.
 //!
-//! [`read_words`] gives what words ask for ([`Asked`]), as `clap` reads them: a [`Page`] of a report with its [`PageWords`], or the
-//! page of what was read with its [`SheetWords`].
+//! [`read_words`] gives what words ask for ([`Asked`]), as `clap` reads them: a [`Page`] of a report or the reasons of its answers,
+//! with their [`PageWords`], or the page of what was read with its [`SheetWords`].
 //!
 //! ```text
 //! relation t s r --as=csv           the page of the relation, of the files t, s and r, as csv

@@ -29,6 +29,8 @@ pub(crate) enum Shown {
     Report(Page),
     /// What was read of a table, and of a session.
     Sheet,
+    /// Why the answers of a report are what they are.
+    Reasons,
 }
 
 /// A row of the table of pages.
@@ -39,7 +41,7 @@ pub(crate) struct Row {
     pub(crate) word: &'static str,
 }
 
-const TABLE: [Row; 6] = [
+const TABLE: [Row; 7] = [
     Row {
         shown: Shown::Sheet,
         word: "read",
@@ -64,13 +66,17 @@ const TABLE: [Row; 6] = [
         shown: Shown::Report(Page::Functions),
         word: "functions",
     },
+    Row {
+        shown: Shown::Reasons,
+        word: "why",
+    },
 ];
 
 /// The usage line: the pages of the table, each with its names and options.
 pub fn usage() -> &'static str
     ensures { result.now ≡ usage_text }
 {
-    "usage: ror_show read TABLE [SESSION] [--best-first] | ror_show relation TABLE SESSION REPORT [--best-first] [--desk NAME] [--line N] [--as text|csv|dot] | ror_show changes TABLE SESSION REPORT [--best-first] [--desk NAME] [--as text|csv] | ror_show classes TABLE SESSION REPORT [--best-first] [--desk NAME] [--as text|csv] | ror_show standing TABLE SESSION REPORT [--best-first] [--desk NAME] [--line N] | ror_show functions TABLE SESSION REPORT [--best-first] [--desk NAME] --line N [--as text|csv]\n"
+    "usage: ror_show read TABLE [SESSION] [--best-first] | ror_show relation TABLE SESSION REPORT [--best-first] [--desk NAME] [--line N] [--as text|csv|dot] | ror_show changes TABLE SESSION REPORT [--best-first] [--desk NAME] [--as text|csv] | ror_show classes TABLE SESSION REPORT [--best-first] [--desk NAME] [--as text|csv] | ror_show standing TABLE SESSION REPORT [--best-first] [--desk NAME] [--line N] | ror_show functions TABLE SESSION REPORT [--best-first] [--desk NAME] --line N [--as text|csv] | ror_show why TABLE SESSION REPORT [--best-first] [--desk NAME] [--line N]\n"
 }
 
 /// The row of the page with this word.

@@ -5,10 +5,10 @@ ghost use Rattle.std.specs.Option.{option_map};
 ghost use Rattle.std.specs.String.{string_bytes};
 ghost use Rattle.clap.specs.declared.error.kind.ErrorKind.TheVariants.{OutOfMemory};
 ghost use Rattle.clap.specs.Words.{found_of, first_value, kind_of};
-ghost use Rattle.ror_show_words.specs.declared.table.Shown.TheVariants.{Report};
+ghost use Rattle.ror_show_words.specs.declared.table.Shown.TheVariants.{Report, Reasons};
 ghost use Rattle.ror_show_words.specs.Commands.{has_form};
 ghost use Rattle.ror_show_words.specs.Words as spec;
-ghost use Rattle.ror_show_words.specs.Words.{line_of, form_of, if_given, words_of, given_in, sheet_in, fits_line, fits, asked_by, asked};
+ghost use Rattle.ror_show_words.specs.Words.{line_of, form_of, if_given, words_of, given_in, sheet_in, fits_line, fits, is_text, asked_by, asked};
 ghost use Rattle.ror_show_words.specs.Named as named;
 ghost use Rattle.ror_show_words.specs.Named.{page_words_of, asked_with};
 ghost use Rattle.ror_show_words.specs.declared.words.WordsFault.TheVariants.{Unknown};
@@ -69,6 +69,8 @@ pub enum Asked<'a> {
     OfReport(Page, PageWords<'a>),
     /// What was read of files.
     OfFiles(SheetWords<'a>),
+    /// Why the answers of a report are what they are, as text.
+    OfReasons(PageWords<'a>),
 }
 
 /// Why words ask for nothing.
@@ -109,6 +111,7 @@ pub fn read_words(alloc: Global, words: &[String]) -> Result<Asked<'_>, WordsFau
     match row.shown {
         Shown::Report(page) => report_asked(alloc, page, rest),
         Shown::Sheet => Ok(Asked::OfFiles(sheet_words(alloc, rest)?)),
+        Shown::Reasons => reasons_asked(alloc, rest),
     }
 }
 
@@ -122,6 +125,24 @@ fn report_asked(alloc: Global, page: Page, words: &[String]) -> Result<Asked<'_>
         return Err(WordsFault::Unknown);
     }
     Ok(Asked::OfReport(page, words))
+}
+
+/// What the words after that of the page of reasons ask for.
+fn reasons_asked(alloc: Global, words: &[String]) -> Result<Asked<'_>, WordsFault>
+    ensures { MatchResult result (λ a. asked_by Reasons (map string_bytes words.now) ≡ Some (asked_with a))
+        (λ e. e ≡ Unknown → asked_by Reasons (map string_bytes words.now) ≡ None) }
+{
+    let words = page_words(alloc, words)?;
+    if !is_text(words.form) {
+        return Err(WordsFault::Unknown);
+    }
+    Ok(Asked::OfReasons(words))
+}
+
+fn is_text(form: Form) -> bool
+    ensures { result ≡ is_text form }
+{
+    matches!(form, Form::Text)
 }
 
 /// Whether the page takes these.
