@@ -1,0 +1,28 @@
+use Rattle.std.proofs.Common.{rules, ◌≡◌, ℕ, false, List, ap, subst, ◌∙◌}
+use Rattle.std.proofs.lemmas.Result.{IfOk-weaker}
+use Rattle.ror_session.specs.declared.session.Line.{Line}
+use Rattle.ror_line_reasons.specs.Answers.{AreReasons}
+use Rattle.ror_line_reasons.specs.Lines.{desk_of}
+use Rattle.ror_line_reasons.specs.Paragraphs.{Scene}
+use Rattle.ror_line_reasons.specs.Said.{said_lines}
+use Rattle.ror_line_reasons.proofs.Loops.{same_scene}
+use Rattle.ror_line_reasons.proofs.lines.answered.Goals as goal
+
+pub returns-then-not-is_rising : goal.returns-then-not-is_rising
+returns-then-not-is_rising c =
+    let none : c.is_rising.result ≡ false = search rules in
+    λ rising. absurd (c.is_rising.ensures.not_rising none rising)
+
+pub returns : goal.returns
+returns c =
+    let s = c.args.session.now in
+    let opening = c.args.opening in
+    let before = c.args.before.now in
+    let place = c.args.line.now.place in
+    let lines = c.as_slice-lines.ensures in
+    let desk = c.desk_of-desk.ensures ∙ ap (λ (ls : List Line). desk_of ls place) lines in
+    let said = c.as_slice.ensures.value ∙ c.in_ok-said.ensures ∙ ap (λ (ls : List Line). said_lines ls opening c.desk_of-desk.result before) lines ∙ ap (λ (d : ℕ). said_lines s.lines opening d before) desk in
+    let same = same_scene c.args.table.now c.args.list.now _ _ c.args.line.now.block.line _ _ said c.desk_at.ensures in
+    IfOk-weaker c.reasons_of.result _ _
+    (λ text h rising. subst (λ (sc : Scene). AreReasons sc c.args.answers.now text.items) same h)
+    c.reasons_of.ensures

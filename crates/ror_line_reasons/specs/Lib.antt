@@ -1,0 +1,5 @@
+pub mod Said
+pub mod Paragraphs
+pub mod Answers
+pub mod Laws
+pub mod Lines

@@ -1,0 +1,26 @@
+//! Why the answers to a session's lines are what they are.
+//!
+//! Of lines that a check of the report kept, those that are answered have the reason of each answer written, below the line's number,
+//! its desk and what was asked ([`line_reasons`]). Where line 6 asks while statements 1 to 4 stand, of which line 1 said the first and
+//! line 5 the fourth, the text is
+//!
+//! ```text
+//! line 6  necessary c01 c09 yes
+//!   c01 is at least as good as c09, whatever value function agrees with these statements:
+//!      1  prefer c10 c14                              line 1, counts once
+//!      4  stronger c01 c09 c10 c14                    line 5, counts once
+//!   none of them can be spared:
+//!      without 1: by some value function c09 is better than c01 (1 to 0 of 4)
+//!      without 4: by some value function c09 is better than c01 (7 to 6 of 12)
+//!   this is one part of the statements that carries the answer, and there may be others
+//! ```
+#![tactic(auto)]
+
+mod answers;
+pub mod laws;
+mod lines;
+mod paragraph;
+mod said;
+mod scene;
+
+pub use lines::line_reasons;

@@ -1,0 +1,166 @@
+//! The reasons of the answers to kept lines.
+
+ghost use Rattle.std.specs.Prelude.{◌≡◌, ◌≤◌, false, length, IsTrue, IfOk};
+ghost use Rattle.std.specs.List.{AllByRecursion};
+ghost use Rattle.std.specs.List.Sorted.{IsStrictlyIncreasing};
+ghost use Rattle.ror_session.specs.Sound.{desk_name};
+ghost use Rattle.ror_statement.specs.Statements.{numbers_in, statements_in};
+ghost use Rattle.ror_value.specs.Over.{IsLawfulIn};
+ghost use Rattle.ror_functions.specs.Laws.{IsSoundAnswer};
+ghost use Rattle.ror_line_reasons.specs.Laws.{IsReady};
+ghost use Rattle.ror_line_reasons.specs.Lines as spec;
+
+use crate::answers::reasons_of;
+use crate::said::said_lines;
+use crate::scene::Scene;
+use ror_bench::KeptLine;
+use ror_proof::Answer;
+use ror_report::Body;
+use ror_session::{Line, Session};
+use ror_statement::{MOST_STATEMENTS, Numbered};
+use ror_table::Table;
+use ror_text::Text;
+use ror_warm::Engine;
+use std::alloc::{AllocError, Global};
+
+/// The reasons of the answers to the kept lines, of those with what stood. So many statements came with the table's file; of each
+/// line at the desk of one that is answered, up to it, something is kept.
+///
+/// # Errors
+///
+/// Only want of memory.
+pub fn line_reasons(
+    alloc: Global,
+    table: &Table,
+    session: &Session,
+    opening: usize,
+    kept: &[KeptLine],
+) -> Result<Vec<u8>, AllocError>
+    requires few { opening ≤ MOST_STATEMENTS }
+    requires ready { AllByRecursion (IsReady table.now) kept.now }
+    ensures { IfOk result (λ text. spec.AreLines table.now session.now opening kept.now (length kept.now) text.items) }
+{
+    let mut engine = Engine::new(alloc);
+    let mut text = Vec::new(alloc);
+    'kept: for k in 0..kept.len() {
+        let line = &kept[k];
+        let section = section(
+            alloc,
+            &mut engine,
+            table,
+            session,
+            opening,
+            &kept[..k],
+            line,
+        )?;
+        text.extend_from_slice(section.as_slice())?;
+    }
+    Ok(text)
+}
+
+/// The reasons of the answers to a line, after others.
+fn section(
+    alloc: Global,
+    engine: &mut Engine,
+    table: &Table,
+    session: &Session,
+    opening: usize,
+    before: &[KeptLine],
+    line: &KeptLine,
+) -> Result<Vec<u8>, AllocError>
+    requires few { opening ≤ MOST_STATEMENTS }
+    requires ready { IsReady table.now line.now }
+    ensures { IfOk result (λ text. spec.IsSection table.now session.now opening before.now line.now
+        line.now.standing line.now.block.body text.items) }
+{
+    match (&line.standing, &line.block.body) {
+        (Some(list), Body::Answers(answers)) => answered(
+            alloc,
+            engine,
+            table,
+            session,
+            opening,
+            before,
+            line,
+            list.as_slice(),
+            answers.as_slice(),
+        ),
+        _ => Ok(Vec::new(alloc)),
+    }
+}
+
+/// The reasons of these answers to a line over this list.
+fn answered(
+    alloc: Global,
+    engine: &mut Engine,
+    table: &Table,
+    session: &Session,
+    opening: usize,
+    before: &[KeptLine],
+    line: &KeptLine,
+    list: &[Numbered],
+    answers: &[Answer],
+) -> Result<Vec<u8>, AllocError>
+    requires few { opening ≤ MOST_STATEMENTS }
+    requires lawful { IsLawfulIn table.now (statements_in list.now) }
+    requires sound { AllByRecursion (IsSoundAnswer table.now (statements_in list.now)) answers.now }
+    ensures { IfOk result (λ text. spec.IsAnswered table.now session.now opening before.now line.now
+        list.now answers.now text.items) }
+{
+    if !is_rising(list) {
+        return Ok(Vec::new(alloc));
+    }
+    let lines = session.lines.as_slice();
+    let desk = desk_of(lines, line.place);
+    let said = said_lines(alloc, lines, opening, desk, before)?;
+    let scene = Scene {
+        table,
+        list,
+        lines: said.as_slice(),
+        line: line.block.line,
+        desk: desk_at(session, line.place),
+    };
+    reasons_of(alloc, engine, &scene, answers)
+}
+
+/// Whether the numbers rise.
+fn is_rising(list: &[Numbered]) -> bool
+    ensures rising { IsTrue result → IsStrictlyIncreasing (numbers_in list.now) }
+    ensures not_rising { result ≡ false → IsStrictlyIncreasing (numbers_in list.now) → ⊥ }
+{
+    for place in 1..list.len() {
+        if list[place - 1].number >= list[place].number {
+            return false;
+        }
+    }
+    true
+}
+
+/// The place of the desk of the line at a place.
+fn desk_of(lines: &[Line], place: usize) -> u32
+    ensures { result ≡ spec.desk_of lines.now place }
+{
+    match lines.get(place) {
+        Some(line) => line.desk,
+        None => 0,
+    }
+}
+
+/// The name of the desk of the line at a place.
+fn desk_at(session: &Session, place: usize) -> &str
+    ensures { result.now ≡ spec.desk_at session.now place }
+{
+    match session.lines.as_slice().get(place) {
+        Some(line) => desk_name(session.desks.as_slice(), line),
+        None => "",
+    }
+}
+
+fn desk_name<'a>(desks: &'a [Text], line: &Line) -> &'a str
+    ensures { result.now ≡ desk_name desks.now line.now }
+{
+    match desks.get(line.desk as usize) {
+        Some(name) => name.as_str(),
+        None => "",
+    }
+}

@@ -1,0 +1,59 @@
+//! Which line said each statement that stood at a line.
+
+ghost use Rattle.std.specs.Prelude.{◌≡◌, ◌≤◌, IfOk};
+ghost use Rattle.ror_line_reasons.specs.Said as spec;
+
+use ror_bench::KeptLine;
+use ror_roll::{Entry, Source, roll_of, steps_of};
+use ror_session::Line;
+use ror_statement::MOST_STATEMENTS;
+use std::alloc::{AllocError, Global};
+
+/// For each statement that stands at a desk after these lines, in order, the number of the line that said it, and none where it
+/// came with the table's file.
+pub(crate) fn said_lines(
+    alloc: Global,
+    lines: &[Line],
+    opening: usize,
+    desk: u32,
+    before: &[KeptLine],
+) -> Result<Vec<Option<u32>>, AllocError>
+    requires { opening ≤ MOST_STATEMENTS }
+    ensures { IfOk result (λ said. said.items ≡ spec.said_lines lines.now opening desk before.now) }
+{
+    let steps = steps_of(alloc, lines, desk, before)?;
+    let roll = roll_of(alloc, opening, &steps)?;
+    lines_of(alloc, lines, roll.entries.as_slice())
+}
+
+fn lines_of(
+    alloc: Global,
+    lines: &[Line],
+    entries: &[Entry],
+) -> Result<Vec<Option<u32>>, AllocError>
+    ensures { IfOk result (λ said. said.items ≡ spec.lines_of lines.now entries.now) }
+{
+    let mut said = Vec::new(alloc);
+    for entry in entries {
+        said.push(said_by(lines, entry.said))?;
+    }
+    Ok(said)
+}
+
+fn said_by(lines: &[Line], source: Source) -> Option<u32>
+    ensures { result ≡ spec.said_by lines.now source }
+{
+    match source {
+        Source::File => None,
+        Source::Line(place) => number_at(lines, place),
+    }
+}
+
+fn number_at(lines: &[Line], place: usize) -> Option<u32>
+    ensures { result ≡ spec.number_at lines.now place }
+{
+    match lines.get(place) {
+        Some(line) => Some(line.number),
+        None => None,
+    }
+}
