@@ -9,8 +9,8 @@ use Rattle.ror_proof.specs.declared.answer.Answer.{Answer}
 use Rattle.ror_report.specs.declared.block.Body.{Body}
 use Rattle.ror_report.specs.declared.block.Body.TheVariants as bodies
 use Rattle.ror_bench.specs.declared.kept.KeptLine.{KeptLine}
-use Rattle.ror_line_reasons.specs.Answers.{left_with, left_at, is_shown, IsToldWhere, IsToldAt, AreTold}
-use Rattle.ror_line_reasons.specs.Lines.{IsAnswered, IsSection, IsSectionAt, AreLines}
+use Rattle.ror_line_reasons.specs.Answers.{left_with, left_at, is_shown, IsToldWhere, IsToldAt, AreTold, AreReasons}
+use Rattle.ror_line_reasons.specs.Lines.{scene_at, IsSection, IsSectionAt, AreLines}
 use Rattle.ror_line_reasons.specs.Paragraphs.{Scene}
 
 abbrev scene : DecisionTable → List Numbered → List (Option ℕ) → ℕ → List ℕ → Scene
@@ -42,7 +42,7 @@ told_more sc xs k d shown left front last after within before is so_far told all
 
 -- ---- lines
 
-pub section_is : (t : DecisionTable) (s : Session) (opening : ℕ) (before : List KeptLine) (x : KeptLine) (list : List Numbered) (xs : List Answer) (text : List ℕ) (stood : Option (List Numbered)) (body : Body) → stood ≡ Some list → body ≡ bodies.Answers xs → IsAnswered t s opening before x list xs text → IsSection t s opening before x stood body text
+pub section_is : (t : DecisionTable) (s : Session) (opening : ℕ) (before : List KeptLine) (x : KeptLine) (list : List Numbered) (xs : List Answer) (text : List ℕ) (stood : Option (List Numbered)) (body : Body) → stood ≡ Some list → body ≡ bodies.Answers xs → AreReasons (scene_at t s opening before x list) xs text → IsSection t s opening before x stood body text
 section_is t s opening before x list xs text stood body p q h =
     subst (λ (o : Option (List Numbered)). IsSection t s opening before x o body text) (sym p) (subst (λ (b : Body). IsSection t s opening before x (Some list) b text) (sym q) h)
 

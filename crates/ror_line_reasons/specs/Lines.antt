@@ -1,14 +1,11 @@
 -- The reasons of the answers to kept lines.
 use Rattle.std.specs.Prelude.{◌≡◌, ℕ, zero, suc, List, [], ◌++◌, take, Option, Some, None, slice_get}
 use Rattle.std.specs.Option.{option_map_or}
-use Rattle.std.specs.List.Sorted.{IsStrictlyIncreasing}
 use Rattle.ror_statement.specs.declared.statement.Numbered.{Numbered}
-use Rattle.ror_statement.specs.Statements.{numbers_in}
 use Rattle.ror_table.specs.Table.{DecisionTable}
 use Rattle.ror_session.specs.declared.session.Line.{Line}
 use Rattle.ror_session.specs.declared.session.Session.{Session}
 use Rattle.ror_session.specs.Sound.{desk_name}
-use Rattle.ror_proof.specs.declared.answer.Answer.{Answer}
 use Rattle.ror_report.specs.declared.block.Body.{Body}
 use Rattle.ror_report.specs.declared.block.Body.TheVariants as bodies
 use Rattle.ror_bench.specs.declared.kept.KeptLine.{KeptLine}
@@ -33,14 +30,9 @@ scene_at t s opening before x list = record {
   desk = desk_at s x.place;
 }
 
--- numbers of statements rise wherever they stand
-abbrev pub IsAnswered : DecisionTable → Session → ℕ → List KeptLine → KeptLine → List Numbered → List Answer → List ℕ → Type 0
-IsAnswered t s opening before x list xs text =
-    IsStrictlyIncreasing (numbers_in list) → AreReasons (scene_at t s opening before x list) xs text
-
 -- of a line without answers, or without what stood, nothing is said
 abbrev pub IsSection : DecisionTable → Session → ℕ → List KeptLine → KeptLine → Option (List Numbered) → Body → List ℕ → Type 0
-IsSection t s opening before x (Some list) (bodies.Answers xs) text = IsAnswered t s opening before x list xs text
+IsSection t s opening before x (Some list) (bodies.Answers xs) text = AreReasons (scene_at t s opening before x list) xs text
 IsSection t s opening before x _ _ text = text ≡ []
 
 abbrev pub IsSectionAt : DecisionTable → Session → ℕ → List KeptLine → ℕ → List ℕ → Type 0

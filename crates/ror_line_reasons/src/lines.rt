@@ -1,12 +1,13 @@
 //! The reasons of the answers to kept lines.
 
-ghost use Rattle.std.specs.Prelude.{◌≡◌, ◌≤◌, false, length, IsTrue, IfOk};
+ghost use Rattle.std.specs.Prelude.{◌≡◌, ◌≤◌, length, IfOk};
 ghost use Rattle.std.specs.List.{AllByRecursion};
 ghost use Rattle.std.specs.List.Sorted.{IsStrictlyIncreasing};
 ghost use Rattle.ror_session.specs.Sound.{desk_name};
 ghost use Rattle.ror_statement.specs.Statements.{numbers_in, statements_in};
 ghost use Rattle.ror_value.specs.Over.{IsLawfulIn};
 ghost use Rattle.ror_functions.specs.Laws.{IsSoundAnswer};
+ghost use Rattle.ror_line_reasons.specs.Answers.{AreReasons};
 ghost use Rattle.ror_line_reasons.specs.Laws.{IsReady};
 ghost use Rattle.ror_line_reasons.specs.Lines as spec;
 
@@ -103,13 +104,11 @@ fn answered(
 ) -> Result<Vec<u8>, AllocError>
     requires few { opening ≤ MOST_STATEMENTS }
     requires lawful { IsLawfulIn table.now (statements_in list.now) }
+    requires rising { IsStrictlyIncreasing (numbers_in list.now) }
     requires sound { AllByRecursion (IsSoundAnswer table.now (statements_in list.now)) answers.now }
-    ensures { IfOk result (λ text. spec.IsAnswered table.now session.now opening before.now line.now
-        list.now answers.now text.items) }
+    ensures { IfOk result (λ text. AreReasons (spec.scene_at table.now session.now opening before.now line.now list.now)
+        answers.now text.items) }
 {
-    if !is_rising(list) {
-        return Ok(Vec::new(alloc));
-    }
     let lines = session.lines.as_slice();
     let desk = desk_of(lines, line.place);
     let said = said_lines(alloc, lines, opening, desk, before)?;
@@ -121,19 +120,6 @@ fn answered(
         desk: desk_at(session, line.place),
     };
     reasons_of(alloc, engine, &scene, answers)
-}
-
-/// Whether the numbers rise.
-fn is_rising(list: &[Numbered]) -> bool
-    ensures rising { IsTrue result → IsStrictlyIncreasing (numbers_in list.now) }
-    ensures not_rising { result ≡ false → IsStrictlyIncreasing (numbers_in list.now) → ⊥ }
-{
-    for place in 1..list.len() {
-        if list[place - 1].number >= list[place].number {
-            return false;
-        }
-    }
-    true
 }
 
 /// The place of the desk of the line at a place.

@@ -1,4 +1,4 @@
-use Rattle.std.proofs.Common.{rules, ◌≡◌, ℕ, false, List, ap, subst, ◌∙◌}
+use Rattle.std.proofs.Common.{ℕ, List, ap, subst, ◌∙◌}
 use Rattle.std.proofs.lemmas.Result.{IfOk-weaker}
 use Rattle.ror_session.specs.declared.session.Line.{Line}
 use Rattle.ror_line_reasons.specs.Answers.{AreReasons}
@@ -7,11 +7,6 @@ use Rattle.ror_line_reasons.specs.Paragraphs.{Scene}
 use Rattle.ror_line_reasons.specs.Said.{said_lines}
 use Rattle.ror_line_reasons.proofs.Loops.{same_scene}
 use Rattle.ror_line_reasons.proofs.lines.answered.Goals as goal
-
-pub returns-then-not-is_rising : goal.returns-then-not-is_rising
-returns-then-not-is_rising c =
-    let none : c.is_rising.result ≡ false = search rules in
-    λ rising. absurd (c.is_rising.ensures.not_rising none rising)
 
 pub returns : goal.returns
 returns c =
@@ -24,5 +19,5 @@ returns c =
     let said = c.as_slice.ensures.value ∙ c.in_ok-said.ensures ∙ ap (λ (ls : List Line). said_lines ls opening c.desk_of-desk.result before) lines ∙ ap (λ (d : ℕ). said_lines s.lines opening d before) desk in
     let same = same_scene c.args.table.now c.args.list.now _ _ c.args.line.now.block.line _ _ said c.desk_at.ensures in
     IfOk-weaker c.reasons_of.result _ _
-    (λ text h rising. subst (λ (sc : Scene). AreReasons sc c.args.answers.now text.items) same h)
+    (λ text h. subst (λ (sc : Scene). AreReasons sc c.args.answers.now text.items) same h)
     c.reasons_of.ensures
