@@ -26,11 +26,12 @@ asks t list q c (reasons.OneLacks x) asked h = subst (IsAskedIn t) (sym h.1.prov
 asks t list q c (reasons.ClassLeft x) asked h = subst (IsAskedIn t) (sym h.1.proved.question) asked
 asks t list q c (reasons.WhollyWide system note) asked h = tt
 
-pub asks_for : (sc : Scene) (q : Question) (v : Verdict) (reason : Reason) → IsAskedIn sc.table q → IsReasonFor sc q v reason → AsksIn sc.table reason
-asks_for sc q (verdicts.Yes proof) reason asked h = asks sc.table sc.list q _ reason asked h
-asks_for sc q (verdicts.No proof) reason asked h = asks sc.table sc.list q _ reason asked h
-asks_for sc q (verdicts.Contradiction proof) reason asked h = asks sc.table sc.list q _ reason asked h
-asks_for sc q (verdicts.Wide system note) reason asked h = absurd h
+pub asks_for : (t : DecisionTable) (list : List Numbered) (q : Question) (v : Verdict) (reason : Reason) → IsAskedIn t q → IsReasonFor t list q v reason → AsksIn t reason
+unfolding IsReasonFor
+asks_for t list q (verdicts.Yes proof) reason asked h = asks t list q _ reason asked h
+asks_for t list q (verdicts.No proof) reason asked h = asks t list q _ reason asked h
+asks_for t list q (verdicts.Contradiction proof) reason asked h = asks t list q _ reason asked h
+asks_for t list q (verdicts.Wide system note) reason asked h = absurd h
 
 -- ---- wide answers, and others
 

@@ -54,13 +54,13 @@ AsksIn t (reasons.WhollyWide system note) = Unit {0}
 
 -- ---- what is told of an answer
 
--- it is the reason of an answer with this verdict over what stood
-abbrev pub IsReasonFor : Scene → Question → Verdict → Reason → Type 0
-IsReasonFor sc q v reason = OfProof (λ c proof. IsReasonOf (most_of B127) sc.table sc.list q c reason) v
+-- it is the reason of an answer with this verdict over a list, as the greatest width gives it
+unfoldable pub IsReasonFor : DecisionTable → List Numbered → Question → Verdict → Reason → Type 0
+IsReasonFor t list q v reason = OfProof (λ c proof. IsReasonOf (most_of B127) t list q c reason) v
 
 -- the text of such a reason, which may be one of several
 abbrev pub HasReason : Scene → Question → Verdict → List ℕ → Type 0
-HasReason sc q v told = (reason : Reason) × IsReasonFor sc q v reason × (told ≡ reason_text sc reason)
+HasReason sc q v told = (reason : Reason) × IsReasonFor sc.table sc.list q v reason × (told ≡ reason_text sc reason)
 
 -- or that the answer is too wide
 abbrev pub IsTold : Scene → Question → Verdict → List ℕ → Type 0

@@ -16,6 +16,8 @@ use ror_proof::{Answer, Verdict};
 use ror_reason::{Reason, reduct_of};
 use ror_reason_pages::{write_bounded, write_decided, write_reduct, write_wide};
 use ror_sentences::write_asked;
+use ror_statement::Numbered;
+use ror_table::Table;
 use ror_warm::Engine;
 use std::alloc::{AllocError, Global};
 
@@ -94,7 +96,7 @@ fn wide_text(alloc: Global) -> Result<Vec<u8>, AllocError>
     Ok(text)
 }
 
-/// The reason of an answer that has its proof.
+/// The text of the reason of an answer that has its proof.
 fn reason_of(
     alloc: Global,
     engine: &mut Engine,
@@ -107,8 +109,25 @@ fn reason_of(
     requires proved { IsProvedAnswer scene.now.table.now (statements_in scene.now.list.now) answer.now.question answer.now }
     ensures { IfOk result (λ told. spec.HasReason (scene_of scene.now) answer.now.question answer.now.verdict told.items) }
 {
-    let reason = reduct_of(alloc, engine, scene.table, scene.list, answer, Bits::B127)?;
+    let reason = reason_over(alloc, engine, scene.table, scene.list, answer)?;
     reason_text(alloc, scene, &reason)
+}
+
+/// Why an answer over a list is what it is.
+fn reason_over(
+    alloc: Global,
+    engine: &mut Engine,
+    table: &Table,
+    list: &[Numbered],
+    answer: &Answer,
+) -> Result<Reason, AllocError>
+    requires lawful { IsLawfulIn table.now (statements_in list.now) }
+    requires rising { IsStrictlyIncreasing (numbers_in list.now) }
+    requires asked { IsAskedIn table.now answer.now.question }
+    requires proved { IsProvedAnswer table.now (statements_in list.now) answer.now.question answer.now }
+    ensures { IfOk result (spec.IsReasonFor table.now list.now answer.now.question answer.now.verdict) }
+{
+    reduct_of(alloc, engine, table, list, answer, Bits::B127)
 }
 
 /// The text of a reason.

@@ -1,15 +1,14 @@
 use Rattle.std.proofs.lemmas.Result.{IfOk-weaker}
-use Rattle.ror_line_reasons.specs.Paragraphs.{scene_of}
 use Rattle.ror_line_reasons.proofs.Reasons.{asks_for}
 use Rattle.ror_line_reasons.proofs.paragraph.reason_of.Goals as goal
 
 pub reason_text-requires : goal.reason_text-requires
 reason_text-requires c =
     let x = c.args.answer.now in
-    asks_for (scene_of c.args.scene.now) x.question x.verdict c.in_ok-reason.reason c.requires.asked c.in_ok-reason.ensures.reason
+    asks_for c.args.scene.now.table.now c.args.scene.now.list.now x.question x.verdict c.in_ok-reason.reason c.requires.asked c.in_ok-reason.ensures
 
 pub returns : goal.returns
 returns c =
     IfOk-weaker c.reason_text.result _ _
-    (λ text h. (c.in_ok-reason.reason, c.in_ok-reason.ensures.reason, h))
+    (λ text h. (c.in_ok-reason.reason, c.in_ok-reason.ensures, h))
     c.reason_text.ensures
