@@ -1,7 +1,9 @@
 -- Of one answer, or one line, more.
 use Rattle.std.proofs.Common.{◌≡◌, ℕ, ◌+◌, ◌<◌, Bool, List, [], ◌∷◌, ◌++◌, length, Option, Some, None, get_or, refl, sym, ap, subst, ◌∙◌, arith, take}
 use Rattle.std.specs.Prelude.{zero, suc, slice_get}
+use Rattle.std.specs.List.{AllByRecursion}
 use Rattle.std.specs.Option.{option_map_or}
+use Rattle.ror_text.proofs.Everywhere.{all_at}
 use Rattle.ror_statement.specs.declared.statement.Numbered.{Numbered}
 use Rattle.ror_table.specs.Table.{DecisionTable}
 use Rattle.ror_session.specs.declared.session.Session.{Session}
@@ -10,6 +12,7 @@ use Rattle.ror_report.specs.declared.block.Body.{Body}
 use Rattle.ror_report.specs.declared.block.Body.TheVariants as bodies
 use Rattle.ror_bench.specs.declared.kept.KeptLine.{KeptLine}
 use Rattle.ror_line_reasons.specs.Answers.{left_with, left_at, is_shown, IsToldWhere, IsToldAt, AreTold, AreReasons}
+use Rattle.ror_line_reasons.specs.Laws.{IsReady}
 use Rattle.ror_line_reasons.specs.Lines.{scene_at, IsSection, IsSectionAt, AreLines}
 use Rattle.ror_line_reasons.specs.Paragraphs.{Scene}
 
@@ -53,6 +56,9 @@ lines_more t s opening kept k line front last after within here so_far section a
     subst (λ (y : KeptLine). IsSection t s opening (take k kept) y y.standing y.block.body last) same section
     in
     subst (λ (n : ℕ). AreLines t s opening kept n after) (next k) (front, last, so_far, there, all)
+
+pub ready_at : (t : DecisionTable) (kept : List KeptLine) (k : ℕ) (line : KeptLine) → k < length kept → line ≡ get_or kept k line → AllByRecursion (IsReady t) kept → IsReady t line
+ready_at t kept k line within here all = subst (IsReady t) (sym here) (all_at (IsReady t) kept k (get_or kept k line) all (at_place kept k line within))
 
 -- what a reason is read against is the same where its lines and its desk are
 pub same_scene : (t : DecisionTable) (list : List Numbered) (said lines : List (Option ℕ)) (line : ℕ) (desk name : List ℕ) → said ≡ lines → desk ≡ name → scene t list said line desk ≡ scene t list lines line name

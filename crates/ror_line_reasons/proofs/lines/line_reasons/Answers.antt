@@ -1,6 +1,9 @@
 use Rattle.std.proofs.Common.{◌≡◌, ◌++◌, List, ℕ, ap, ◌∙◌}
-use Rattle.ror_line_reasons.proofs.Loops.{lines_more}
+use Rattle.ror_line_reasons.proofs.Loops.{lines_more, ready_at}
 use Rattle.ror_line_reasons.proofs.lines.line_reasons.Goals as goal
+
+pub section-requires-clause-ready : goal.section-requires-clause-ready
+section-requires-clause-ready c = ready_at c.args.table.now c.args.kept.now c.kept.k c.index-kept-k.result c.kept-test.true c.index-kept-k.is c.requires.ready
 
 pub kept-preserved : goal.kept-preserved
 kept-preserved c =

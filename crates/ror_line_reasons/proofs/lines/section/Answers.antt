@@ -12,3 +12,8 @@ returns-in-Some-Answers c =
     IfOk-weaker c.answered.result _ _
     (λ text h. section_is c.args.table.now c.args.session.now c.args.opening c.args.before.now line c.as_slice.result.now c.as_slice-in-Some-Answers.result.now text.items line.standing line.block.body stood body h)
     c.answered.ensures
+
+pub answered-requires-clause-rising : goal.answered-requires-clause-rising
+answered-requires-clause-rising c =
+    let stood : c.args.line.now.standing ≡ Some c.as_slice.result.now = search rules in
+    (c.requires.ready c.as_slice.result.now stood).rising
