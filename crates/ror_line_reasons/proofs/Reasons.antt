@@ -18,19 +18,19 @@ use Rattle.ror_reason.specs.declared.reducts.Reason.TheVariants as reasons
 use Rattle.ror_reason.specs.Reasons.{IsReasonOf}
 use Rattle.ror_line_reasons.specs.Paragraphs.{Scene, AsksIn, IsReasonFor, HasReason, IsTold, wide_text}
 
-asks : (t : DecisionTable) (list : List Numbered) (q : Question) (c : Conclusion) (reason : Reason) → IsAskedIn t q → IsReasonOf (most_of B127) t list q c reason → AsksIn t reason
-asks t list q c (reasons.Carried x) asked h = subst (IsAskedIn t) (sym h.0.answer.question) asked
-asks t list q c (reasons.Wide ns x others) asked h = subst (IsAskedIn t) (sym h.answer.question) asked
-asks t list q c (reasons.OneHas x) asked h = subst (IsAskedIn t) (sym h.1.proved.question) asked
-asks t list q c (reasons.OneLacks x) asked h = subst (IsAskedIn t) (sym h.1.proved.question) asked
-asks t list q c (reasons.ClassLeft x) asked h = subst (IsAskedIn t) (sym h.1.proved.question) asked
-asks t list q c (reasons.WhollyWide system note) asked h = tt
+asks : (most : ℕ) (t : DecisionTable) (list : List Numbered) (q : Question) (c : Conclusion) (reason : Reason) → IsAskedIn t q → IsReasonOf most t list q c reason → AsksIn t reason
+asks most t list q c (reasons.Carried x) asked h = subst (IsAskedIn t) (sym h.0.answer.question) asked
+asks most t list q c (reasons.Wide ns x others) asked h = subst (IsAskedIn t) (sym h.answer.question) asked
+asks most t list q c (reasons.OneHas x) asked h = subst (IsAskedIn t) (sym h.1.proved.question) asked
+asks most t list q c (reasons.OneLacks x) asked h = subst (IsAskedIn t) (sym h.1.proved.question) asked
+asks most t list q c (reasons.ClassLeft x) asked h = subst (IsAskedIn t) (sym h.1.proved.question) asked
+asks most t list q c (reasons.WhollyWide system note) asked h = tt
 
 pub asks_for : (t : DecisionTable) (list : List Numbered) (q : Question) (v : Verdict) (reason : Reason) → IsAskedIn t q → IsReasonFor t list q v reason → AsksIn t reason
 unfolding IsReasonFor
-asks_for t list q (verdicts.Yes proof) reason asked h = asks t list q _ reason asked h
-asks_for t list q (verdicts.No proof) reason asked h = asks t list q _ reason asked h
-asks_for t list q (verdicts.Contradiction proof) reason asked h = asks t list q _ reason asked h
+asks_for t list q (verdicts.Yes proof) reason asked h = asks (most_of B127) t list q _ reason asked h
+asks_for t list q (verdicts.No proof) reason asked h = asks (most_of B127) t list q _ reason asked h
+asks_for t list q (verdicts.Contradiction proof) reason asked h = asks (most_of B127) t list q _ reason asked h
 asks_for t list q (verdicts.Wide system note) reason asked h = absurd h
 
 -- ---- wide answers, and others

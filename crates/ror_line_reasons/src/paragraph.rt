@@ -110,6 +110,14 @@ fn reason_of(
     ensures { IfOk result (λ told. spec.HasReason (scene_of scene.now) answer.now.question answer.now.verdict told.items) }
 {
     let reason = reason_over(alloc, engine, scene.table, scene.list, answer)?;
+    told_by(alloc, scene, reason)
+}
+
+/// The text of a reason, which isn't wanted any more.
+fn told_by(alloc: Global, scene: &Scene<'_>, reason: Reason) -> Result<Vec<u8>, AllocError>
+    requires { spec.AsksIn scene.now.table.now reason }
+    ensures { IfOk result (λ text. text.items ≡ spec.reason_text (scene_of scene.now) reason) }
+{
     reason_text(alloc, scene, &reason)
 }
 
