@@ -28,7 +28,7 @@ use Rattle.ror_work_pages.proofs.Truth.{HasTrueAnswers, answers_true}
 
 -- ---- what is kept
 
-kept_there : (f : Line → Keep) (lines : List Line) (place : ℕ) (line : Line) → slice_get lines place ≡ Some line → keep_at (map f lines) place ≡ f line
+pub kept_there : (f : Line → Keep) (lines : List Line) (place : ℕ) (line : Line) → slice_get lines place ≡ Some line → keep_at (map f lines) place ≡ f line
 kept_there f [] zero line is = absurd cc
 kept_there f [] (suc place) line is = absurd cc
 kept_there f (x ∷ xs) zero line is = let same : x ≡ line = cc in ap f same

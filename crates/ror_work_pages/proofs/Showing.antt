@@ -39,7 +39,7 @@ use Rattle.ror_show_words.specs.declared.words.Form.{Form}
 use Rattle.ror_work_pages.proofs.OnePage.{one_page}
 
 -- benches that hold the same keep the same lines
-kept_same : (one other : Workbench) → HoldTheSame one other → (keep : List Keep) (before : List (Line × Block)) (lines : List Line) (blocks : List Block) → kept_from one keep before lines blocks ≡ kept_from other keep before lines blocks
+pub kept_same : (one other : Workbench) → HoldTheSame one other → (keep : List Keep) (before : List (Line × Block)) (lines : List Line) (blocks : List Block) → kept_from one keep before lines blocks ≡ kept_from other keep before lines blocks
 kept_same one other same keep before [] [] = refl
 kept_same one other same keep before [] (block ∷ blocks) = refl
 kept_same one other same keep before (line ∷ lines) [] = refl

@@ -21,7 +21,7 @@ use Rattle.ror_show_words.specs.declared.table.Page.TheVariants as pages
 use Rattle.ror_work_pages.specs.Choosing.{keep_of, keeps}
 use Rattle.ror_work_pages.specs.Laws.{StandingIsShown}
 
-at_replicate : {A : Type 0} (n k : ℕ) (x d : A) → k < n → slice_index_or (replicate n x) k d ≡ x
+pub at_replicate : {A : Type 0} (n k : ℕ) (x d : A) → k < n → slice_index_or (replicate n x) k d ≡ x
 at_replicate {A} zero k x d below = absurd (grind (arith, below))
 at_replicate {A} (suc n) zero x d below = refl
 at_replicate {A} (suc n) (suc k) x d below = at_replicate n k x d (omega (arith, below))

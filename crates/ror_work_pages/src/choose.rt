@@ -58,7 +58,7 @@ fn keep_at_desk(page: Page, meant: Option<u32>, line: &Line) -> Keep
 }
 
 /// So much where it is meant, and nothing where it isn't.
-fn keep_where(is_meant: bool, keep: Keep) -> Keep
+pub fn keep_where(is_meant: bool, keep: Keep) -> Keep
     ensures { result ≡ spec.keep_where is_meant keep }
 {
     if is_meant { keep } else { Keep::Nothing }
@@ -80,8 +80,8 @@ fn asks_relation(command: &Command) -> bool
     matches!(command, Command::Ask(Asked::Relation))
 }
 
-/// Whether it is the line that is meant, where one is.
-fn is_line(meant: Option<u32>, number: u32) -> bool
+/// Whether it is the line that is meant, where one is: so it is of each line where none is meant.
+pub fn is_line(meant: Option<u32>, number: u32) -> bool
     ensures { result ≡ spec.is_line meant number }
 {
     match meant {
@@ -90,8 +90,8 @@ fn is_line(meant: Option<u32>, number: u32) -> bool
     }
 }
 
-/// Whether it is that line or one before it, where one is meant.
-fn is_up_to(meant: Option<u32>, number: u32) -> bool
+/// Whether it is the line that is meant or one before it: so it is of each line where none is meant.
+pub fn is_up_to(meant: Option<u32>, number: u32) -> bool
     ensures { result ≡ spec.is_up_to meant number }
 {
     match meant {
@@ -100,8 +100,8 @@ fn is_up_to(meant: Option<u32>, number: u32) -> bool
     }
 }
 
-/// Whether it is the desk that is meant, where one is.
-pub(crate) fn is_desk(meant: Option<&str>, name: &str) -> bool
+/// Whether a desk of this name is meant: with or without the sign of a desk before it, and each desk where none is meant.
+pub fn is_desk(meant: Option<&str>, name: &str) -> bool
     ensures { result ≡ spec.is_desk (option_map (λ word. word.now) meant.entry) name.now }
 {
     match meant {
@@ -120,8 +120,8 @@ fn has_sign_before(word: &str, name: &str) -> bool
     }
 }
 
-/// The name of a line's desk.
-pub(crate) fn desk_name<'a>(desks: &'a [Text], line: &Line) -> &'a str
+/// The name of a line's desk; an empty one where the list hasn't that desk.
+pub fn desk_name<'a>(desks: &'a [Text], line: &Line) -> &'a str
     ensures { result.now ≡ desk_name desks.now line.now }
 {
     match desks.get(line.desk as usize) {

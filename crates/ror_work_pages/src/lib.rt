@@ -9,6 +9,8 @@
 //! relation t s r --desk tenant    both
 //! relation t s r --line 4         that no relation is answered in these lines
 //! ```
+//!
+//! Other pages of a report choose their lines and write their text by the same calls: [`keep_where`], [`is_desk`], [`write_shown`].
 #![tactic(auto)]
 
 mod changing;
@@ -23,4 +25,6 @@ mod relation;
 mod show;
 mod standing;
 
-pub use show::show_files;
+pub use choose::{desk_name, is_desk, is_line, is_up_to, keep_where};
+pub use names::names_behind;
+pub use show::{show_files, write_shown};

@@ -19,10 +19,30 @@ pub(crate) fn names_for(
 ) -> Result<Vec<u8>, AllocError>
     ensures { IfOk result (λ names. AreNames words.now.form file.now names.items) }
 {
-    match words.form {
+    let named = named_on(page);
+    names_behind(alloc, words.form, words.best_first, file, table, named)
+}
+
+/// The names, of those that are wanted, that the bytes of a table's file give beside the table's ids, to stand behind a text; none
+/// behind a form for programs. Which names is not said.
+///
+/// # Errors
+///
+/// Only want of memory.
+pub fn names_behind(
+    alloc: Global,
+    form: Form,
+    best_first: bool,
+    file: &[u8],
+    table: &Table,
+    named: Named,
+) -> Result<Vec<u8>, AllocError>
+    ensures { IfOk result (λ names. AreNames form file.now names.items) }
+{
+    match form {
         Form::Text if file.contains(&b'<') => {
             let seen = glance_at(alloc, file)?;
-            legend(alloc, table, &seen, words.best_first, named_on(page))
+            legend(alloc, table, &seen, best_first, named)
         }
         _ => Ok(Vec::new(alloc)),
     }

@@ -87,8 +87,13 @@ fn show_report<F: Shelf, O: Sink>(
     write_shown(alloc, words.form, file, text.as_slice(), names, out)
 }
 
-/// Writes a page, and names behind it. What it gives says that nothing is left to say.
-fn write_shown<O: Sink>(
+/// Writes a page in a form, and behind it the names that were found. What it gives, `false`, says that nothing is left to say.
+///
+/// # Errors
+///
+/// `Memory`, where the names could not be made or memory is wanting for both together, and then nothing is written; `WriteFault`,
+/// where a part alone is.
+pub fn write_shown<O: Sink>(
     alloc: Global,
     form: Form,
     file: &[u8],
