@@ -36,7 +36,7 @@ pub(crate) fn help_on(
 
 fn names_of<'a>(asked: &Asked<'a>) -> Names<'a> {
     match asked {
-        Asked::OfReport(_, words) => Names {
+        Asked::OfReport(_, words) | Asked::OfReasons(words) => Names {
             table: words.table,
             session: words.session,
             report: words.report,

@@ -17,6 +17,7 @@ use ror_frame::{Status, Stop, write_status};
 use ror_io::{Shelf, Sink, SinkFault, write_all};
 use ror_show_words::{Asked, WordsFault, read_words, usage};
 use ror_work_pages::show_files;
+use ror_work_reasons::show_reasons;
 use ror_work_sheet::{SheetFiles, show_sheet};
 use std::alloc::Global;
 
@@ -128,6 +129,7 @@ fn work_on<F: Shelf, O: Sink>(
             };
             show_sheet(alloc, &files, shelf, out)
         }
+        Asked::OfReasons(words) => show_reasons(alloc, words, shelf, out),
     }
 }
 

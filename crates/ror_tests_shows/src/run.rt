@@ -106,6 +106,18 @@ fn ends_where_the_page_cannot_be_written(rt: HostRuntime) -> Result<(), Fail> {
 }
 
 #[test]
+fn says_where_no_reason_is_asked_for(rt: HostRuntime) -> Result<(), Fail> {
+    let case = Case {
+        out: b"no question is answered in these lines of the session\n",
+        ..accepted()
+    };
+    let shelf = shelf_of(rt.alloc(), &case)?;
+    let mut out = MemorySink::new(rt.alloc(), 64)?;
+    let mut err = MemorySink::new(rt.alloc(), 0)?;
+    expect(&rt, "why t s r --line 1", &case, shelf, &mut out, &mut err)
+}
+
+#[test]
 fn shows_what_was_read(rt: HostRuntime) -> Result<(), Fail> {
     let case = Case {
         out: b"criteria 2, each with its levels from worst to best; columns 2 (one for each step, or one for a linear criterion)\n  q  max, steps 1\n     2 3\n  p  min, steps 1\n     10 8\nalternatives 2\n     a b\nclasses none\nstatements that the file brings, at every desk: 0\n\nthe session, by its lines\ndesk      @x: statements 1, questions 1, lines refused 0\n",
