@@ -61,7 +61,7 @@ form_usage _ = codes " [--as text|csv]"
 -- the names and options
 abbrev pub shown_usage : Shown → List ℕ
 shown_usage Sheet = codes " TABLE [SESSION] [--best-first]"
-shown_usage Reasons = codes " TABLE SESSION REPORT [--best-first] [--desk NAME] [--line N]"
+shown_usage Reasons = codes " TABLE SESSION REPORT [--best-first] [--desk NAME] [--line N] [--pair A B]"
 shown_usage (Report page) = codes " TABLE SESSION REPORT [--best-first] [--desk NAME]" ++ line_usage page ++ form_usage page
 
 abbrev pub row_usage : Row → List ℕ

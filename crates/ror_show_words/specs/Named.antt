@@ -4,9 +4,11 @@ use Rattle.ror_show_words.specs.declared.table.Row as rows
 use Rattle.ror_show_words.specs.declared.words.Asked as given
 use Rattle.ror_show_words.specs.declared.words.Asked.TheVariants as asked
 use Rattle.ror_show_words.specs.declared.words.PageWords as words
+use Rattle.ror_show_words.specs.declared.words.PairWords as pairs
+use Rattle.ror_show_words.specs.declared.words.ReasonWords as reasons
 use Rattle.ror_show_words.specs.declared.words.SheetWords as sheets
 use Rattle.ror_show_words.specs.Commands.{Row}
-use Rattle.ror_show_words.specs.Words.{PageWords, SheetWords, Asked, OfReport, OfFiles, OfReasons}
+use Rattle.ror_show_words.specs.Words.{PageWords, PairWords, ReasonWords, SheetWords, Asked, OfReport, OfFiles, OfReasons}
 
 abbrev pub row_with : rows.Row → Row
 row_with row = record { shown = row.shown; word = row.word.now }
@@ -22,6 +24,12 @@ page_words_of given = record {
   form = given.form;
 }
 
+abbrev pub pair_words_of : pairs.PairWords → PairWords
+pair_words_of given = record { first = given.first.now; second = given.second.now }
+
+abbrev pub reason_words_of : reasons.ReasonWords → ReasonWords
+reason_words_of given = record { page = page_words_of given.page; pair = option_map pair_words_of given.pair }
+
 abbrev pub sheet_words_of : sheets.SheetWords → SheetWords
 sheet_words_of given = record {
   table = given.table.now;
@@ -32,4 +40,4 @@ sheet_words_of given = record {
 abbrev pub asked_with : given.Asked → Asked
 asked_with (asked.OfReport page words) = OfReport page (page_words_of words)
 asked_with (asked.OfFiles words) = OfFiles (sheet_words_of words)
-asked_with (asked.OfReasons words) = OfReasons (page_words_of words)
+asked_with (asked.OfReasons words) = OfReasons (reason_words_of words)

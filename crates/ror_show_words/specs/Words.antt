@@ -3,7 +3,7 @@ use Rattle.std.specs.Prelude.{ℕ, Bool, true, false, ◌&&◌, List, [], ◌∷
 use Rattle.std.specs.Option.{option_map, option_and_then, option_map_or}
 use Rattle.std.specs.List.{find}
 use Rattle.std.specs.Str.{bytes_eq}
-use Rattle.clap.specs.Words.{App, Rule, Text, new_app, new_rule, with_rule, matches_of, fault_of, first_of}
+use Rattle.clap.specs.Words.{App, Rule, Text, new_app, new_rule, with_rule, matches_of, fault_of, first_of, all_of}
 use Rattle.clap.specs.Simple.{on_top}
 use Rattle.clap.specs.declared.builder.action.ArgAction.TheVariants.{SetTrue}
 use Rattle.ror_text.specs.Numbers.{count_of}
@@ -38,6 +38,10 @@ bare_app = on_top (λ s. record s {
   disable_version_flag = true;
 }) (new_app (codes "ror_show"))
 
+-- with two values
+abbrev pub pair_rule : Text → Rule
+pair_rule id = record (option_rule id) { range = Some (record { start_inclusive = 2; end_inclusive = 2 }) }
+
 unfoldable pub named_app : App
 named_app = with_rule (with_rule (with_rule bare_app (name_rule (codes "TABLE"))) (name_rule (codes "SESSION")))
     (name_rule (codes "REPORT"))
@@ -45,6 +49,10 @@ named_app = with_rule (with_rule (with_rule bare_app (name_rule (codes "TABLE"))
 unfoldable pub page_app : App
 page_app = with_rule (with_rule (with_rule (with_rule named_app (flag_rule (codes "best-first")))
     (option_rule (codes "line"))) (option_rule (codes "desk"))) (option_rule (codes "as"))
+
+-- the page of reasons may be of two alternatives besides
+unfoldable pub reasons_app : App
+reasons_app = with_rule page_app (pair_rule (codes "pair"))
 
 -- the page of what was read has the names of two files, of which it needs the first
 unfoldable pub sheet_app : App
@@ -70,11 +78,21 @@ pub record SheetWords : Type 0 where
   pub session : Option (List ℕ)
   pub best_first : Bool
 
+-- the names of two alternatives
+pub record PairWords : Type 0 where
+  pub first : List ℕ
+  pub second : List ℕ
+
+-- what a page of a report has, and the alternatives between which answers are meant, where not all are
+pub record ReasonWords : Type 0 where
+  pub page : PageWords
+  pub pair : Option PairWords
+
 -- what words ask for: a page of a report, what was read of files, or why the answers of a report are what they are
 pub data Asked : Type 0 where
   OfReport : Page → PageWords → Asked
   OfFiles : SheetWords → Asked
-  OfReasons : PageWords → Asked
+  OfReasons : ReasonWords → Asked
 
 -- the number of a line has 1 to 9 digits, and isn't 0
 abbrev pub line_of : List ℕ → Option ℕ
@@ -89,10 +107,15 @@ form_text forms.Dot = codes "dot"
 abbrev pub form_of : List ℕ → Option Form
 form_of word = find (λ form. bytes_eq word (form_text form)) (forms.Text ∷ forms.Csv ∷ forms.Dot ∷ [])
 
--- an option that isn't given, or whose value reads as something
-abbrev pub if_given : {A : Type 0} → (List ℕ → Option A) → Option (List ℕ) → Option (Option A)
+-- what two words name
+abbrev pub pair_of : List Text → Option PairWords
+pair_of (a ∷ b ∷ []) = Some (record { first = a; second = b })
+pair_of _ = None
+
+-- an option that isn't given, or whose value, or whose values, read as something
+abbrev pub if_given : {A B : Type 0} → (B → Option A) → Option B → Option (Option A)
 if_given read None = Some None
-if_given read (Some word) = option_map Some (read word)
+if_given read (Some given) = option_map Some (read given)
 
 abbrev pub is_given : Option (List ℕ) → Bool
 is_given found = option_map_or (λ word. bytes_eq word (codes "true")) found false
@@ -136,6 +159,10 @@ abbrev pub fits_line : Page → Option ℕ → Bool
 fits_line page None = not (needs_line page)
 fits_line page (Some line) = takes_line page
 
+-- the same after the word of the page of reasons
+abbrev pub pair_in : (Text → Option (List Text)) → Option (Option PairWords)
+pair_in values = if_given pair_of (values (codes "pair"))
+
 -- the page takes these
 abbrev pub fits : Page → PageWords → Bool
 fits page words = fits_line page words.line && has_form page words.form
@@ -148,13 +175,21 @@ abbrev pub is_text : Form → Bool
 is_text forms.Text = true
 is_text _ = false
 
-abbrev pub of_reasons : PageWords → Option Asked
-of_reasons words = if is_text words.form then Some (OfReasons words) else None
+abbrev pub of_reasons : PageWords → Option PairWords → Option Asked
+of_reasons page pair = if is_text page.form then Some (OfReasons (record { page = page; pair = pair })) else None
+
+-- what is found for each name and option, and which values
+abbrev pub reasons_of : (Text → Option Text) → (Text → Option (List Text)) → Option Asked
+reasons_of found values = option_and_then (λ page. option_and_then (of_reasons page) (pair_in values)) (words_of found)
+
+unfoldable pub reasons_in : List (List ℕ) → Option Asked
+reasons_in words = if length (fault_of reasons_app words) == 0
+    then reasons_of (λ id. first_of id (matches_of reasons_app words)) (λ id. all_of id (matches_of reasons_app words)) else None
 
 abbrev pub asked_by : Shown → List (List ℕ) → Option Asked
 asked_by (Report page) words = option_and_then (of_report page) (given_in words)
 asked_by Sheet words = option_map OfFiles (sheet_in words)
-asked_by Reasons words = option_and_then of_reasons (given_in words)
+asked_by Reasons words = reasons_in words
 
 -- None of words that ask for nothing
 unfoldable pub asked : List (List ℕ) → Option Asked

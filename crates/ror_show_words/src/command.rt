@@ -2,7 +2,7 @@
 
 ghost use Rattle.std.specs.Prelude.{◌≡◌, IfOk};
 ghost use Rattle.clap.specs.Words.{app_of, with_rule};
-ghost use Rattle.ror_show_words.specs.Words.{name_rule, spare_rule, option_rule, flag_rule, bare_app, named_app, page_app, sheet_app};
+ghost use Rattle.ror_show_words.specs.Words.{name_rule, spare_rule, option_rule, flag_rule, pair_rule, bare_app, named_app, page_app, reasons_app, sheet_app};
 
 use clap::{Arg, ArgAction, Command};
 use std::alloc::{AllocError, Global};
@@ -16,6 +16,14 @@ pub(crate) fn page_command<'a>(alloc: Global) -> Result<Command<'a>, AllocError>
     let command = with_option(alloc, command, "line")?;
     let command = with_option(alloc, command, "desk")?;
     with_option(alloc, command, "as")
+}
+
+/// The same after the word of the page of reasons, which may be of two alternatives.
+#[tactic(auto, unfolding(crate::specs::Words::reasons_app))]
+pub(crate) fn reasons_command<'a>(alloc: Global) -> Result<Command<'a>, AllocError>
+    ensures { IfOk result (λ c. app_of c ≡ reasons_app) }
+{
+    with_pair(alloc, page_command(alloc)?, "pair")
 }
 
 /// The names and options after the word of the page of what was read.
@@ -79,6 +87,17 @@ fn with_option<'a>(
     ensures { IfOk result (λ c. app_of c ≡ with_rule (app_of command.entry) (option_rule id.entry.now)) }
 {
     command.arg(Arg::new(alloc, id).long(id))
+}
+
+/// The command with an option that has two values.
+fn with_pair<'a>(
+    alloc: Global,
+    command: Command<'a>,
+    id: &'a str,
+) -> Result<Command<'a>, AllocError>
+    ensures { IfOk result (λ c. app_of c ≡ with_rule (app_of command.entry) (pair_rule id.entry.now)) }
+{
+    command.arg(Arg::new(alloc, id).long(id).num_args(2))
 }
 
 /// The command with an option that has none.

@@ -17,4 +17,6 @@ mod table;
 mod words;
 
 pub use table::{Page, usage};
-pub use words::{Asked, Form, PageWords, SheetWords, WordsFault, read_words};
+pub use words::{
+    Asked, Form, PageWords, PairWords, ReasonWords, SheetWords, WordsFault, read_words,
+};

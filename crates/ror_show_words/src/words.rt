@@ -4,16 +4,16 @@ ghost use Rattle.std.specs.Prelude.{◌≡◌, ◌≢◌, MatchResult, Some, Non
 ghost use Rattle.std.specs.Option.{option_map};
 ghost use Rattle.std.specs.String.{string_bytes};
 ghost use Rattle.clap.specs.declared.error.kind.ErrorKind.TheVariants.{OutOfMemory};
-ghost use Rattle.clap.specs.Words.{found_of, first_value, kind_of};
+ghost use Rattle.clap.specs.Words.{found_of, first_value, matched_of, raw_values, kind_of};
 ghost use Rattle.ror_show_words.specs.declared.table.Shown.TheVariants.{Report, Reasons};
 ghost use Rattle.ror_show_words.specs.Commands.{has_form};
 ghost use Rattle.ror_show_words.specs.Words as spec;
-ghost use Rattle.ror_show_words.specs.Words.{line_of, form_of, if_given, words_of, given_in, sheet_in, fits_line, fits, is_text, asked_by, asked};
+ghost use Rattle.ror_show_words.specs.Words.{line_of, form_of, if_given, words_of, given_in, sheet_in, fits_line, fits, is_text, reasons_of, reasons_in, asked_by, asked};
 ghost use Rattle.ror_show_words.specs.Named as named;
 ghost use Rattle.ror_show_words.specs.Named.{page_words_of, asked_with};
 ghost use Rattle.ror_show_words.specs.declared.words.WordsFault.TheVariants.{Unknown};
 
-use crate::command::{page_command, sheet_command};
+use crate::command::{page_command, reasons_command, sheet_command};
 use crate::table::{Page, Shown, row_for};
 use clap::error::ErrorKind;
 use clap::{ArgMatches, Error};
@@ -51,6 +51,22 @@ pub struct PageWords<'a> {
     pub form: Form,
 }
 
+/// The names of two alternatives.
+#[derive(Clone, Copy, Debug)]
+pub struct PairWords<'a> {
+    pub first: &'a str,
+    pub second: &'a str,
+}
+
+/// The names and options of the page of reasons.
+#[derive(Debug, Drop)]
+pub struct ReasonWords<'a> {
+    /// Those that it has as any page of a report; the form is text.
+    pub page: PageWords<'a>,
+    /// The alternatives between which answers are meant, where not all are.
+    pub pair: Option<PairWords<'a>>,
+}
+
 /// The names of the page of what was read.
 #[derive(Debug, Drop)]
 pub struct SheetWords<'a> {
@@ -69,8 +85,8 @@ pub enum Asked<'a> {
     OfReport(Page, PageWords<'a>),
     /// What was read of files.
     OfFiles(SheetWords<'a>),
-    /// Why the answers of a report are what they are, as text.
-    OfReasons(PageWords<'a>),
+    /// Why the answers of a report are what they are.
+    OfReasons(ReasonWords<'a>),
 }
 
 /// Why words ask for nothing.
@@ -128,15 +144,49 @@ fn report_asked(alloc: Global, page: Page, words: &[String]) -> Result<Asked<'_>
 }
 
 /// What the words after that of the page of reasons ask for.
+#[tactic(auto, unfolding(crate::specs::Words::reasons_in))]
 fn reasons_asked(alloc: Global, words: &[String]) -> Result<Asked<'_>, WordsFault>
-    ensures { MatchResult result (λ a. asked_by Reasons (map string_bytes words.now) ≡ Some (asked_with a))
-        (λ e. e ≡ Unknown → asked_by Reasons (map string_bytes words.now) ≡ None) }
+    ensures { MatchResult result (λ a. reasons_in (map string_bytes words.now) ≡ Some (asked_with a))
+        (λ e. e ≡ Unknown → reasons_in (map string_bytes words.now) ≡ None) }
 {
-    let words = page_words(alloc, words)?;
-    if !is_text(words.form) {
-        return Err(WordsFault::Unknown);
+    match reasons_command(alloc)?.try_get_matches_from(words) {
+        Ok(matches) => reasons_found(&matches).ok_or(WordsFault::Unknown),
+        Err(error) => Err(fault_with(&error)),
     }
-    Ok(Asked::OfReasons(words))
+}
+
+/// What was found.
+fn reasons_found<'w>(matches: &ArgMatches<'w>) -> Option<Asked<'w>>
+    ensures { option_map asked_with result ≡ reasons_of (first_value (found_of matches.now))
+        (λ id. option_map raw_values (matched_of (found_of matches.now) id)) }
+{
+    let page = words_found(matches)?;
+    let pair = pair_found(matches)?;
+    if is_text(page.form) {
+        Some(Asked::OfReasons(ReasonWords { page, pair }))
+    } else {
+        None
+    }
+}
+
+/// The two alternatives, where they are given.
+fn pair_found<'w>(matches: &ArgMatches<'w>) -> Option<Option<PairWords<'w>>>
+    ensures { option_map (option_map named.pair_words_of) result
+        ≡ spec.pair_in (λ id. option_map raw_values (matched_of (found_of matches.now) id)) }
+{
+    let Some(words) = matches.get_strs("pair") else {
+        return Some(None);
+    };
+    Some(Some(pair_of(words)?))
+}
+
+fn pair_of<'w>(words: &[&'w str]) -> Option<PairWords<'w>>
+    ensures { option_map named.pair_words_of result ≡ spec.pair_of (map (λ word. word.now) words.now) }
+{
+    match words {
+        [first, second] => Some(PairWords { first, second }),
+        _ => None,
+    }
 }
 
 fn is_text(form: Form) -> bool
