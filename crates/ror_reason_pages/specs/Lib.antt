@@ -1,5 +1,6 @@
 pub mod Weights
 pub mod Sides
+pub mod Met
 pub mod Parts
 pub mod Reasons
 pub mod Laws

@@ -16,6 +16,7 @@ use Rattle.ror_sentences.specs.Words.{number}
 use Rattle.ror_sentences.specs.Rows.{line_text}
 use Rattle.ror_sentences.specs.Claims.{is_every, claim_of, counter_of, asked_text}
 use Rattle.ror_reason_pages.specs.Sides.{sides_text}
+use Rattle.ror_reason_pages.specs.Met.{met_text}
 use Rattle.ror_reason_pages.specs.Parts.{rows_text}
 
 -- ---- where statements carry the answer
@@ -166,8 +167,8 @@ decided_line t x = line_text 1 (decided_words t x)
 abbrev pub shown_line : DecisionTable → Answer → List ℕ
 shown_line t x = line_text 1 (shown_words t x)
 
-unfoldable pub decided_text : DecisionTable → Answer → List ℕ
-decided_text t x = decided_line t x ++ shown_line t x
+unfoldable pub decided_text : DecisionTable → List Numbered → Answer → List ℕ
+decided_text t list x = decided_line t x ++ met_text t list x.verdict ++ shown_line t x
 
 -- ---- where an alternative may belong to a class by every function
 

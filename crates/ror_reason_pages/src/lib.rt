@@ -20,6 +20,7 @@
 
 mod carried;
 pub mod laws;
+mod met;
 mod owners;
 mod parts;
 mod reasons;

@@ -2,10 +2,12 @@
 
 ghost use Rattle.std.specs.Prelude.{◌≡◌, ◌<◌, ◌++◌, length, IfOk, OnOk};
 ghost use Rattle.ror_pages.specs.Dominance as dominance;
-ghost use Rattle.ror_value.specs.Over.{IsAskedIn};
+ghost use Rattle.ror_statement.specs.Statements.{statements_in};
+ghost use Rattle.ror_value.specs.Over.{IsLawfulIn, IsAskedIn};
 ghost use Rattle.ror_reason_pages.specs.Reasons as spec;
 
 use crate::carried::{is_contradiction, write_against, write_carried};
+use crate::met::write_met;
 use ror_proof::Answer;
 use ror_sentences::{write_asked, write_claim, write_line, write_text};
 use ror_statement::{Numbered, Question};
@@ -125,8 +127,8 @@ fn dominates(table: &Table, a: usize, b: usize) -> bool
     true
 }
 
-/// Adds the text of an answer that one value function decides, so that no statement carries it. The answer's question is valid
-/// for the table.
+/// Adds the text of an answer over a list that one value function decides, so that no statement carries it: by that function what was
+/// asked, and what each statement compares. The statements are lawful, and the answer's question is valid for the table.
 ///
 /// # Errors
 ///
@@ -136,12 +138,15 @@ pub fn write_decided(
     alloc: Global,
     text: &mut Vec<u8>,
     table: &Table,
+    list: &[Numbered],
     answer: &Answer,
 ) -> Result<(), AllocError>
-    requires { IsAskedIn table.now answer.now.question }
-    ensures { OnOk result (text.new.items ≡ text.old.items ++ spec.decided_text table.now answer.now) }
+    requires lawful { IsLawfulIn table.now (statements_in list.now) }
+    requires asked { IsAskedIn table.now answer.now.question }
+    ensures { OnOk result (text.new.items ≡ text.old.items ++ spec.decided_text table.now list.now answer.now) }
 {
     write_decided_line(alloc, text, table, answer)?;
+    write_met(alloc, text, table, list, &answer.verdict)?;
     write_shown_line(alloc, text, table, answer)
 }
 

@@ -47,7 +47,7 @@ fn set_form(has: bool, form: Form) -> Form
 }
 
 /// The steps of the value function that is the first part of the proof, where it is one.
-fn deciding(verdict: &Verdict) -> Option<&Numbers>
+pub(crate) fn deciding(verdict: &Verdict) -> Option<&Numbers>
     ensures { option_copied result ≡ spec.deciding verdict.now }
 {
     let part = parts_of(verdict).get(0)?;
@@ -150,7 +150,7 @@ fn write_numbers(
     Ok(())
 }
 
-fn write_number(text: &mut Vec<u8>, words: &[u8], number: i128) -> Result<(), AllocError>
+pub(crate) fn write_number(text: &mut Vec<u8>, words: &[u8], number: i128) -> Result<(), AllocError>
     ensures { OnOk result (text.new.items ≡ text.old.items ++ spec.number_behind words.now number) }
 {
     text.extend_from_slice(words)?;
@@ -158,7 +158,7 @@ fn write_number(text: &mut Vec<u8>, words: &[u8], number: i128) -> Result<(), Al
 }
 
 /// The function with these steps, where they are such.
-fn function_of(
+pub(crate) fn function_of(
     alloc: Global,
     table: &Table,
     steps: &Numbers,
@@ -185,7 +185,7 @@ fn numbers_of(alloc: Global, steps: &Numbers) -> Result<Vec<i128>, AllocError>
     Ok(numbers)
 }
 
-fn quantities(table: &Table, function: &ValueFunction, form: Form) -> (i128, i128)
+pub(crate) fn quantities(table: &Table, function: &ValueFunction, form: Form) -> (i128, i128)
     requires function { IsFunctionOf table.now function.now }
     requires named { IsNamedIn table.now form }
     ensures first { result.0 ≡ first_quantity table.now function.now.steps form }
@@ -209,7 +209,12 @@ fn strength(table: &Table, function: &ValueFunction, scope: Scope, pair: Pair) -
     value_in(table, function, scope, pair.first) - value_in(table, function, scope, pair.second)
 }
 
-fn value_in(table: &Table, function: &ValueFunction, scope: Scope, alternative: usize) -> i128
+pub(crate) fn value_in(
+    table: &Table,
+    function: &ValueFunction,
+    scope: Scope,
+    alternative: usize,
+) -> i128
     requires function { IsFunctionOf table.now function.now }
     requires scope { ScopeWithin (length table.now.criteria) scope }
     requires alternative { alternative < length table.now.alternatives }

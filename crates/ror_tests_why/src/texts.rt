@@ -1,6 +1,6 @@
 //! The texts of reasons, of answers that are read.
 
-use ror_made::is_asked;
+use ror_made::{is_asked, may_stand};
 use ror_proof::{Answer, read_answer};
 use ror_reason_pages::{write_decided, write_reduct};
 use ror_statement::{Numbered, Pair, Scope, Statement};
@@ -57,16 +57,21 @@ fn reduct_text(
     Some(text)
 }
 
-/// The text of an answer that one function decides.
-fn decided_text(alloc: Global, table: &Table, answers: &[Answer]) -> Option<Vec<u8>> {
+/// The text of an answer over a list that one function decides.
+fn decided_text(
+    alloc: Global,
+    table: &Table,
+    list: &[Numbered],
+    answers: &[Answer],
+) -> Option<Vec<u8>> {
     let [answer, ..] = answers else {
         return None;
     };
-    if !is_asked(table, &answer.question) {
+    if !may_stand(alloc, table, list).ok()? || !is_asked(table, &answer.question) {
         return None;
     }
     let mut text = Vec::new(alloc);
-    write_decided(alloc, &mut text, table, answer).ok()?;
+    write_decided(alloc, &mut text, table, list, answer).ok()?;
     Some(text)
 }
 
@@ -210,6 +215,8 @@ part 1 solution 2
 
 const ONE_FUNCTION: &[u8] =
     b"  by some value function that agrees with the statements a is better than b (2 to 0 of 2)
+  it meets each statement:
+     1  atleast a b                                 2 to 0
   no statement carries that; the function is on the page of functions: necessary b a no
 ";
 
@@ -217,7 +224,8 @@ const ONE_FUNCTION: &[u8] =
 fn one_function_decides(rt: HostRuntime) -> Result<(), Fail> {
     let table = read_plain(rt.alloc(), TWO)?;
     let answers = answers_in(rt.alloc(), &table, LACKED, 1).ok_or("an answer")?;
-    let text = decided_text(rt.alloc(), &table, &answers).ok_or("a text")?;
+    let list = [said(1, Statement::AtLeast(0, 1))];
+    let text = decided_text(rt.alloc(), &table, &list, &answers).ok_or("a text")?;
     assert!(rt; text.as_slice() == ONE_FUNCTION);
     Ok(())
 }
