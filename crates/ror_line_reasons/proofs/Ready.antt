@@ -1,5 +1,5 @@
 -- That what stood at a kept line is lawful, its numbers rise, and its answers are proved over it.
-use Rattle.std.proofs.Common.{◌≡◌, ◌≢◌, ◌⊎◌, inl, inr, ℕ, zero, suc, ◌-◌, List, [], ◌∷◌, ◌++◌, length, take, drop, replicate, Option, Some, Result, Ok, Err, sym, ap, subst, ◌∙◌, append_assoc}
+use Rattle.std.proofs.Common.{◌≡◌, ◌≢◌, ◌⊎◌, inl, inr, ℕ, zero, suc, ◌-◌, List, [], ◌∷◌, ◌++◌, length, drop, replicate, Result, Ok, Err, sym, ap, subst, ◌∙◌, append_assoc}
 use Rattle.std.specs.List.{AllByRecursion, AllZip}
 use Rattle.std.specs.List.Sorted.{IsStrictlyIncreasing}
 use Rattle.std.specs.Result.{result_ok}
@@ -40,7 +40,7 @@ use Rattle.ror_bench.proofs.NameLemmas.{questions_valid}
 use Rattle.ror_bench.proofs.ReportProofs.{number_cases, then_at_own, then_at_other}
 use Rattle.ror_bench.proofs.Truth.{lawful_at}
 use Rattle.ror_functions.specs.Laws.{IsSoundAnswer}
-use Rattle.ror_line_reasons.specs.Laws.{IsReady, IsReadyOver, IsNumberedBench, DesksBeginNumbered, KeptLinesAreReady}
+use Rattle.ror_line_reasons.specs.Laws.{IsReady, IsReadyOver, DesksBeginNumbered, KeptLinesAreReady}
 
 -- ---- the answers of a block
 

@@ -1,7 +1,9 @@
 -- The reasons of the answers to a line.
-use Rattle.std.specs.Prelude.{◌≡◌, ℕ, ◌-◌, nat_le, nat_lt, zero, suc, Bool, true, false, ◌&&◌, ◌||◌, List, [], ◌++◌, codes, length, slice_get, Some, count_by, if◌then◌else◌}
+use Rattle.std.specs.Prelude.{◌≡◌, ℕ, ◌-◌, nat_le, nat_lt, zero, suc, Bool, true, false, ◌&&◌, ◌||◌, ◌==◌, List, [], ◌++◌, codes, length, slice_get, Option, Some, None, count_by, if◌then◌else◌}
 use Rattle.std.specs.Option.{option_map_or}
+use Rattle.ror_statement.specs.declared.comparison.Pair.{Pair}
 use Rattle.ror_statement.specs.declared.question.Question.{Question}
+use Rattle.ror_statement.specs.declared.question.Question.TheVariants as questions
 use Rattle.ror_statement.specs.declared.question.Conclusion.TheVariants as conclusions
 use Rattle.ror_statement.specs.Questions.{kind_of, property_of}
 use Rattle.ror_proof.specs.declared.answer.Answer.{Answer}
@@ -33,9 +35,19 @@ abbrev pub left_at : List Answer → ℕ → ℕ
 left_at xs zero = MOST_SHOWN
 left_at xs (suc k) = option_map_or (left_with (left_at xs k)) (slice_get xs k) (left_at xs k)
 
--- all of few answers, and of more than that the first that statements carry
-abbrev pub is_shown : ℕ → ℕ → Answer → Bool
-is_shown count left x = nat_le count MOST_SHOWN || (nat_lt 0 left && is_carried x)
+-- the one is compared with the other, or the other with the one
+abbrev pub are_of : Pair → ℕ → ℕ → Bool
+are_of p a b = (a == p.first && b == p.second) || (a == p.second && b == p.first)
+
+abbrev pub is_between : Pair → Question → Bool
+is_between p (questions.Necessary a b) = are_of p a b
+is_between p (questions.Possible a b) = are_of p a b
+is_between p _ = false
+
+-- all of few answers, and of more than that the first that statements carry; or those between two alternatives, where these are meant
+abbrev pub is_shown : Option Pair → ℕ → ℕ → Answer → Bool
+is_shown None count left x = nat_le count MOST_SHOWN || (nat_lt 0 left && is_carried x)
+is_shown (Some p) count left x = is_between p x.question
 
 -- ---- what is told of them
 
@@ -45,7 +57,7 @@ IsToldWhere false sc x text = text ≡ []
 
 -- of the answer at a place
 abbrev pub IsToldAt : Scene → List Answer → ℕ → List ℕ → Type 0
-IsToldAt sc xs k text = (x : Answer) → slice_get xs k ≡ Some x → IsToldWhere (is_shown (length xs) (left_at xs k) x) sc x text
+IsToldAt sc xs k text = (x : Answer) → slice_get xs k ≡ Some x → IsToldWhere (is_shown sc.pair (length xs) (left_at xs k) x) sc x text
 
 -- of the first answers, so many, one after the other
 abbrev pub AreTold : Scene → List Answer → ℕ → List ℕ → Type 0
@@ -63,9 +75,13 @@ carried_text carried = counted (codes "  answers that statements carry: ") carri
 abbrev pub counts_text : Scene → ℕ → List ℕ
 counts_text sc carried = line_text sc.line sc.desk ++ carried_text carried
 
--- that is said where there are more than all are shown of
+-- that is said where there are more than all are shown of, and all are meant
+abbrev pub rest_by : Option Pair → Scene → List Answer → List ℕ
+rest_by None sc xs = if nat_le (length xs) MOST_SHOWN then [] else counts_text sc (count_by is_carried xs)
+rest_by (Some p) sc xs = []
+
 abbrev pub rest_text : Scene → List Answer → List ℕ
-rest_text sc xs = if nat_le (length xs) MOST_SHOWN then [] else counts_text sc (count_by is_carried xs)
+rest_text sc xs = rest_by sc.pair sc xs
 
 -- of all answers to a line
 abbrev pub AreReasons : Scene → List Answer → List ℕ → Type 0

@@ -1,6 +1,7 @@
 -- The reason of one answer, below a head.
 use Rattle.std.specs.Prelude.{◌≡◌, ℕ, List, [], ◌∷◌, ◌++◌, codes, Option}
 use Rattle.ror_statement.specs.declared.statement.Numbered.{Numbered}
+use Rattle.ror_statement.specs.declared.comparison.Pair.{Pair}
 use Rattle.ror_statement.specs.declared.question.Question.{Question}
 use Rattle.ror_table.specs.Table.{DecisionTable}
 use Rattle.ror_value.specs.Over.{IsAskedIn}
@@ -19,24 +20,26 @@ use Rattle.ror_reason_pages.specs.Reasons as texts
 use Rattle.ror_sentences.specs.Claims.{asked_text}
 use Rattle.ror_line_reasons.specs.declared.scene.Scene as scenes
 
--- A table, what stood at a line, the line that said each statement of it, the line's number, and the name of its desk.
+-- A table, what stood at a line, the line that said each statement of it, the line's number, the name of its desk, and the alternatives
+-- between which answers are meant, where not all are.
 pub record Scene : Type 0 where
   pub table : DecisionTable
   pub list : List Numbered
   pub lines : List (Option ℕ)
   pub line : ℕ
   pub desk : List ℕ
+  pub pair : Option Pair
 
 abbrev pub scene_of : scenes.Scene → Scene
-scene_of sc = record { table = sc.table.now; list = sc.list.now; lines = sc.lines.now; line = sc.line; desk = sc.desk.now }
+scene_of sc = record { table = sc.table.now; list = sc.list.now; lines = sc.lines.now; line = sc.line; desk = sc.desk.now; pair = sc.pair }
 
 -- ---- the text of a reason
 
 abbrev pub reason_text : Scene → Reason → List ℕ
 reason_text sc (reasons.Carried x) = reduct_text sc.table sc.list sc.lines x.numbers x.answer x.others
 reason_text sc (reasons.Wide ns x others) = reduct_text sc.table sc.list sc.lines ns x others
-reason_text sc (reasons.OneHas x) = decided_text sc.table x
-reason_text sc (reasons.OneLacks x) = decided_text sc.table x
+reason_text sc (reasons.OneHas x) = decided_text sc.table sc.list x
+reason_text sc (reasons.OneLacks x) = decided_text sc.table sc.list x
 reason_text sc (reasons.ClassLeft x) = bounded_text sc.table x.question
 reason_text sc (reasons.WhollyWide system note) = texts.wide_text
 
@@ -52,11 +55,23 @@ AsksIn t (reasons.OneLacks x) = IsAskedIn t x.question
 AsksIn t (reasons.ClassLeft x) = IsAskedIn t x.question
 AsksIn t (reasons.WhollyWide system note) = Unit {0}
 
+-- the same of the first of a list
+abbrev pub first_text : Scene → List Reason → List ℕ
+first_text sc [] = []
+first_text sc (reason ∷ reasons) = reason_text sc reason
+
+abbrev pub AsksFirst : DecisionTable → List Reason → Type 0
+AsksFirst t [] = Unit {0}
+AsksFirst t (reason ∷ reasons) = AsksIn t reason
+
 -- ---- what is told of an answer
 
 -- it is the reason of an answer with this verdict over a list, as the greatest width gives it
 unfoldable pub IsReasonFor : DecisionTable → List Numbered → Question → Verdict → Reason → Type 0
 IsReasonFor t list q v reason = OfProof (λ c proof. IsReasonOf (most_of B127) t list q c reason) v
+
+abbrev pub IsReasonAlone : DecisionTable → List Numbered → Question → Verdict → List Reason → Type 0
+IsReasonAlone t list q v reasons = (reason : Reason) × IsReasonFor t list q v reason × (reasons ≡ reason ∷ [])
 
 -- the text of such a reason, which may be one of several
 abbrev pub HasReason : Scene → Question → Verdict → List ℕ → Type 0

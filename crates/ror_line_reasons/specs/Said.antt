@@ -1,5 +1,5 @@
 -- Which line said each statement that stands at a desk after lines that were kept.
-use Rattle.std.specs.Prelude.{ℕ, List, map, Option, Some, None, option_map, slice_get}
+use Rattle.std.specs.Prelude.{ℕ, List, map, Option, None, option_map, slice_get}
 use Rattle.ror_session.specs.declared.session.Line.{Line}
 use Rattle.ror_bench.specs.declared.kept.KeptLine.{KeptLine}
 use Rattle.ror_roll.specs.declared.roll.Entry.{Entry}

@@ -15,7 +15,7 @@ use crate::paragraph::paragraph;
 use crate::scene::Scene;
 use ror_pages::{write_count, write_line};
 use ror_proof::{Answer, Verdict};
-use ror_statement::{Conclusion, Property, Question, QuestionKind, kind_of};
+use ror_statement::{Conclusion, Pair, Property, Question, QuestionKind, kind_of};
 use ror_warm::Engine;
 use std::alloc::{AllocError, Global};
 
@@ -55,7 +55,7 @@ fn told_all(
     let mut left = MOST_SHOWN;
     'answers: for k in 0..answers.len() {
         let answer = &answers[k];
-        let is_shown = is_shown(answers.len(), left, answer);
+        let is_shown = is_shown(scene.pair, answers.len(), left, answer);
         let told = told_where(alloc, engine, scene, answer, is_shown)?;
         text.extend_from_slice(told.as_slice())?;
         left = left_with(left, answer);
@@ -84,10 +84,29 @@ fn told_where(
 }
 
 /// Whether the reason of an answer is shown, of so many answers, where so many that statements carry may still be.
-fn is_shown(count: usize, left: usize, answer: &Answer) -> bool
-    ensures { result ≡ spec.is_shown count left answer.now }
+fn is_shown(pair: Option<Pair>, count: usize, left: usize, answer: &Answer) -> bool
+    ensures { result ≡ spec.is_shown pair count left answer.now }
 {
-    count <= MOST_SHOWN || (left > 0 && is_carried(answer))
+    match pair {
+        Some(pair) => is_between(pair, &answer.question),
+        None => count <= MOST_SHOWN || (left > 0 && is_carried(answer)),
+    }
+}
+
+/// Whether a question compares these two alternatives.
+fn is_between(pair: Pair, question: &Question) -> bool
+    ensures { result ≡ spec.is_between pair question.now }
+{
+    match question {
+        Question::Necessary(a, b) | Question::Possible(a, b) => are_of(pair, *a, *b),
+        _ => false,
+    }
+}
+
+fn are_of(pair: Pair, a: usize, b: usize) -> bool
+    ensures { result ≡ spec.are_of pair a b }
+{
+    (a == pair.first && b == pair.second) || (a == pair.second && b == pair.first)
 }
 
 /// How many may still be shown behind an answer.
@@ -125,11 +144,11 @@ fn rests_on_part(question: &Question, conclusion: Conclusion) -> bool
     }
 }
 
-/// Adds how many of the answers statements carry, where not all reasons are shown.
+/// Adds how many of the answers statements carry, where all are meant and not all reasons are shown.
 fn write_rest(text: &mut Vec<u8>, scene: &Scene<'_>, answers: &[Answer]) -> Result<(), AllocError>
     ensures { OnOk result (text.new.items ≡ text.old.items ++ spec.rest_text (scene_of scene.now) answers.now) }
 {
-    if answers.len() <= MOST_SHOWN {
+    if scene.pair.is_some() || answers.len() <= MOST_SHOWN {
         return Ok(());
     }
     write_counts(text, scene, carried_among(answers))

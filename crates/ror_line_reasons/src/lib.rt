@@ -10,8 +10,8 @@
 //!      1  prefer c10 c14                              line 1, counts once
 //!      4  stronger c01 c09 c10 c14                    line 5, counts once
 //!   none of them can be spared:
-//!      without 1: by some value function c09 is better than c01 (1 to 0 of 4)
-//!      without 4: by some value function c09 is better than c01 (7 to 6 of 12)
+//!      without 1: by some value function c09 is better than c01 (2 to 1 of 3)
+//!      without 4: by some value function c09 is better than c01 (3 to 2 of 3)
 //!   this is one part of the statements that carries the answer, and there may be others
 //! ```
 #![tactic(auto)]

@@ -18,14 +18,14 @@ use ror_bench::KeptLine;
 use ror_proof::Answer;
 use ror_report::Body;
 use ror_session::{Line, Session};
-use ror_statement::{MOST_STATEMENTS, Numbered};
+use ror_statement::{MOST_STATEMENTS, Numbered, Pair};
 use ror_table::Table;
 use ror_text::Text;
 use ror_warm::Engine;
 use std::alloc::{AllocError, Global};
 
-/// The reasons of the answers to the kept lines, of those with what stood. So many statements came with the table's file; of each
-/// line at the desk of one that is answered, up to it, something is kept.
+/// The reasons of the answers to the kept lines, of those with what stood: of all answers, or of those that compare two alternatives. So
+/// many statements came with the table's file; of each line at the desk of one that is answered, up to it, something is kept.
 ///
 /// # Errors
 ///
@@ -36,10 +36,11 @@ pub fn line_reasons(
     session: &Session,
     opening: usize,
     kept: &[KeptLine],
+    pair: Option<Pair>,
 ) -> Result<Vec<u8>, AllocError>
     requires few { opening ≤ MOST_STATEMENTS }
     requires ready { AllByRecursion (IsReady table.now) kept.now }
-    ensures { IfOk result (λ text. spec.AreLines table.now session.now opening kept.now (length kept.now) text.items) }
+    ensures { IfOk result (λ text. spec.AreLines pair table.now session.now opening kept.now (length kept.now) text.items) }
 {
     let mut engine = Engine::new(alloc);
     let mut text = Vec::new(alloc);
@@ -51,6 +52,7 @@ pub fn line_reasons(
             table,
             session,
             opening,
+            pair,
             &kept[..k],
             line,
         )?;
@@ -66,12 +68,13 @@ fn section(
     table: &Table,
     session: &Session,
     opening: usize,
+    pair: Option<Pair>,
     before: &[KeptLine],
     line: &KeptLine,
 ) -> Result<Vec<u8>, AllocError>
     requires few { opening ≤ MOST_STATEMENTS }
     requires ready { IsReady table.now line.now }
-    ensures { IfOk result (λ text. spec.IsSection table.now session.now opening before.now line.now
+    ensures { IfOk result (λ text. spec.IsSection pair table.now session.now opening before.now line.now
         line.now.standing line.now.block.body text.items) }
 {
     match (&line.standing, &line.block.body) {
@@ -81,6 +84,7 @@ fn section(
             table,
             session,
             opening,
+            pair,
             before,
             line,
             list.as_slice(),
@@ -97,6 +101,7 @@ fn answered(
     table: &Table,
     session: &Session,
     opening: usize,
+    pair: Option<Pair>,
     before: &[KeptLine],
     line: &KeptLine,
     list: &[Numbered],
@@ -106,7 +111,7 @@ fn answered(
     requires lawful { IsLawfulIn table.now (statements_in list.now) }
     requires rising { IsStrictlyIncreasing (numbers_in list.now) }
     requires sound { AllByRecursion (IsSoundAnswer table.now (statements_in list.now)) answers.now }
-    ensures { IfOk result (λ text. AreReasons (spec.scene_at table.now session.now opening before.now line.now list.now)
+    ensures { IfOk result (λ text. AreReasons (spec.scene_at pair table.now session.now opening before.now line.now list.now)
         answers.now text.items) }
 {
     let lines = session.lines.as_slice();
@@ -118,6 +123,7 @@ fn answered(
         lines: said.as_slice(),
         line: line.block.line,
         desk: desk_at(session, line.place),
+        pair,
     };
     reasons_of(alloc, engine, &scene, answers)
 }

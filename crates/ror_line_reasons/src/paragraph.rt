@@ -1,6 +1,6 @@
 //! The reason of one answer.
 
-ghost use Rattle.std.specs.Prelude.{◌≡◌, ◌++◌, IfOk, OnOk};
+ghost use Rattle.std.specs.Prelude.{◌≡◌, [], ◌∷◌, ◌++◌, IfOk, OnOk};
 ghost use Rattle.std.specs.List.Sorted.{IsStrictlyIncreasing};
 ghost use Rattle.ror_statement.specs.Statements.{numbers_in, statements_in};
 ghost use Rattle.ror_value.specs.Over.{IsLawfulIn, IsAskedIn};
@@ -109,19 +109,48 @@ fn reason_of(
     requires proved { IsProvedAnswer scene.now.table.now (statements_in scene.now.list.now) answer.now.question answer.now }
     ensures { IfOk result (λ told. spec.HasReason (scene_of scene.now) answer.now.question answer.now.verdict told.items) }
 {
-    let reason = reason_over(alloc, engine, scene.table, scene.list, answer)?;
-    told_by(alloc, scene, reason)
+    let reasons = reasons_over(alloc, engine, scene.table, scene.list, answer)?;
+    first_text(alloc, scene, reasons.as_slice())
 }
 
-/// The text of a reason, which isn't wanted any more.
-fn told_by(alloc: Global, scene: &Scene<'_>, reason: Reason) -> Result<Vec<u8>, AllocError>
-    requires { spec.AsksIn scene.now.table.now reason }
-    ensures { IfOk result (λ text. text.items ≡ spec.reason_text (scene_of scene.now) reason) }
+/// The text of the first of these.
+fn first_text(alloc: Global, scene: &Scene<'_>, reasons: &[Reason]) -> Result<Vec<u8>, AllocError>
+    requires lawful { IsLawfulIn scene.now.table.now (statements_in scene.now.list.now) }
+    requires asked { spec.AsksFirst scene.now.table.now reasons.now }
+    ensures { IfOk result (λ text. text.items ≡ spec.first_text (scene_of scene.now) reasons.now) }
 {
-    reason_text(alloc, scene, &reason)
+    match reasons {
+        [reason, ..] => reason_text(alloc, scene, reason),
+        [] => Ok(Vec::new(alloc)),
+    }
 }
 
-/// Why an answer over a list is what it is.
+/// Why an answer over a list is what it is, alone in a list.
+fn reasons_over(
+    alloc: Global,
+    engine: &mut Engine,
+    table: &Table,
+    list: &[Numbered],
+    answer: &Answer,
+) -> Result<Vec<Reason>, AllocError>
+    requires lawful { IsLawfulIn table.now (statements_in list.now) }
+    requires rising { IsStrictlyIncreasing (numbers_in list.now) }
+    requires asked { IsAskedIn table.now answer.now.question }
+    requires proved { IsProvedAnswer table.now (statements_in list.now) answer.now.question answer.now }
+    ensures { IfOk result (λ reasons. spec.IsReasonAlone table.now list.now answer.now.question answer.now.verdict reasons.items) }
+{
+    let reason = reason_over(alloc, engine, table, list, answer)?;
+    alone(alloc, reason)
+}
+
+fn alone(alloc: Global, reason: Reason) -> Result<Vec<Reason>, AllocError>
+    ensures { IfOk result (λ reasons. reasons.items ≡ reason ∷ []) }
+{
+    let mut reasons = Vec::new(alloc);
+    reasons.push(reason)?;
+    Ok(reasons)
+}
+
 fn reason_over(
     alloc: Global,
     engine: &mut Engine,
@@ -140,7 +169,8 @@ fn reason_over(
 
 /// The text of a reason.
 fn reason_text(alloc: Global, scene: &Scene<'_>, reason: &Reason) -> Result<Vec<u8>, AllocError>
-    requires { spec.AsksIn scene.now.table.now reason.now }
+    requires lawful { IsLawfulIn scene.now.table.now (statements_in scene.now.list.now) }
+    requires asked { spec.AsksIn scene.now.table.now reason.now }
     ensures { IfOk result (λ text. text.items ≡ spec.reason_text (scene_of scene.now) reason.now) }
 {
     let mut text = Vec::new(alloc);
@@ -154,7 +184,8 @@ fn write_reason(
     scene: &Scene<'_>,
     reason: &Reason,
 ) -> Result<(), AllocError>
-    requires { spec.AsksIn scene.now.table.now reason.now }
+    requires lawful { IsLawfulIn scene.now.table.now (statements_in scene.now.list.now) }
+    requires asked { spec.AsksIn scene.now.table.now reason.now }
     ensures { OnOk result (text.new.items ≡ text.old.items ++ spec.reason_text (scene_of scene.now) reason.now) }
 {
     match reason {
@@ -182,8 +213,8 @@ fn write_reason(
             answer,
             others.as_slice(),
         ),
-        Reason::OneHas(answer) => write_decided(alloc, text, scene.table, answer),
-        Reason::OneLacks(answer) => write_decided(alloc, text, scene.table, answer),
+        Reason::OneHas(answer) => write_decided(alloc, text, scene.table, scene.list, answer),
+        Reason::OneLacks(answer) => write_decided(alloc, text, scene.table, scene.list, answer),
         Reason::ClassLeft(answer) => write_bounded(alloc, text, scene.table, &answer.question),
         Reason::WhollyWide { .. } => write_wide(text),
     }

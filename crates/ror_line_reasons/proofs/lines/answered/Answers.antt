@@ -17,7 +17,7 @@ returns c =
     let lines = c.as_slice-lines.ensures in
     let desk = c.desk_of-desk.ensures ∙ ap (λ (ls : List Line). desk_of ls place) lines in
     let said = c.as_slice.ensures.value ∙ c.in_ok-said.ensures ∙ ap (λ (ls : List Line). said_lines ls opening c.desk_of-desk.result before) lines ∙ ap (λ (d : ℕ). said_lines s.lines opening d before) desk in
-    let same = same_scene c.args.table.now c.args.list.now _ _ c.args.line.now.block.line _ _ said c.desk_at.ensures in
+    let same = same_scene c.args.table.now c.args.list.now _ _ c.args.line.now.block.line _ _ c.args.pair said c.desk_at.ensures in
     IfOk-weaker c.reasons_of.result _ _
     (λ text h. subst (λ (sc : Scene). AreReasons sc c.args.answers.now text.items) same h)
     c.reasons_of.ensures

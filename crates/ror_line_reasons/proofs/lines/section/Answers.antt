@@ -10,7 +10,7 @@ returns-in-Some-Answers c =
     let stood : line.standing ≡ Some c.as_slice.result.now = search rules in
     let body : line.block.body ≡ Answers c.as_slice-in-Some-Answers.result.now = search rules in
     IfOk-weaker c.answered.result _ _
-    (λ text h. section_is c.args.table.now c.args.session.now c.args.opening c.args.before.now line c.as_slice.result.now c.as_slice-in-Some-Answers.result.now text.items line.standing line.block.body stood body h)
+    (λ text h. section_is c.args.pair c.args.table.now c.args.session.now c.args.opening c.args.before.now line c.as_slice.result.now c.as_slice-in-Some-Answers.result.now text.items line.standing line.block.body stood body h)
     c.answered.ensures
 
 pub answered-requires-clause-rising : goal.answered-requires-clause-rising
