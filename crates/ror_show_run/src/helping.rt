@@ -5,7 +5,7 @@ use ror_advice::{
 };
 use ror_bench::{Reason, Rejection};
 use ror_frame::Status;
-use ror_show_words::{Asked, read_words, usage};
+use ror_show_words::{Asked, PageWords, read_words, usage};
 use std::alloc::{AllocError, Global};
 
 /// The names of the files that words ask for, in the order in which they are fetched; empty ones behind the last.
@@ -36,16 +36,21 @@ pub(crate) fn help_on(
 
 fn names_of<'a>(asked: &Asked<'a>) -> Names<'a> {
     match asked {
-        Asked::OfReport(_, words) | Asked::OfReasons(words) => Names {
-            table: words.table,
-            session: words.session,
-            report: words.report,
-        },
+        Asked::OfReport(_, words) => names_in(words),
+        Asked::OfReasons(words) => names_in(&words.page),
         Asked::OfFiles(words) => Names {
             table: words.table,
             session: words.session.unwrap_or(""),
             report: "",
         },
+    }
+}
+
+fn names_in<'a>(words: &PageWords<'a>) -> Names<'a> {
+    Names {
+        table: words.table,
+        session: words.session,
+        report: words.report,
     }
 }
 

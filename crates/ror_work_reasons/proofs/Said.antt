@@ -30,12 +30,10 @@ use Rattle.ror_bench.specs.declared.kept.KeptLine.{KeptLine}
 use Rattle.ror_bench.proofs.ReportProofs.{number_cases, same_number, other_number}
 use Rattle.ror_frame.specs.Inputs.{bench_for}
 use Rattle.ror_line_reasons.specs.Lines.{desk_of}
-use Rattle.ror_roll.specs.declared.survivor.Survivor.{Survivor}
 use Rattle.ror_roll.specs.Laws.{stated_at}
 use Rattle.ror_roll.specs.Roll.{survivors_with, tally_of, roll_of}
 use Rattle.ror_roll.specs.Shown.{shown}
 use Rattle.ror_roll.specs.Steps.{turn_at, kept_turn, kept_turns, turns_from}
-use Rattle.ror_roll.specs.Turns.{Turn}
 use Rattle.ror_roll.proofs.StandLemmas.{place-of}
 use Rattle.ror_roll.proofs.LawProofs.{shows_what_stands}
 use Rattle.ror_show_words.specs.Words.{PageWords}
@@ -52,7 +50,7 @@ abbrev pub Asks : Command → Type 0
 Asks (Ask asked) = Unit {0}
 Asks command = ⊥
 
-left_so : (t : DecisionTable) (r : Revisions) (command : Command) (body : Body) (opening place : ℕ) (list : List Survivor) → Asks command → IsBodyOf proved_unless_wide t r command body → survivors_with opening list (record { place = place; body = body }) ≡ list
+left_so : (t : DecisionTable) (r : Revisions) (command : Command) (body : Body) (opening place : ℕ) (list : _) → Asks command → IsBodyOf proved_unless_wide t r command body → survivors_with opening list (record { place = place; body = body }) ≡ list
 left_so t r command body opening place list asks (refused fault first is) = rw is refl
 left_so t r (Ask asked) body opening place list asks (taken passes is) = rw is.0 refl
 left_so t r (State named) body opening place list asks (taken passes is) = absurd asks
@@ -62,9 +60,6 @@ left_so t r Repair body opening place list asks (taken passes is) = absurd asks
 left_so t r Undo body opening place list asks (taken passes is) = absurd asks
 
 module _ (all : List Line) (desk opening : ℕ) where
-  abbrev on : List Survivor → List Turn → List Survivor
-  on list turns = fold (survivors_with opening) list turns
-
   -- of a line of the desk something is kept, or it asks
   abbrev pub IsEnough : List Keep → ℕ → Line → Type 0
   IsEnough keep place line = keep_at keep place ≡ keeping.Nothing → line.desk ≡ desk → Asks line.command
@@ -75,18 +70,18 @@ module _ (all : List Line) (desk opening : ℕ) where
   kept_turn_of keeping.Standing place list line block some at = append-nil (turn_at desk place block.body (slice_get all place)) ∙ ap (turn_at desk place block.body) at
 
   -- the turn of a line of which nothing is kept
-  idle : (t : DecisionTable) (r : Revisions) (place : ℕ) (line : Line) (block : Block) (list : List Survivor) → (line.desk ≡ desk → Asks line.command) → IsBodyOf proved_unless_wide t r line.command block.body → list ≡ on list (turn_at desk place block.body (Some line))
+  idle : (t : DecisionTable) (r : Revisions) (place : ℕ) (line : Line) (block : Block) (list : _) → (line.desk ≡ desk → Asks line.command) → IsBodyOf proved_unless_wide t r line.command block.body → list ≡ fold (survivors_with opening) list (turn_at desk place block.body (Some line))
   idle t r place line block list asks body = elim (number_cases line.desk desk) [
     | inl own ↦ rw (same_number line.desk desk own) (sym (left_so t r line.command block.body opening place list (asks own) body))
     | inr other ↦ rw (other_number line.desk desk other) refl
   ]
 
-  one_turn : (t : DecisionTable) (r : Revisions) (so : Keep) (place : ℕ) (stood : Option (List Numbered)) (line : Line) (block : Block) (list : List Survivor) → slice_get all place ≡ Some line → (so ≡ keeping.Nothing → line.desk ≡ desk → Asks line.command) → IsBodyOf proved_unless_wide t r line.command block.body → on list (kept_turns all desk (kept_of place so stood block)) ≡ on list (turn_at desk place block.body (Some line))
+  one_turn : (t : DecisionTable) (r : Revisions) (so : Keep) (place : ℕ) (stood : Option (List Numbered)) (line : Line) (block : Block) (list : _) → slice_get all place ≡ Some line → (so ≡ keeping.Nothing → line.desk ≡ desk → Asks line.command) → IsBodyOf proved_unless_wide t r line.command block.body → fold (survivors_with opening) list (kept_turns all desk (kept_of place so stood block)) ≡ fold (survivors_with opening) list (turn_at desk place block.body (Some line))
   one_turn t r keeping.Nothing place stood line block list at enough body = idle t r place line block list (enough refl) body
-  one_turn t r keeping.Block place stood line block list at enough body = ap (on list) (kept_turn_of keeping.Block place stood line block (λ is. absurd cc) at)
-  one_turn t r keeping.Standing place stood line block list at enough body = ap (on list) (kept_turn_of keeping.Standing place stood line block (λ is. absurd cc) at)
+  one_turn t r keeping.Block place stood line block list at enough body = ap (fold (survivors_with opening) list) (kept_turn_of keeping.Block place stood line block (λ is. absurd cc) at)
+  one_turn t r keeping.Standing place stood line block list at enough body = ap (fold (survivors_with opening) list) (kept_turn_of keeping.Standing place stood line block (λ is. absurd cc) at)
 
-  same_on : (bench : Workbench) (keep : List Keep) (before : List (Line × Block)) (lines after : List Line) (blocks : List Block) (list : List Survivor) → drop (length before) all ≡ lines ++ after → ((k : ℕ) (line : Line) → slice_get lines k ≡ Some line → IsEnough keep (length before + k) line) → EachHolds (IsProvedBlock bench.table) bench before lines blocks → on list (kept_turns all desk (kept_from bench keep before lines blocks)) ≡ on list (turns_from desk (length before) lines blocks)
+  same_on : (bench : Workbench) (keep : List Keep) (before : List (Line × Block)) (lines after : List Line) (blocks : List Block) (list : _) → drop (length before) all ≡ lines ++ after → ((k : ℕ) (line : Line) → slice_get lines k ≡ Some line → IsEnough keep (length before + k) line) → EachHolds (IsProvedBlock bench.table) bench before lines blocks → fold (survivors_with opening) list (kept_turns all desk (kept_from bench keep before lines blocks)) ≡ fold (survivors_with opening) list (turns_from desk (length before) lines blocks)
   same_on bench keep before [] after [] list at enough each = refl
   same_on bench keep before [] after (block ∷ blocks) list at enough each = absurd each
   same_on bench keep before (line ∷ lines) after [] list at enough each = absurd each
@@ -98,12 +93,12 @@ module _ (all : List Line) (desk opening : ℕ) where
       let so = keep_at keep place in
       let first : so ≡ keeping.Nothing → line.desk ≡ desk → Asks line.command = λ none own. enough 0 line refl (ap (keep_at keep) (omega arith) ∙ none) own in
       let behind = kept_from bench keep (before ++ (line, block) ∷ []) lines blocks in
-      let rest = same_on bench keep (before ++ (line, block) ∷ []) lines after blocks (on list (turn_at desk place block.body (Some line))) next (λ k l there. λ none own. enough (suc k) l there (ap (keep_at keep) (omega (arith, longer)) ∙ none) own) each.1 in
-      ap (on list) (flat_map-append (kept_turn all desk) (kept_at bench keep before line block) behind)
+      let rest = same_on bench keep (before ++ (line, block) ∷ []) lines after blocks (fold (survivors_with opening) list (turn_at desk place block.body (Some line))) next (λ k l there. λ none own. enough (suc k) l there (ap (keep_at keep) (omega (arith, longer)) ∙ none) own) each.1 in
+      ap (fold (survivors_with opening) list) (flat_map-append (kept_turn all desk) (kept_at bench keep before line block) behind)
       ∙ fold-append (survivors_with opening) list (kept_turns all desk (kept_at bench keep before line block)) (kept_turns all desk behind)
-      ∙ ap (λ (l : List Survivor). on l (kept_turns all desk behind)) (one_turn bench.table (revisions_then bench before line.desk) so place (standing_for so (revisions_then bench before line.desk)) line block list here.0 first each.0.body)
+      ∙ ap (λ (l : _). fold (survivors_with opening) l (kept_turns all desk behind)) (one_turn bench.table (revisions_then bench before line.desk) so place (standing_for so (revisions_then bench before line.desk)) line block list here.0 first each.0.body)
       ∙ rest
-      ∙ ap (λ (n : ℕ). on (on list (turn_at desk place block.body (Some line))) (turns_from desk n lines blocks)) longer
+      ∙ ap (λ (n : ℕ). fold (survivors_with opening) (fold (survivors_with opening) list (turn_at desk place block.body (Some line))) (turns_from desk n lines blocks)) longer
       ∙ sym (fold-append (survivors_with opening) list (turn_at desk place block.body (Some line)) (turns_from desk (suc place) lines blocks))
 
 -- ---- which lines are kept with what stood
@@ -196,7 +191,7 @@ said_is_what_stood words i s bytes accepted k x list sound report is stood =
     let turns = same_on s.lines desk opening bench (keeps words s) [] front (line ∷ at.back) at.bodies [] at.lines_are (enough_before words s sound front at.back line at.lines_are kept) at.each in
     let shows = shows_what_stands bench desk front at.bodies (ap (λ (r : Revisions). r.surviving) fresh) at.each in
     let opened = subst (λ (r : Revisions). map (shown (stated_at i.table front) r.opening) (roll_of (length r.opening) (turns_from desk 0 front at.bodies)).entries ≡ map Some (standing (revisions_then bench (with_blocks front at.bodies) desk))) fresh shows in
-    let entries : (roll_of opening (kept_turns s.lines desk (kept_from bench (keeps words s) [] front at.bodies))).entries ≡ (roll_of opening (turns_from desk 0 front at.bodies)).entries = ap (λ (l : List Survivor). (tally_of opening l).entries) turns in
+    let entries : (roll_of opening (kept_turns s.lines desk (kept_from bench (keeps words s) [] front at.bodies))).entries ≡ (roll_of opening (turns_from desk 0 front at.bodies)).entries = ap (λ (l : _). (tally_of opening l).entries) turns in
     let at_desk = subst (λ (ks : List KeptLine). (roll_of opening (kept_turns s.lines desk ks)).entries ≡ (roll_of opening (turns_from desk 0 front at.bodies)).entries) (sym at.taken) entries in
     let named = subst (λ (d : ℕ). (roll_of opening (kept_turns s.lines d (take k (kept_lines words i s report.blocks)))).entries ≡ (roll_of opening (turns_from desk 0 front at.bodies)).entries) (sym own) at_desk in
     ap (map (shown (stated_at i.table (take x.place s.lines)) i.opening)) named

@@ -1,6 +1,6 @@
 //! The course of the page: the three files are fetched in order, and the reasons of the report's answers are written.
 
-ghost use Rattle.std.specs.Prelude.{◌≡◌, ◌≤◌, [], ◌∷◌, length, IfOk};
+ghost use Rattle.std.specs.Prelude.{◌≡◌, ◌≤◌, [], ◌∷◌, length, IfOk, option_map};
 ghost use Rattle.std.specs.List.{AllByRecursion};
 ghost use Rattle.ror_value.specs.declared.input.Input.{Input};
 ghost use Rattle.ror_value.specs.Over.{IsLawfulIn};
@@ -8,7 +8,7 @@ ghost use Rattle.ror_bench.specs.Bench.{HoldTheSame, LeavesNumbers};
 ghost use Rattle.ror_bench.specs.Reports.{NamesADesk};
 ghost use Rattle.ror_line_reasons.specs.Laws.{IsReady};
 ghost use Rattle.ror_show_words.specs.declared.words.Form.TheVariants.{Text};
-ghost use Rattle.ror_show_words.specs.Named.{page_words_of};
+ghost use Rattle.ror_show_words.specs.Named.{page_words_of, pair_words_of, reason_words_of};
 ghost use Rattle.ror_frame.specs.States.{shelf_state, sink_state};
 ghost use Rattle.ror_frame.specs.Courses.{IsFetch, ReadAs, IsWork, WritesDue};
 ghost use Rattle.ror_frame.specs.Inputs.{bench_for};
@@ -24,7 +24,7 @@ use ror_frame::{Refusal, Stop, fetch_session, fetch_whole};
 use ror_io::{Shelf, Sink};
 use ror_session::Session;
 use ror_sheet::Named;
-use ror_show_words::{Form, PageWords};
+use ror_show_words::{Form, PageWords, PairWords, ReasonWords};
 use ror_statement::MOST_STATEMENTS;
 use ror_table::{Table, TableFault, TableKind};
 use ror_text::Items;
@@ -44,11 +44,11 @@ use std::alloc::{AllocError, Global};
 /// The first file whose bytes are refused is, and what is at fault in it; or a fault of the outside.
 pub fn show_reasons<F: Shelf, O: Sink>(
     alloc: Global,
-    words: &PageWords<'_>,
+    words: &ReasonWords<'_>,
     shelf: &mut F,
     out: &mut O,
 ) -> Result<bool, Stop>
-    ensures { IsWork 0 (reasons_chore (page_words_of words.now)).files (reasons_chore (page_words_of words.now)).course
+    ensures { IsWork 0 (reasons_chore (reason_words_of words.now)).files (reasons_chore (reason_words_of words.now)).course
         (shelf_state (F.told shelf.old) (F.faults shelf.old) (F.fetch_count shelf.old))
         (shelf_state (F.told shelf.new) (F.faults shelf.new) (F.fetch_count shelf.new))
         (sink_state (O.written out.old) (O.faults out.old))
@@ -58,38 +58,40 @@ pub fn show_reasons<F: Shelf, O: Sink>(
         kind: TableKind::TooLong,
         line: 0,
     });
-    let file = fetch_whole(alloc, words.table, MOST_TEXT_BYTES, too_long, shelf)?;
-    let input = read_table(alloc, file.as_slice(), words.best_first)?;
+    let page = &words.page;
+    let file = fetch_whole(alloc, page.table, MOST_TEXT_BYTES, too_long, shelf)?;
+    let input = read_table(alloc, file.as_slice(), page.best_first)?;
     show_report(alloc, words, file.as_slice(), input, shelf, out)
 }
 
 /// Fetches session and report, once the table was read of its file, and writes the reasons.
 fn show_report<F: Shelf, O: Sink>(
     alloc: Global,
-    words: &PageWords<'_>,
+    words: &ReasonWords<'_>,
     file: &[u8],
     input: Input,
     shelf: &mut F,
     out: &mut O,
 ) -> Result<bool, Stop>
     requires lawful { IsLawfulIn input.table input.opening }
-    ensures { IsWork 1 (words.now.session.now ∷ words.now.report.now ∷ [])
-        (session_course (page_words_of words.now) file.now input)
+    ensures { IsWork 1 (words.now.page.session.now ∷ words.now.page.report.now ∷ [])
+        (session_course (reason_words_of words.now) file.now input)
         (shelf_state (F.told shelf.old) (F.faults shelf.old) (F.fetch_count shelf.old))
         (shelf_state (F.told shelf.new) (F.faults shelf.new) (F.fetch_count shelf.new))
         (sink_state (O.written out.old) (O.faults out.old))
         (sink_state (O.written out.new) (O.faults out.new)) result }
 {
-    let names = names_in(alloc, words.best_first, file, &input.table);
+    let page = &words.page;
+    let names = names_in(alloc, page.best_first, file, &input.table);
     let files = FileNames {
-        table: words.table,
-        session: words.session,
-        best_first: words.best_first,
+        table: page.table,
+        session: page.session,
+        best_first: page.best_first,
     };
     let session = fetch_session(alloc, &files, shelf)?;
     let opening = input.opening.len();
     let mut bench = Bench::new(alloc, input, session.desks.len() as u32)?;
-    let kept = fetch_kept(alloc, words, shelf, &mut bench, &session)?;
+    let kept = fetch_kept(alloc, page, shelf, &mut bench, &session)?;
     let kept = kept.as_slice();
     write_reasons(
         alloc,
@@ -98,6 +100,7 @@ fn show_report<F: Shelf, O: Sink>(
         &session,
         opening,
         kept,
+        &words.pair,
         names,
         out,
     )
@@ -127,17 +130,18 @@ fn write_reasons<O: Sink>(
     session: &Session,
     opening: usize,
     kept: &[KeptLine],
+    pair: &Option<PairWords<'_>>,
     names: Result<Vec<u8>, AllocError>,
     out: &mut O,
 ) -> Result<bool, Stop>
     requires few { opening ≤ MOST_STATEMENTS }
     requires ready { AllByRecursion (IsReady table.now) kept.now }
     requires names { IfOk names (λ names. AreNames Text file.now names.items) }
-    ensures { WritesDue (page_output file.now table.now session.now opening kept.now (Unit {0}))
+    ensures { WritesDue (page_output (option_map pair_words_of pair.now) file.now table.now session.now opening kept.now (Unit {0}))
         (sink_state (O.written out.old) (O.faults out.old))
         (sink_state (O.written out.new) (O.faults out.new)) result }
 {
-    let page = page_text(alloc, table, session, opening, kept)?;
+    let page = page_text(alloc, table, session, opening, kept, pair)?;
     write_shown(alloc, Form::Text, file, page.as_slice(), names, out)
 }
 

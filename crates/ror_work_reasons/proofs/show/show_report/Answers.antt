@@ -1,4 +1,4 @@
-use Rattle.std.proofs.Common.{rules, ◌≡◌, ℕ, List, length, refl, sym, subst, ◌∙◌}
+use Rattle.std.proofs.Common.{rules, ◌≡◌, ℕ, List, length, option_map, refl, sym, subst, ◌∙◌}
 use Rattle.std.specs.List.{AllByRecursion}
 use Rattle.std.proofs.lemmas.Result.{err_from_is_err_and}
 use Rattle.ror_table.specs.Table.{DecisionTable}
@@ -12,7 +12,7 @@ use Rattle.ror_frame.specs.Inputs.{bench_for}
 use Rattle.ror_frame.specs.States.{sink_state}
 use Rattle.ror_frame.proofs.CourseLemmas.{stopped, went_on, finished, ran_short}
 use Rattle.ror_frame.proofs.Desks.{numbers_left}
-use Rattle.ror_show_words.specs.Named.{page_words_of}
+use Rattle.ror_show_words.specs.Named.{page_words_of, pair_words_of}
 use Rattle.ror_work_reasons.specs.Showing.{page_output}
 use Rattle.ror_work_reasons.proofs.Showing.{report_holds, kept_ready, page_holds}
 use Rattle.ror_work_reasons.proofs.show.show_report.Goals as goal
@@ -49,7 +49,7 @@ write_reasons-requires-clause-ready g c =
     let held : HoldTheSame c.in_ok-bench.bench (bench_for i s) = search rules in
     let third = c.in_ok-kept.ensures.fetch i held in
     let table : c.table.result.now ≡ i.table = c.table.ensures.value ∙ c.in_ok-kept.ensures.table ∙ held.0 in
-    let ready = kept_ready (page_words_of c.args.words.now) i s third.fetched.1 c.in_ok-kept.kept c.requires.lawful third.fetched.3 in
+    let ready = kept_ready (page_words_of c.args.words.now.page) i s third.fetched.1 c.in_ok-kept.kept c.requires.lawful third.fetched.3 in
     subst (λ (t : DecisionTable). AllByRecursion (IsReady t) c.as_slice-kept.result.now) (sym table) (subst (AllByRecursion (IsReady i.table)) (sym c.as_slice-kept.ensures) ready)
 
 pub returns : goal.returns
@@ -61,14 +61,15 @@ returns g c =
     let bytes = third.fetched.1 in
     let kept = c.in_ok-kept.kept in
     let file = c.args.file.now in
-    let words = page_words_of c.args.words.now in
+    let words = page_words_of c.args.words.now.page in
+    let named = option_map pair_words_of c.args.words.now.pair in
     let opening = length i.opening in
     let table : c.table.result.now ≡ i.table = c.table.ensures.value ∙ c.in_ok-kept.ensures.table ∙ held.0 in
     let before = sink_state (g.O.Sink.written c.args.out.now) (g.O.Sink.faults c.args.out.now) in
     let now = sink_state (g.O.Sink.written c.write_reasons.new.out) (g.O.Sink.faults c.write_reasons.new.out) in
-    let of_kept = subst (λ (xs : List KeptLine). WritesDue (page_output file c.table.result.now s c.len-opening.result xs (Unit {0})) before now c.write_reasons.result) c.as_slice-kept.ensures c.write_reasons.ensures in
-    let over_table = subst (λ (t : DecisionTable). WritesDue (page_output file t s c.len-opening.result kept (Unit {0})) before now c.write_reasons.result) table of_kept in
-    let written = subst (λ (n : ℕ). WritesDue (page_output file i.table s n kept (Unit {0})) before now c.write_reasons.result) c.len-opening.ensures over_table in
+    let of_kept = subst (λ (xs : List KeptLine). WritesDue (page_output named file c.table.result.now s c.len-opening.result xs (Unit {0})) before now c.write_reasons.result) c.as_slice-kept.ensures c.write_reasons.ensures in
+    let over_table = subst (λ (t : DecisionTable). WritesDue (page_output named file t s c.len-opening.result kept (Unit {0})) before now c.write_reasons.result) table of_kept in
+    let written = subst (λ (n : ℕ). WritesDue (page_output named file i.table s n kept (Unit {0})) before now c.write_reasons.result) c.len-opening.ensures over_table in
     let holds = report_holds words i s bytes kept c.requires.lawful third.fetched.3 in
-    let due = page_holds file i.table s opening kept ((accepted : Accepted) × IsAcceptedReport (bench_for i s) s.lines bytes accepted) _ _ c.write_reasons.result holds written in
+    let due = page_holds named file i.table s opening kept ((accepted : Accepted) × IsAcceptedReport (bench_for i s) s.lines bytes accepted) _ _ c.write_reasons.result holds written in
     went_on _ 1 _ _ _ _ _ _ _ _ _ _ _ _ c.in_ok-session.ensures.fetch (went_on _ 2 _ _ _ _ _ _ _ _ _ _ _ _ third (finished 3 _ _ _ _ _ due))
