@@ -1,0 +1,3 @@
+pub mod SpanLemmas
+pub mod Sufficing
+pub mod Systems

@@ -1,0 +1,4 @@
+pub mod Sums
+pub mod Spans
+pub mod Text
+pub mod Laws
