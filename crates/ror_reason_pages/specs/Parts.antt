@@ -1,12 +1,15 @@
--- The statements that carry an answer, each with the line that says it and how often it counts.
+-- The statements that carry an answer, each with the line that says it and how often it counts, and what they sum up to.
 use Rattle.std.specs.Prelude.{ℕ, ◌==◌, List, [], ◌∷◌, ◌++◌, codes, decimal, length, slice_get, Option, Some, None, if◌then◌else◌}
 use Rattle.std.specs.List.{filter, flat_map, range_with_len}
 use Rattle.std.specs.Option.{option_map_or}
 use Rattle.ror_statement.specs.declared.statement.Numbered.{Numbered}
+use Rattle.ror_statement.specs.declared.statement.Statement.{Statement}
 use Rattle.ror_statement.specs.declared.question.Question.{Question}
+use Rattle.ror_statement.specs.Statements.{statements_in}
 use Rattle.ror_table.specs.Table.{DecisionTable}
 use Rattle.ror_proof.specs.declared.answer.Verdict.{Verdict}
 use Rattle.ror_check.specs.Repair.{is_among}
+use Rattle.ror_monotonicity.specs.Text.{sum_text}
 use Rattle.ror_reason_pages.specs.declared.owners.Owners.{Owners}
 use Rattle.ror_sentences.specs.Words.{statement_text}
 use Rattle.ror_sentences.specs.Rows.{row_text}
@@ -48,6 +51,10 @@ said_text line weights = source_text line ++ codes ", counts " ++ times_text wei
 abbrev pub part_of : List ℕ → List Numbered → List Numbered
 part_of ns list = filter (λ x. is_among ns x) list
 
+-- what it states
+abbrev pub stated : List ℕ → List Numbered → List Statement
+stated ns list = statements_in (part_of ns list)
+
 unfoldable pub statement_row : DecisionTable → Option ℕ → Owners → Verdict → Numbered → List ℕ
 statement_row t line owners v x =
     row_text x.number (statement_text t x.statement) (said_text line (weights_of x.number owners v))
@@ -64,3 +71,8 @@ rows_by t list lines ns owners v = flat_map (row_at t list lines ns owners v) (r
 
 unfoldable pub rows_text : DecisionTable → List Numbered → List (Option ℕ) → List ℕ → Question → Verdict → List ℕ
 rows_text t list lines ns q v = rows_by t list lines ns (owners_of (part_of ns list) q) v
+
+-- ---- what they sum up to
+
+unfoldable pub part_sum : DecisionTable → List Numbered → List ℕ → Question → Verdict → List ℕ
+part_sum t list ns q v = sum_text t (stated ns list) q v

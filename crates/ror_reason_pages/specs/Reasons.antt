@@ -17,7 +17,7 @@ use Rattle.ror_sentences.specs.Rows.{line_text}
 use Rattle.ror_sentences.specs.Claims.{is_every, claim_of, counter_of, asked_text}
 use Rattle.ror_reason_pages.specs.Sides.{sides_text}
 use Rattle.ror_reason_pages.specs.Met.{met_text}
-use Rattle.ror_reason_pages.specs.Parts.{rows_text}
+use Rattle.ror_reason_pages.specs.Parts.{rows_text, part_sum}
 
 -- ---- where statements carry the answer
 
@@ -109,7 +109,7 @@ tail_text false ns = one_part
 
 abbrev pub carried_by : DecisionTable → List Numbered → List (Option ℕ) → Question → List ℕ → Verdict → List Answer → Bool → List ℕ
 carried_by t list lines q ns v others clashes = head_text t q clashes ++ rows_text t list lines ns q v
-    ++ needed_text t q clashes ns others ++ tail_text clashes ns
+    ++ part_sum t list ns q v ++ needed_text t q clashes ns others ++ tail_text clashes ns
 
 abbrev pub carried_text : DecisionTable → List Numbered → List (Option ℕ) → Question → List ℕ → Verdict → List Answer → List ℕ
 carried_text t list lines q ns v others = carried_by t list lines q ns v others (is_contradiction v)

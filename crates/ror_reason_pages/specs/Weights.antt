@@ -1,7 +1,7 @@
 -- How often each statement counts in a refutation: the multipliers of the rows that it gives.
 use Rattle.std.specs.Prelude.{ℕ, Bool, ◌==◌, ◌||◌, nat_lt, List, [], ◌∷◌, ◌++◌, length, slice_get, Option, Some, None, if◌then◌else◌, ℤ, unsigned_abs}
 use Rattle.std.specs.List.{flat_map, range_with_len}
-use Rattle.std.specs.Option.{option_map, option_map_or}
+use Rattle.std.specs.Option.{option_map_or}
 use Rattle.ror_integers.specs.Vectors.{entry}
 use Rattle.ror_statement.specs.declared.comparison.Relation.{Relation}
 use Rattle.ror_statement.specs.declared.comparison.Relation.TheVariants as relations
@@ -17,9 +17,8 @@ use Rattle.ror_statement.specs.Statements.{comparison_of, assignment_of, outrank
 use Rattle.ror_statement.specs.Questions.{kind_of, property_of}
 use Rattle.ror_proof.specs.declared.answer.Certificate.{Certificate}
 use Rattle.ror_proof.specs.declared.answer.Certificate.TheVariants as certificates
-use Rattle.ror_proof.specs.declared.answer.Proof.{Proof}
 use Rattle.ror_proof.specs.declared.answer.Verdict.{Verdict}
-use Rattle.ror_proof.specs.declared.answer.Verdict.TheVariants as verdicts
+use Rattle.ror_monotonicity.specs.Sums.{refutation}
 use Rattle.ror_reason_pages.specs.declared.owners.Owners.{Owners}
 
 -- ---- which statements give a row
@@ -113,15 +112,6 @@ weights_in_certificate n owners (certificates.Solution x) = []
 weights_in_certificate n owners (certificates.Multipliers m) =
     weights_in n owners.weak m.weak ++ weights_in n owners.strict m.strict
 
-abbrev pub first_part : Proof → Option Certificate
-first_part proof = option_map (λ x. x.body) (slice_get proof.parts 0)
-
--- the certificate that refutes: that of the base where there is a contradiction, and else that of the question's one system
-abbrev pub refutation : Verdict → Option Certificate
-refutation (verdicts.Contradiction proof) = Some proof.base
-refutation (verdicts.Yes proof) = first_part proof
-refutation (verdicts.No proof) = first_part proof
-refutation (verdicts.Wide system note) = None
-
+-- those of the certificate that refutes
 abbrev pub weights_of : ℕ → Owners → Verdict → List ℕ
 weights_of n owners v = option_map_or (weights_in_certificate n owners) (refutation v) []

@@ -2,12 +2,13 @@
 
 ghost use Rattle.std.specs.Prelude.{◌≡◌, ◌++◌, ◌==◌, IfOk, OnOk, length};
 ghost use Rattle.std.specs.List.{flat_map};
-ghost use Rattle.ror_value.specs.Over.{IsAskedIn};
+ghost use Rattle.ror_statement.specs.Statements.{statements_in};
+ghost use Rattle.ror_value.specs.Over.{IsLawfulIn, IsAskedIn};
 ghost use Rattle.ror_functions.specs.Text.{is_contradiction};
 ghost use Rattle.ror_sentences.specs.Words.{number};
 ghost use Rattle.ror_reason_pages.specs.Reasons as spec;
 
-use crate::parts::write_rows;
+use crate::parts::{write_part_sum, write_rows};
 use crate::sides::write_sides;
 use itoa::Buffer;
 use ror_proof::{Answer, Verdict};
@@ -28,7 +29,8 @@ pub(crate) fn write_carried(
     answer: &Answer,
     others: &[Answer],
 ) -> Result<(), AllocError>
-    requires { IsAskedIn table.now answer.now.question }
+    requires lawful { IsLawfulIn table.now (statements_in list.now) }
+    requires asked { IsAskedIn table.now answer.now.question }
     ensures { OnOk result (text.new.items ≡ text.old.items
         ++ spec.carried_text table.now list.now lines.now answer.now.question numbers.now answer.now.verdict others.now) }
 {
@@ -50,7 +52,8 @@ fn write_all(
     others: &[Answer],
     clashes: bool,
 ) -> Result<(), AllocError>
-    requires { IsAskedIn table.now answer.now.question }
+    requires lawful { IsLawfulIn table.now (statements_in list.now) }
+    requires asked { IsAskedIn table.now answer.now.question }
     ensures { OnOk result (text.new.items ≡ text.old.items
         ++ spec.carried_by table.now list.now lines.now answer.now.question numbers.now answer.now.verdict others.now clashes) }
 {
@@ -66,6 +69,7 @@ fn write_all(
         question,
         &answer.verdict,
     )?;
+    write_part_sum(alloc, text, table, list, numbers, question, &answer.verdict)?;
     write_needed(alloc, text, table, question, clashes, numbers, others)?;
     write_tail(alloc, text, clashes, numbers)
 }

@@ -11,6 +11,7 @@
 //!   c01 is at least as good as c09, whatever value function agrees with these statements:
 //!      1  prefer c10 c14                              line 1, counts once
 //!      4  stronger c01 c09 c10 c14                    line 5, counts once
+//!   summed up they say so, and nothing else is used
 //!   none of them can be spared:
 //!      without 1: by some value function c09 is better than c01 (1 to 0 of 4)
 //!      without 4: by some value function c09 is better than c01 (7 to 6 of 12)

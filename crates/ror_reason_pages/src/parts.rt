@@ -1,16 +1,19 @@
-//! The statements that carry an answer, each with the line that says it and how often it counts.
+//! The statements that carry an answer, each with the line that says it and how often it counts, and what they sum up to.
 
 ghost use Rattle.std.specs.Prelude.{◌≡◌, ◌++◌, nat_eq, option_copied, IfOk, OnOk};
 ghost use Rattle.std.specs.List.{flat_map};
 ghost use Rattle.std.specs.Set.{is_member};
+ghost use Rattle.ror_statement.specs.Statements.{statements_in};
+ghost use Rattle.ror_value.specs.Over.{IsLawfulIn, IsAskedIn};
 ghost use Rattle.ror_reason_pages.specs.Parts as spec;
 
 use crate::owners::{Owners, owners_of};
 use crate::weights::weights_of;
 use itoa::Buffer;
+use ror_monotonicity::write_sum;
 use ror_proof::Verdict;
 use ror_sentences::{write_row, write_statement};
-use ror_statement::{Numbered, Question};
+use ror_statement::{Numbered, Question, Statement};
 use ror_table::Table;
 use std::alloc::{AllocError, Global};
 
@@ -52,6 +55,36 @@ fn is_among(numbers: &[u32], number: u32) -> bool
         [] => false,
         [first, rest @ ..] => number == *first || is_among(rest, number),
     }
+}
+
+/// Adds what the statements of the list that have one of these numbers sum up to, and what is used besides.
+#[tactic(auto, unfolding(crate::specs::Parts::part_sum))]
+pub(crate) fn write_part_sum(
+    alloc: Global,
+    text: &mut Vec<u8>,
+    table: &Table,
+    list: &[Numbered],
+    numbers: &[u32],
+    question: &Question,
+    verdict: &Verdict,
+) -> Result<(), AllocError>
+    requires lawful { IsLawfulIn table.now (statements_in list.now) }
+    requires asked { IsAskedIn table.now question.now }
+    ensures { OnOk result (text.new.items ≡ text.old.items
+        ++ spec.part_sum table.now list.now numbers.now question.now verdict.now) }
+{
+    let stated = stated(alloc, list, numbers)?;
+    write_sum(alloc, text, table, stated.as_slice(), question, verdict)
+}
+
+/// What the part of the list states that these numbers name.
+fn stated(alloc: Global, list: &[Numbered], numbers: &[u32]) -> Result<Vec<Statement>, AllocError>
+    ensures { IfOk result (λ statements. statements.items ≡ spec.stated numbers.now list.now) }
+{
+    list.iter()
+        .filter(|x| is_among(numbers, x.number))
+        .map(|x| x.statement)
+        .collect(alloc)
 }
 
 fn write_all(

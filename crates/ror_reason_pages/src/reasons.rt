@@ -17,8 +17,8 @@ use std::alloc::{AllocError, Global};
 /// Adds the text of a part of the statements that carries an answer and of which none can be spared, as far as that is known.
 ///
 /// `numbers` are those of the part, `answer` is the answer over it, and at each number's place in `others` stands the answer over
-/// the part without its statement: another one, or one that concludes nothing. `lines` has for each statement of the list the line that said it, and none where it came with
-/// the table's file. The answer's question is valid for the table.
+/// the part without its statement: another one, or one that concludes nothing. `lines` has for each statement of the list the line that
+/// said it, and none where it came with the table's file. The statements are lawful, and the answer's question is valid for the table.
 ///
 /// # Errors
 ///
@@ -34,7 +34,8 @@ pub fn write_reduct(
     answer: &Answer,
     others: &[Answer],
 ) -> Result<(), AllocError>
-    requires { IsAskedIn table.now answer.now.question }
+    requires lawful { IsLawfulIn table.now (statements_in list.now) }
+    requires asked { IsAskedIn table.now answer.now.question }
     ensures { OnOk result (text.new.items ≡ text.old.items
         ++ spec.reduct_text table.now list.now lines.now numbers.now answer.now others.now) }
 {

@@ -1,10 +1,11 @@
 //! How often each statement counts in a refutation.
 
-ghost use Rattle.std.specs.Prelude.{◌≡◌, ◌<◌, ◌++◌, length, option_copied, IfOk, OnOk};
+ghost use Rattle.std.specs.Prelude.{◌≡◌, ◌<◌, ◌++◌, length, IfOk, OnOk};
 ghost use Rattle.ror_reason_pages.specs.Weights as spec;
 
 use crate::owners::{Owner, Owners};
-use ror_proof::{Certificate, Proof, Verdict};
+use ror_monotonicity::refutation;
+use ror_proof::{Certificate, Verdict};
 use ror_system::Numbers;
 use std::alloc::{AllocError, Global};
 
@@ -23,24 +24,6 @@ pub(crate) fn weights_of(
         None => {}
     }
     Ok(weights)
-}
-
-/// The certificate that refutes: that of the base where there is a contradiction, and else that of the question's one system.
-fn refutation(verdict: &Verdict) -> Option<&Certificate>
-    ensures { option_copied result ≡ spec.refutation verdict.now }
-{
-    match verdict {
-        Verdict::Contradiction(proof) => Some(&proof.base),
-        Verdict::Yes(proof) | Verdict::No(proof) => first_part(proof),
-        Verdict::Wide { .. } => None,
-    }
-}
-
-fn first_part(proof: &Proof) -> Option<&Certificate>
-    ensures { option_copied result ≡ spec.first_part proof.now }
-{
-    let part = proof.parts.as_slice().get(0)?;
-    Some(&part.body)
 }
 
 fn push_certificate(

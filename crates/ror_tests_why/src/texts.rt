@@ -46,7 +46,7 @@ fn reduct_text(
     let [answer, others @ ..] = answers else {
         return None;
     };
-    if !is_asked(table, &answer.question) {
+    if !may_stand(alloc, table, list).ok()? || !is_asked(table, &answer.question) {
         return None;
     }
     let mut text = Vec::new(alloc);
@@ -115,6 +115,7 @@ const TWO_CARRY: &[u8] =
     b"  c01 is at least as good as c09, whatever value function agrees with these statements:
      1  prefer c10 c14                              line 1, counts once
      4  stronger c01 c09 c10 c14                    line 5, counts once
+  summed up they say so, and nothing else is used
   none of them can be spared:
      without 1: by some value function c09 is better than c01 (1 to 0 of 4)
      without 4: by some value function c09 is better than c01 (7 to 6 of 12)
@@ -162,6 +163,7 @@ const THREE_CLASH: &[u8] = b"  these statements can't all be meant, whatever the
      1  prefer market garden                        line 2, counts once
      2  prefer castle station                       the table's file, counts once
      4  prefer bridge mill                          line 5, counts once
+  summed up they say that something is worth more than itself, and nothing else is used
   none of them can be spared:
      without 1: some value function agrees with the others
      without 2: some value function agrees with the others
@@ -184,6 +186,112 @@ fn three_statements_clash(rt: HostRuntime) -> Result<(), Fail> {
         "a text",
     )?;
     assert!(rt; text.as_slice() == THREE_CLASH);
+    Ok(())
+}
+
+const ENGINES: &[u8] = b"ror-table 1
+criterion power max
+alternative c03 60
+alternative c05 66
+alternative c08 75
+alternative c11 85
+alternative c12 90
+alternative c15 100
+";
+
+const BEST: Pair = Pair {
+    first: 5,
+    second: 4,
+};
+
+const WORST: Pair = Pair {
+    first: 2,
+    second: 0,
+};
+
+const STEPS: &[u8] = b"answer necessary c15 c11 c05 c03 on power yes
+base solution 0 0 0 0 1
+part 1 multipliers 1 | 0 1
+answer necessary c15 c11 c05 c03 on power no
+base solution 1 0 0 0 0
+part 1 solution 1 0 0 0 0
+";
+
+const STEPS_USED: &[u8] =
+    b"  c15 is preferred to c11 at least as strongly as c05 to c03 on power, whatever value function agrees with these
+          statements:
+     3  asstrong c15 c12 c08 c03 on power           line 11, counts once
+  summed up they say so, as better is never worth less: power 66 to 75 and 85 to 90
+  none of them can be spared:
+     without 3: by some value function c05 is preferred to c03 more strongly than c15 to c11 on power (1 to 0 of 1)
+  this is one part of the statements that carries the answer, and there may be others
+";
+
+#[test]
+fn better_is_never_worth_less(rt: HostRuntime) -> Result<(), Fail> {
+    let table = read_plain(rt.alloc(), ENGINES)?;
+    let list = [said(3, Statement::AsStrong(BEST, WORST, Scope::One(0)))];
+    let answers = answers_in(rt.alloc(), &table, STEPS, 2).ok_or("answers")?;
+    let text = reduct_text(rt.alloc(), &table, &list, &[Some(11)], &[3], &answers).ok_or("a text")?;
+    assert!(rt; text.as_slice() == STEPS_USED);
+    Ok(())
+}
+
+const VANS: &[u8] = b"ror-table 3
+criterion power max
+criterion price min linear
+alternative a 90 100
+alternative b 60 200
+alternative c 75 150
+";
+
+const WORSE_PREFERRED: &[u8] = b"answer consistent contradiction
+base multipliers | 0 1
+answer consistent yes
+base solution 1 1 1
+";
+
+const ALL_USED: &[u8] = b"  these statements can't all be meant, whatever the value function:
+     1  prefer b a                                  line 1, counts once
+  summed up they say that something is worth more than itself, as better is never worth less: power 60 to 90, price
+          (linear)
+  none of them can be spared:
+     without 1: some value function agrees with the others
+  at least one of them has to go: withdraw N, or replace N by what was meant, where N is one of 1
+  there may be other contradictions among the statements
+";
+
+const WORSE_AS_GOOD: &[u8] = b"answer consistent contradiction
+base multipliers 1 | 1
+answer consistent yes
+base solution 1 1 1
+";
+
+const SOME_COUNTS: &[u8] = b"  these statements can't all be meant, whatever the value function:
+     1  atleast b a                                 line 1, counts once
+  summed up they say that something is worth more than itself, as some criterion counts and better is never worth less:
+          price (linear)
+  none of them can be spared:
+     without 1: some value function agrees with the others
+  at least one of them has to go: withdraw N, or replace N by what was meant, where N is one of 1
+  there may be other contradictions among the statements
+";
+
+#[test]
+fn spans_are_joined(rt: HostRuntime) -> Result<(), Fail> {
+    let table = read_plain(rt.alloc(), VANS)?;
+    let preferred = [said(1, Statement::Prefer(1, 0))];
+    let answers = answers_in(rt.alloc(), &table, WORSE_PREFERRED, 2).ok_or("answers")?;
+    let text = reduct_text(rt.alloc(), &table, &preferred, &[Some(1)], &[1], &answers).ok_or(
+        "a text",
+    )?;
+    assert!(rt; text.as_slice() == ALL_USED);
+    let as_good = [said(1, Statement::AtLeast(1, 0))];
+    let answers = answers_in(rt.alloc(), &table, WORSE_AS_GOOD, 2).ok_or("answers")?;
+    let text = reduct_text(rt.alloc(), &table, &as_good, &[Some(1)], &[1], &answers).ok_or(
+        "a text",
+    )?;
+    assert!(rt; text.as_slice() == SOME_COUNTS);
     Ok(())
 }
 
