@@ -9,7 +9,7 @@ ghost use Rattle.ror_functions.specs.Shares.{IsShare};
 
 use crate::block::criterion_id;
 use crate::functions::function_of;
-use crate::levels::{level_at, share_at};
+use crate::levels::share_at;
 use crate::places::{Place, places, steps_at};
 use crate::share::{Share, write_places};
 use crate::words::asked_at;
@@ -225,7 +225,7 @@ fn write_level(
     text.extend_from_slice(front)?;
     write_next_field(text, criterion_id(table, i))?;
     text.push(b',')?;
-    write_amount(text, level_at(table, i, r))?;
+    write_amount(text, table.level(i, r))?;
     write_share(text, share_at(table, function, i, r))
 }
 

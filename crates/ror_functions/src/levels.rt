@@ -1,14 +1,14 @@
 //! A value function level by level.
 
 ghost use Rattle.std.specs.Prelude.{◌≡◌, ◌<◌, ◌≤◌, ◌++◌, length, OnOk};
-ghost use Rattle.ror_table.specs.Table.{level, steps};
+ghost use Rattle.ror_table.specs.Table.{steps};
 ghost use Rattle.ror_value.specs.Value.{IsFunctionOf};
 ghost use Rattle.ror_functions.specs.Levels as spec;
 ghost use Rattle.ror_functions.specs.Shares.{IsShare};
 
 use crate::share::Share;
 use ror_amounts::write_amount;
-use ror_table::{Amount, Table};
+use ror_table::Table;
 use ror_value::ValueFunction;
 use std::alloc::AllocError;
 
@@ -75,20 +75,6 @@ pub(crate) fn last_of_run(table: &Table, function: &ValueFunction, i: usize, r: 
     last
 }
 
-/// The level of a rank: the performance of an alternative that has it.
-pub(crate) fn level_at(table: &Table, i: usize, r: usize) -> Amount
-    requires criterion { i < length table.now.criteria }
-    requires within { r ≤ steps table.now i }
-    ensures { result ≡ level table.now i r }
-{
-    for a in 0..table.alternatives() {
-        if table.rank(a, i) == r {
-            return table.performance(a, i);
-        }
-    }
-    Amount::whole(0)
-}
-
 /// Adds a level, and the one up to which others follow it.
 pub(crate) fn write_range(
     text: &mut Vec<u8>,
@@ -102,7 +88,7 @@ pub(crate) fn write_range(
     requires last { s ≤ steps table.now i }
     ensures { OnOk result (text.new.items ≡ text.old.items ++ spec.range_text table.now i r s) }
 {
-    write_amount(text, level_at(table, i, r))?;
+    write_amount(text, table.level(i, r))?;
     write_upto(text, table, i, r, s)
 }
 
@@ -121,5 +107,5 @@ fn write_upto(
         return Ok(());
     }
     text.extend_from_slice(b" .. ")?;
-    write_amount(text, level_at(table, i, s))
+    write_amount(text, table.level(i, s))
 }

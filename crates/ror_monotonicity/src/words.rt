@@ -2,14 +2,14 @@
 
 ghost use Rattle.std.specs.Prelude.{◌≡◌, ◌<◌, ◌≤◌, ◌++◌, option_copied, length, IfOk, OnOk};
 ghost use Rattle.std.specs.List.{AllByRecursion};
-ghost use Rattle.ror_table.specs.Table.{criterion_id_of, level, steps};
+ghost use Rattle.ror_table.specs.Table.{criterion_id_of, steps};
 ghost use Rattle.ror_sentences.specs.Words.{word};
 ghost use Rattle.ror_monotonicity.specs.Spans.{IsSpanIn};
 ghost use Rattle.ror_monotonicity.specs.Text as spec;
 
 use crate::spans::Span;
 use ror_amounts::write_amount;
-use ror_table::{Amount, Table};
+use ror_table::Table;
 use std::alloc::{AllocError, Global};
 
 /// The words of what is used in the sum.
@@ -179,21 +179,7 @@ fn write_levels(text: &mut Vec<u8>, table: &Table, span: Span) -> Result<(), All
     ensures { OnOk result (text.new.items ≡ text.old.items ++ spec.levels_text table.now span) }
 {
     text.extend_from_slice(b" ")?;
-    write_amount(text, level_at(table, span.criterion, span.worse))?;
+    write_amount(text, table.level(span.criterion, span.worse))?;
     text.extend_from_slice(b" to ")?;
-    write_amount(text, level_at(table, span.criterion, span.better))
-}
-
-/// The level of a rank: the performance of an alternative that has it.
-fn level_at(table: &Table, i: usize, r: usize) -> Amount
-    requires criterion { i < length table.now.criteria }
-    requires within { r ≤ steps table.now i }
-    ensures { result ≡ level table.now i r }
-{
-    for a in 0..table.alternatives() {
-        if table.rank(a, i) == r {
-            return table.performance(a, i);
-        }
-    }
-    Amount::whole(0)
+    write_amount(text, table.level(span.criterion, span.better))
 }

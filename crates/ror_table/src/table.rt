@@ -8,7 +8,7 @@ ghost use Rattle.ror_table.specs.declared.fault.What.TheVariants.{Steps};
 ghost use Rattle.ror_table.specs.declared.limits.TheConstants.{AMOUNT_LIMIT};
 ghost use Rattle.ror_table.specs.Amounts.{IsAmount};
 ghost use Rattle.ror_table.specs.Blocks.{block, tops};
-ghost use Rattle.ror_table.specs.Table.{IsTable, HasPlace, direction_at, is_linear, performance_at, steps, rank, width, has_weights, weight, offset, column, columns, alternative_ids, criterion_ids, alternative_named, criterion_named};
+ghost use Rattle.ror_table.specs.Table.{IsTable, HasPlace, direction_at, is_linear, performance_at, steps, level, rank, width, has_weights, weight, offset, column, columns, alternative_ids, criterion_ids, alternative_named, criterion_named};
 ghost use Rattle.ror_table.specs.Draft.{draft_fault, finished};
 
 use crate::amount::Amount;
@@ -118,6 +118,20 @@ impl Table {
     {
         let performance = self.draft.performance(a, i);
         worse_count(self.draft.direction(i), &self.index.levels[i], performance)
+    }
+
+    /// The level of a rank: the performance on a criterion of an alternative that has it.
+    pub fn level(&self, i: usize, r: usize) -> Amount
+        requires criterion { i < length self.now.criteria }
+        requires within { r ≤ steps self.now i }
+        ensures { result ≡ level self.now i r }
+    {
+        for a in 0..self.alternatives() {
+            if self.rank(a, i) == r {
+                return self.performance(a, i);
+            }
+        }
+        Amount::whole(0)
     }
 
     /// How many columns a criterion has: one for each step; of a linear criterion one, or none where it has no step.
