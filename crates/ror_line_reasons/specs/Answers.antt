@@ -65,9 +65,9 @@ AreTold sc xs zero text = text ≡ []
 AreTold sc xs (suc k) text = (front : List ℕ) × (last : List ℕ) × AreTold sc xs k front × IsToldAt sc xs k last
     × (text ≡ front ++ last)
 
--- how many of the answers statements carry
+-- how many of the answers statements carry, and how many of them are shown at most
 abbrev pub end_text : List ℕ
-end_text = codes ", of which the first 20 at most are shown\n\n"
+end_text = counted (codes ", of which the first ") MOST_SHOWN ++ codes " at most are shown\n\n"
 
 abbrev pub carried_text : ℕ → List ℕ
 carried_text carried = counted (codes "  answers that statements carry: ") carried ++ end_text

@@ -171,7 +171,8 @@ fn write_carried(text: &mut Vec<u8>, carried: usize) -> Result<(), AllocError>
 fn write_end(text: &mut Vec<u8>) -> Result<(), AllocError>
     ensures { OnOk result (text.new.items ≡ text.old.items ++ spec.end_text) }
 {
-    text.extend_from_slice(b", of which the first 20 at most are shown\n\n")
+    write_count(text, b", of which the first ", MOST_SHOWN)?;
+    text.extend_from_slice(b" at most are shown\n\n")
 }
 
 /// How many of the answers statements carry.
