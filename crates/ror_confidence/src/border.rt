@@ -44,7 +44,10 @@ fn is_wide(verdict: &Verdict) -> bool
 fn is_above(kind: QuestionKind, verdict: &Verdict) -> bool
     ensures { result ≡ (is_wide verdict.now || spec.concludes (spec.conclusion_from kind) verdict.now) }
 {
-    is_wide(verdict) || concludes(conclusion_from(kind), verdict)
+    if is_wide(verdict) {
+        return true;
+    }
+    concludes(conclusion_from(kind), verdict)
 }
 
 /// The level that is tried next, between two that are known: the guess, or the one between them that is next to it.
@@ -54,12 +57,12 @@ fn level_between(low: u32, high: u32, guess: u32) -> u32
     ensures below { result < high }
 {
     if guess <= low {
-        low + 1
-    } else if guess >= high {
-        high - 1
-    } else {
-        guess
+        return low + 1;
     }
+    if guess < high {
+        return guess;
+    }
+    high - 1
 }
 
 /// The border of a question among the levels before `end`, tried from a guess on.
