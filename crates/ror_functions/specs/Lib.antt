@@ -5,4 +5,5 @@ pub mod Functions
 pub mod Places
 pub mod Text
 pub mod Csv
+pub mod Rises
 pub mod Laws

@@ -11,8 +11,13 @@ use ror_table::Table;
 use ror_value::{ValueFault, ValueFunction};
 use std::alloc::{AllocError, Global};
 
-/// The function with these steps, where they are such.
-pub(crate) fn function_of(
+/// The function with these steps, where they are those of one of the table: as many as it has columns, none below 0, and the value of
+/// all best levels above 0 and at most 2^127 - 1.
+///
+/// # Errors
+///
+/// Only want of memory.
+pub fn function_of(
     alloc: Global,
     table: &Table,
     steps: &Numbers,
@@ -29,7 +34,7 @@ pub(crate) fn function_of(
 }
 
 /// The solution that a certificate is, where it is one.
-pub(crate) fn steps_in(certificate: &Certificate) -> Option<&Numbers>
+pub fn steps_in(certificate: &Certificate) -> Option<&Numbers>
     ensures { option_copied result ≡ spec.steps_in certificate.now }
 {
     match certificate {
@@ -38,8 +43,8 @@ pub(crate) fn steps_in(certificate: &Certificate) -> Option<&Numbers>
     }
 }
 
-/// The parts of a verdict that has a proof.
-pub(crate) fn parts_of(verdict: &Verdict) -> &[Part]
+/// The parts of a verdict's proof; none where it is too wide.
+pub fn parts_of(verdict: &Verdict) -> &[Part]
     ensures { result.now ≡ spec.parts_of verdict.now }
 {
     match verdict {

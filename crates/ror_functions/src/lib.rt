@@ -3,7 +3,7 @@
 //! The base of an answer is a function that agrees with the statements, and the part of an answer *no* to what is asked of every
 //! function, and of an answer *yes* to what is asked of some one, is the function that decides it. They are written as plain text
 //! ([`write_functions`]) and as comma-separated values ([`write_functions_csv`], below [`csv_head`]). Each call adds to the text
-//! that it is given.
+//! that it is given. [`write_rises`] adds in one line where the base rises.
 //!
 //! Of a function whose steps on `price` are 1, 0 and 2, and on `power` 1, the text has
 //!
@@ -25,9 +25,12 @@ mod functions;
 pub mod laws;
 mod levels;
 mod places;
+mod rises;
 mod share;
 mod text;
 mod words;
 
 pub use csv::{csv_head, write_functions_csv};
+pub use functions::{function_of, parts_of, steps_in};
+pub use rises::write_rises;
 pub use text::write_functions;

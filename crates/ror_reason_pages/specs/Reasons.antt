@@ -11,6 +11,7 @@ use Rattle.ror_proof.specs.declared.answer.Answer.{Answer}
 use Rattle.ror_proof.specs.declared.answer.Verdict.{Verdict}
 use Rattle.ror_proof.specs.declared.answer.Verdict.TheVariants as verdicts
 use Rattle.ror_pages.specs.Dominance.{dominates}
+use Rattle.ror_functions.specs.Rises.{rises_text}
 use Rattle.ror_functions.specs.Text.{is_contradiction}
 use Rattle.ror_sentences.specs.Words.{number}
 use Rattle.ror_sentences.specs.Rows.{line_text}
@@ -55,11 +56,12 @@ counter_text t q v = counter_of t q ++ sides_text t (not (is_every (kind_of q)))
 abbrev pub some_counter : DecisionTable → Question → Verdict → List ℕ
 some_counter t q v = codes "by some value function " ++ counter_text t q v
 
-abbrev pub agreeing : List ℕ
-agreeing = codes "some value function agrees with the others"
+-- where the function rises that agrees with the others
+abbrev pub agreeing_words : DecisionTable → Verdict → List ℕ
+agreeing_words t v = codes "some value function agrees with the others" ++ rises_text t v
 
 abbrev pub spared_words : DecisionTable → Question → Bool → Verdict → List ℕ
-spared_words t q true v = agreeing
+spared_words t q true v = agreeing_words t v
 spared_words t q false v = some_counter t q v
 
 abbrev pub unknown : List ℕ

@@ -11,6 +11,7 @@ ghost use Rattle.ror_reason_pages.specs.Reasons as spec;
 use crate::parts::{write_part_sum, write_rows};
 use crate::sides::write_sides;
 use itoa::Buffer;
+use ror_functions::write_rises;
 use ror_proof::{Answer, Verdict};
 use ror_sentences::{is_every, write_claim, write_counter, write_line, write_number, write_text};
 use ror_statement::{Numbered, Question, kind_of};
@@ -251,10 +252,23 @@ fn write_spared(
         ++ spec.spared_words table.now question.now clashes verdict.now) }
 {
     if clashes {
-        text.extend_from_slice(b"some value function agrees with the others")
+        write_agreeing(alloc, text, table, verdict)
     } else {
         write_some(alloc, text, table, question, verdict)
     }
+}
+
+/// Adds that some function agrees with the statements, and where it rises.
+fn write_agreeing(
+    alloc: Global,
+    text: &mut Vec<u8>,
+    table: &Table,
+    verdict: &Verdict,
+) -> Result<(), AllocError>
+    ensures { OnOk result (text.new.items ≡ text.old.items ++ spec.agreeing_words table.now verdict.now) }
+{
+    text.extend_from_slice(b"some value function agrees with the others")?;
+    write_rises(alloc, text, table, verdict)
 }
 
 fn write_some(

@@ -7,7 +7,8 @@ ghost use Rattle.ror_value.specs.Over.{IsNamedIn, IsValidIn, IsLawfulIn};
 ghost use Rattle.ror_value.specs.Value.{IsFunctionOf};
 ghost use Rattle.ror_reason_pages.specs.Met as spec;
 
-use crate::sides::{deciding, function_of, quantities, value_in, write_number};
+use crate::sides::{deciding, quantities, value_in, write_number};
+use ror_functions::function_of;
 use ror_proof::Verdict;
 use ror_sentences::{write_row, write_statement, write_text};
 use ror_statement::{Form, Numbered, Scope, Statement};

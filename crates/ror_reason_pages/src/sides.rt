@@ -1,22 +1,22 @@
 //! The two quantities of a question by the value function that decides it.
 
-ghost use Rattle.std.specs.Prelude.{◌≡◌, ◌<◌, ◌≤ℤ◌, pos, ◌++◌, length, option_copied, IfOk, IfSome, OnOk};
+ghost use Rattle.std.specs.Prelude.{◌≡◌, ◌<◌, ◌≤ℤ◌, pos, ◌++◌, length, option_copied, IfSome, OnOk};
 ghost use Rattle.ror_statement.specs.Names.{ScopeWithin, PairWithin};
 ghost use Rattle.ror_system.specs.System.{IsNarrow};
 ghost use Rattle.ror_value.specs.Over.{IsNamedIn, IsAskedIn};
 ghost use Rattle.ror_value.specs.Value.{IsFunctionOf};
 ghost use Rattle.ror_value.specs.Meaning.{value_in, strength, first_quantity, second_quantity};
-ghost use Rattle.ror_functions.specs.Functions as functions;
 ghost use Rattle.ror_statement.specs.Questions.{property_of};
 ghost use Rattle.ror_reason_pages.specs.Sides as spec;
 
 use itoa::Buffer;
-use ror_proof::{Certificate, Part, Verdict};
+use ror_functions::{function_of, parts_of, steps_in};
+use ror_proof::Verdict;
 use ror_sentences::turned;
 use ror_statement::{Form, Pair, Property, Question, Scope};
 use ror_system::Numbers;
 use ror_table::Table;
-use ror_value::{ValueFault, ValueFunction};
+use ror_value::ValueFunction;
 use std::alloc::{AllocError, Global};
 
 /// Adds the two quantities that the question compares, the greater one first, and the value of all best levels.
@@ -52,26 +52,6 @@ pub(crate) fn deciding(verdict: &Verdict) -> Option<&Numbers>
 {
     let part = parts_of(verdict).get(0)?;
     steps_in(&part.body)
-}
-
-fn parts_of(verdict: &Verdict) -> &[Part]
-    ensures { result.now ≡ functions.parts_of verdict.now }
-{
-    match verdict {
-        Verdict::Yes(proof) | Verdict::No(proof) | Verdict::Contradiction(proof) => {
-            proof.parts.as_slice()
-        }
-        Verdict::Wide { .. } => &[],
-    }
-}
-
-fn steps_in(certificate: &Certificate) -> Option<&Numbers>
-    ensures { option_copied result ≡ functions.steps_in certificate.now }
-{
-    match certificate {
-        Certificate::Solution(solution) => Some(&solution.steps),
-        Certificate::Multipliers(_) => None,
-    }
 }
 
 fn write_for(
@@ -155,34 +135,6 @@ pub(crate) fn write_number(text: &mut Vec<u8>, words: &[u8], number: i128) -> Re
 {
     text.extend_from_slice(words)?;
     text.extend_from_slice(Buffer::new().format(number).as_bytes())
-}
-
-/// The function with these steps, where they are such.
-pub(crate) fn function_of(
-    alloc: Global,
-    table: &Table,
-    steps: &Numbers,
-) -> Result<Option<ValueFunction>, AllocError>
-    ensures value { IfOk result (λ found. found ≡ functions.function_of table.now steps.now) }
-    ensures function { IfOk result (λ found. IfSome found (IsFunctionOf table.now)) }
-{
-    let numbers = numbers_of(alloc, steps)?;
-    match ValueFunction::new(alloc, table, numbers.as_slice()) {
-        Ok(function) => Ok(Some(function)),
-        Err(ValueFault::Memory) => Err(AllocError),
-        Err(ValueFault::Length | ValueFault::Negative(_) | ValueFault::Total) => Ok(None),
-    }
-}
-
-/// The numbers in a row.
-fn numbers_of(alloc: Global, steps: &Numbers) -> Result<Vec<i128>, AllocError>
-    ensures { IfOk result (λ numbers. numbers.items ≡ steps.now) }
-{
-    let mut numbers = Vec::new(alloc);
-    for k in 0..steps.len() {
-        numbers.push(steps.entry(k))?;
-    }
-    Ok(numbers)
 }
 
 pub(crate) fn quantities(table: &Table, function: &ValueFunction, form: Form) -> (i128, i128)

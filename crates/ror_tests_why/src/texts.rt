@@ -165,9 +165,12 @@ const THREE_CLASH: &[u8] = b"  these statements can't all be meant, whatever the
      4  prefer bridge mill                          line 5, counts once
   summed up they say that something is worth more than itself, and nothing else is used
   none of them can be spared:
-     without 1: some value function agrees with the others
-     without 2: some value function agrees with the others
-     without 4: some value function agrees with the others
+     without 1: some value function agrees with the others, which rises on rent 850 to 800 by 1, on area 60 to 65 by 5,
+          on way 25 to 20 by 3, and nowhere else
+     without 2: some value function agrees with the others, which rises on rent 850 to 800 by 2, on area 60 to 65 by 1,
+          on way 25 to 20 by 3, and nowhere else
+     without 4: some value function agrees with the others, which rises on rent 850 to 800 by 4, on area 60 to 65 by 3,
+          on way 25 to 20 by 1, and nowhere else
   at least one of them has to go: withdraw N, or replace N by what was meant, where N is one of 1 2 4
   there may be other contradictions among the statements
 ";
@@ -256,7 +259,8 @@ const ALL_USED: &[u8] = b"  these statements can't all be meant, whatever the va
   summed up they say that something is worth more than itself, as better is never worth less: power 60 to 90, price
           (linear)
   none of them can be spared:
-     without 1: some value function agrees with the others
+     without 1: some value function agrees with the others, which rises on power 60 to 75 by 1, on power 75 to 90 by 1,
+          on price 200 to 100 (linear) by 2, and nowhere else
   at least one of them has to go: withdraw N, or replace N by what was meant, where N is one of 1
   there may be other contradictions among the statements
 ";
@@ -272,7 +276,8 @@ const SOME_COUNTS: &[u8] = b"  these statements can't all be meant, whatever the
   summed up they say that something is worth more than itself, as some criterion counts and better is never worth less:
           price (linear)
   none of them can be spared:
-     without 1: some value function agrees with the others
+     without 1: some value function agrees with the others, which rises on power 60 to 75 by 1, on power 75 to 90 by 1,
+          on price 200 to 100 (linear) by 2, and nowhere else
   at least one of them has to go: withdraw N, or replace N by what was meant, where N is one of 1
   there may be other contradictions among the statements
 ";
