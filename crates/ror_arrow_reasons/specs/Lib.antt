@@ -1,0 +1,4 @@
+pub mod Carrying
+pub mod Text
+pub mod Section
+pub mod Laws
