@@ -8,3 +8,4 @@ pub mod Sections
 pub mod Showing
 pub mod Stands
 pub mod Truth
+pub mod WhatStood

@@ -1,8 +1,5 @@
 -- What is shown of a desk that is meant.
 use Rattle.std.proofs.Common.{◌≡◌, ℕ, true, List, [], ◌∷◌, ◌++◌, length, refl, sym, ap, subst, ◌∙◌, append_assoc}
-use Rattle.ror_table.specs.Table.{DecisionTable}
-use Rattle.ror_statement.specs.declared.statement.Statement.{Statement}
-use Rattle.ror_session.specs.declared.session.Line.{Line}
 use Rattle.ror_bench.specs.declared.kept.KeptLine.{KeptLine}
 use Rattle.ror_roll.specs.declared.roll.Roll.{Roll}
 use Rattle.ror_roll.specs.Page.{Sheets, roll_text}

@@ -1,5 +1,6 @@
--- A page is written of what a check accepts, and files lead to one.
-use Rattle.std.proofs.Common.{◌≡◌, ℕ, ◌+◌, ◌≤◌, List, [], ◌∷◌, ◌++◌, length, Ok, Err, false, inl, inr, refl, sym, ap, subst, ◌∙◌}
+-- A page is written of the lines that a check keeps, and files lead to one list of these.
+use Rattle.std.proofs.Common.{◌≡◌, ℕ, ◌+◌, ◌≤◌, List, [], ◌∷◌, ◌++◌, length, Result, Ok, Err, false, inl, inr, refl, sym, ap, subst, ◌∙◌}
+use Rattle.std.specs.List.{AllByRecursion}
 use Rattle.ror_table.specs.Table.{IsTable}
 use Rattle.ror_value.specs.declared.input.Input.{Input}
 use Rattle.ror_value.specs.Over.{IsLawfulIn}
@@ -12,13 +13,16 @@ use Rattle.ror_bench.specs.declared.kept.Keep.{Keep}
 use Rattle.ror_bench.specs.declared.kept.KeptLine.{KeptLine}
 use Rattle.ror_bench.specs.declared.report.Accepted.{Accepted}
 use Rattle.ror_bench.specs.declared.report.TheConstants.{MOST_REPORT_BYTES}
-use Rattle.ror_bench.specs.Bench.{Workbench, HoldTheSame}
+use Rattle.ror_bench.specs.Bench.{Workbench, bench_of, HoldTheSame}
 use Rattle.ror_bench.specs.Kept.{keep_at, standing_for, kept_of, kept_at, kept_from, IsAcceptedKeeping}
 use Rattle.ror_bench.specs.Reports.{IsAcceptedReport}
 use Rattle.ror_bench.proofs.SameLemmas.{then_same, proved_same}
 use Rattle.ror_bench.proofs.Truth.{report_true}
+use Rattle.ror_line_reasons.specs.Laws.{IsReady}
+use Rattle.ror_line_reasons.proofs.Ready.{desks_begin_numbered, kept_lines_are_ready}
 use Rattle.ror_show_words.specs.declared.table.Page.{Page}
 use Rattle.ror_show_words.specs.Words.{PageWords}
+use Rattle.ror_frame.specs.declared.stop.Stop.{Stop}
 use Rattle.ror_frame.specs.declared.stop.Stop.TheVariants as stops
 use Rattle.std.specs.declared.vec.Vec.{Vec}
 use Rattle.ror_frame.specs.declared.stop.Refusal.{Refusal}
@@ -33,10 +37,10 @@ use Rattle.ror_work.specs.Checking.{RefusesReport}
 use Rattle.ror_work.proofs.Judging.{rejection_or_proof, one_refusal}
 use Rattle.ror_work_pages.specs.Choosing.{keeps}
 use Rattle.ror_work_pages.specs.Grounds.{Ground, ground_in}
-use Rattle.ror_work_pages.specs.Showing.{IsPage, ReadsPage, report_course, session_course, show_chore}
+use Rattle.ror_work_pages.specs.Showing.{IsPage, ReadsKept, page_output, report_course, session_course, show_chore}
 use Rattle.ror_work_pages.specs.Shown.{IsShown, shown_output}
 use Rattle.ror_show_words.specs.declared.words.Form.{Form}
-use Rattle.ror_work_pages.proofs.OnePage.{one_page}
+use Rattle.ror_work_pages.proofs.OnePage.{one_kept}
 
 -- benches that hold the same keep the same lines
 pub kept_same : (one other : Workbench) → HoldTheSame one other → (keep : List Keep) (before : List (Line × Block)) (lines : List Line) (blocks : List Block) → kept_from one keep before lines blocks ≡ kept_from other keep before lines blocks
@@ -48,37 +52,46 @@ kept_same one other same keep before (line ∷ lines) (block ∷ blocks) =
     ∙ ap (λ (xs : List KeptLine). kept_at other keep before line block ++ xs) (kept_same one other same keep (before ++ (line, block) ∷ []) lines blocks)
 
 -- a page is read against what its parts are
-same_ground : (g : Ground) (i : Input) (s : Session) → g.table ≡ i.table → g.opening ≡ i.opening → g.session ≡ s → g ≡ ground_in i s
+pub same_ground : (g : Ground) (i : Input) (s : Session) → g.table ≡ i.table → g.opening ≡ i.opening → g.session ≡ s → g ≡ ground_in i s
 same_ground g i s table opening session = rw (sym table, sym opening, sym session) refl
 
--- the page of what a check over such a bench keeps
-pub page_as : (page : Page) (words : PageWords) (i : Input) (s : Session) (bench : Workbench) (g : Ground) (lines : List Line) (bytes : List ℕ) (keep : List Keep) (accepted : Accepted) (kept : List KeptLine) (text : List ℕ) → HoldTheSame bench (bench_for i s) → g.table ≡ bench.table → g.opening ≡ i.opening → g.session ≡ s → lines ≡ s.lines → keep ≡ keeps page words s → length bytes ≤ MOST_REPORT_BYTES → IsAcceptedKeeping bench lines bytes keep accepted kept → IsPage page words g kept text → ReadsPage page words i s bytes text
-page_as page words i s bench g lines bytes keep accepted kept text held table opening session same chosen short checked shows =
-    let over = subst (λ (ls : List Line). IsAcceptedKeeping bench ls bytes keep accepted kept) same checked in
-    let keeping = subst (λ (ks : List Keep). IsAcceptedKeeping bench s.lines bytes ks accepted kept) chosen over in
-    let report = proved_same bench (bench_for i s) held s.lines bytes accepted keeping.report.proved in
-    let are : kept ≡ kept_from (bench_for i s) (keeps page words s) [] s.lines report.blocks = keeping.chosen ∙ kept_same bench (bench_for i s) held (keeps page words s) [] s.lines keeping.report.proved.blocks in
-    let ground : g ≡ ground_in i s = same_ground g i s (table ∙ held.0) opening session in
+-- a bench with as many desks as the session has
+pub held_for : (bench : Workbench) (i : Input) (s : Session) (n : ℕ) → HoldTheSame bench (bench_of i n) → n ≡ length s.desks → HoldTheSame bench (bench_for i s)
+held_for bench i s n held same = subst (λ (k : ℕ). HoldTheSame bench (bench_of i k)) same held
+
+-- what a check over such a bench keeps
+pub kept_as : (keep : List Keep) (i : Input) (s : Session) (bench : Workbench) (lines : List Line) (bytes : List ℕ) (accepted : Accepted) (kept : List KeptLine) → HoldTheSame bench (bench_for i s) → lines ≡ s.lines → length bytes ≤ MOST_REPORT_BYTES → IsAcceptedKeeping bench lines bytes keep accepted kept → ReadsKept keep i s bytes kept
+kept_as keep i s bench lines bytes accepted kept held same short checked =
+    let keeping = subst (λ (ls : List Line). IsAcceptedKeeping bench ls bytes keep accepted kept) same checked in
     record {
       within = short;
       accepted = accepted;
-      report = report;
-      shows = subst (λ (xs : List KeptLine). IsPage page words (ground_in i s) xs text) are (subst (λ (h : Ground). IsPage page words h kept text) ground shows);
+      report = proved_same bench (bench_for i s) held s.lines bytes accepted keeping.report.proved;
+      chosen = keeping.chosen ∙ kept_same bench (bench_for i s) held keep [] s.lines keeping.report.proved.blocks;
     }
 
+-- and what a fetch keeps
+pub keeps_same : (name : List ℕ) (place : FilePlace) (i : Input) (s : Session) (a b : ShelfState) (result : Result (List KeptLine) Stop) (one other : List Keep) → one ≡ other → IsFetch name place (ReadsKept one i s) (RefusesReport i s) a b result → IsFetch name place (ReadsKept other i s) (RefusesReport i s) a b result
+keeps_same name place i s a b result one other same brought = subst (λ (keep : List Keep). IsFetch name place (ReadsKept keep i s) (RefusesReport i s) a b result) same brought
+
 -- what a page is of is true
-pub report_holds : (page : Page) (words : PageWords) (i : Input) (s : Session) (bytes text : List ℕ) → IsLawfulIn i.table i.opening → ReadsPage page words i s bytes text → (accepted : Accepted) × IsAcceptedReport (bench_for i s) s.lines bytes accepted
-report_holds page words i s bytes text lawful reads =
+pub report_holds : (keep : List Keep) (i : Input) (s : Session) (bytes : List ℕ) (kept : List KeptLine) → IsLawfulIn i.table i.opening → ReadsKept keep i s bytes kept → (accepted : Accepted) × IsAcceptedReport (bench_for i s) s.lines bytes accepted
+report_holds keep i s bytes kept lawful reads =
     (reads.accepted, record { proved = reads.report; blocks_true = report_true (bench_for i s) s.lines bytes reads.accepted (lawful_desks i (length s.desks) lawful) reads.report })
+
+-- and reasons can be found of it
+pub kept_ready : (keep : List Keep) (i : Input) (s : Session) (bytes : List ℕ) (kept : List KeptLine) → IsLawfulIn i.table i.opening → ReadsKept keep i s bytes kept → AllByRecursion (IsReady i.table) kept
+kept_ready keep i s bytes kept lawful reads =
+    subst (AllByRecursion (IsReady i.table)) (sym reads.chosen) (kept_lines_are_ready (bench_for i s) s.lines bytes reads.accepted keep (lawful_desks i (length s.desks) lawful) (desks_begin_numbered (bench_for i s) i (length s.desks) (refl, refl)) reads.report)
 
 one_report : (page : Page) (words : PageWords) (file : List ℕ) (i : Input) (s : Session) → IsTable i.table → IsDecided (report_course page words file i s)
 one_report page words file i s is_table = λ bytes.
-    ((λ x y p q. one_page page words i s bytes x y is_table p q), (λ q r a b. one_refusal i s bytes q r a b), (λ x r p a. rejection_or_proof (bench_for i s) s.lines bytes a.0 p.accepted is_table a.2 p.within p.report), λ x p. tt)
+    ((λ x y p q. one_kept (keeps page words s) i s bytes x y is_table p q), (λ q r a b. one_refusal i s bytes q r a b), (λ x r p a. rejection_or_proof (bench_for i s) s.lines bytes a.0 p.accepted is_table a.2 p.within p.report), λ x p. tt)
 
 decided_after : (page : Page) (words : PageWords) (file : List ℕ) (i : Input) → IsTable i.table → IsDecided (session_course page words file i)
 decided_after page words file i is_table = λ session. ((λ s u p q. cc), (λ q r a b. one_session session q r a b), (λ s r p a. let q = a.2 in cc), λ s read. one_report page words file i s is_table)
 
--- files lead to one page, or to one refusal
+-- files lead to such lines, or to one refusal
 pub decided_page : (page : Page) (words : PageWords) → IsDecided (show_chore page words).course
 decided_page page words = λ table. ((λ i j p q. cc), (λ q r a b. one_table words.best_first table q r a b), (λ i r p a. let q = a.2 in cc), λ i read. decided_after page words table i (input_table table words.best_first i read))
 
@@ -91,14 +104,23 @@ shown_due form file page text old new (Err stops.WriteFault) is due = (due.0, du
 shown_due form file page text old new (Err stops.Memory) is (inl same) = inl same
 shown_due form file page text old new (Err stops.Memory) is (inr due) = absurd (let p = due.1 in cc)
 
+-- a page is written, with names behind it
+pub page_due : (page : Page) (words : PageWords) (file : List ℕ) (g : Ground) (kept : List KeptLine) (text : List ℕ) (old new : SinkState) (outcome : Outcome) → IsPage page words g kept text → WritesDue (shown_output words.form file text (Unit {0})) old new outcome → WritesDue (page_output page words file g kept (Unit {0})) old new outcome
+page_due page words file g kept text old new (Ok wide) is due = (due.0, due.1, due.2, (due.3.0, (text, is, due.3.1), tt), due.4)
+page_due page words file g kept text old new (Err (stops.At r)) is due = due
+page_due page words file g kept text old new (Err stops.ReadFault) is due = due
+page_due page words file g kept text old new (Err stops.WriteFault) is due = (due.0, due.1, due.2, (text, is, due.3), due.4)
+page_due page words file g kept text old new (Err stops.Memory) is (inl same) = inl same
+page_due page words file g kept text old new (Err stops.Memory) is (inr due) = absurd (let p = due.1 in cc)
+
 -- and where this holds, it does so where all is written
-pub shown_holds : (form : Form) (file page : List ℕ) (Holds : Type 0) (old new : SinkState) (outcome : Outcome) → Holds → WritesDue (shown_output form file page (Unit {0})) old new outcome → WritesDue (shown_output form file page Holds) old new outcome
-shown_holds form file page Holds old new (Ok wide) holds due = (due.0, due.1, due.2, (due.3.0, due.3.1, holds), due.4)
-shown_holds form file page Holds old new (Err (stops.At r)) holds due = due
-shown_holds form file page Holds old new (Err stops.ReadFault) holds due = due
-shown_holds form file page Holds old new (Err stops.WriteFault) holds due = due
-shown_holds form file page Holds old new (Err stops.Memory) holds (inl same) = inl same
-shown_holds form file page Holds old new (Err stops.Memory) holds (inr due) = absurd (let p = due.1 in cc)
+pub page_holds : (page : Page) (words : PageWords) (file : List ℕ) (g : Ground) (kept : List KeptLine) (Holds : Type 0) (old new : SinkState) (outcome : Outcome) → Holds → WritesDue (page_output page words file g kept (Unit {0})) old new outcome → WritesDue (page_output page words file g kept Holds) old new outcome
+page_holds page words file g kept Holds old new (Ok wide) holds due = (due.0, due.1, due.2, (due.3.0, due.3.1, holds), due.4)
+page_holds page words file g kept Holds old new (Err (stops.At r)) holds due = due
+page_holds page words file g kept Holds old new (Err stops.ReadFault) holds due = due
+page_holds page words file g kept Holds old new (Err stops.WriteFault) holds due = due
+page_holds page words file g kept Holds old new (Err stops.Memory) holds (inl same) = inl same
+page_holds page words file g kept Holds old new (Err stops.Memory) holds (inr due) = absurd (let p = due.1 in cc)
 
 -- a file was fetched whole and read, and the work went on by its bytes
 pub read_on : {A Y : Type 0} (name : List ℕ) (place : ℕ) (names : List (List ℕ)) (at : FilePlace) (most : ℕ) (Refused : List ℕ → Refusal → Type 0) (Reads : List ℕ → A → Type 0) (Refuses : List ℕ → Refusal → Type 0) (next : List ℕ → A → Course) (a b c : ShelfState) (old new : SinkState) (got : Vec ℕ Y) (x : A) (outcome : Outcome) → IsFetch name at (IsWhole most) Refused a b (Ok got) → Reads got.items x → IsWork (place + 1) names (next got.items x) b c old new outcome → IsWork place (name ∷ names) (fetch A name Reads Refuses next) a c old new outcome

@@ -1,14 +1,13 @@
 -- That the page of what stands shows what stands.
-use Rattle.std.proofs.Common.{◌≡◌, ◌≢◌, ℕ, zero, suc, ◌<◌, List, [], ◌∷◌, length, map, Some, refl, sym, ap, subst, ◌∙◌, arith}
+use Rattle.std.proofs.Common.{◌≡◌, ◌≢◌, ℕ, zero, suc, ◌<◌, List, [], ◌∷◌, length, map, Some, refl, sym, ap, subst, arith}
 use Rattle.std.specs.Prelude.{replicate, slice_index_or}
-use Rattle.ror_statement.specs.declared.statement.Numbered.{Numbered}
 use Rattle.ror_session.specs.declared.session.Line.{Line}
 use Rattle.ror_history.specs.History.{Revisions, standing}
 use Rattle.ror_bench.specs.declared.kept.Keep.{Keep}
 use Rattle.ror_bench.specs.declared.kept.Keep.TheVariants as keeping
 use Rattle.ror_bench.specs.Bench.{revisions_at}
 use Rattle.ror_bench.specs.Desks.{with_blocks}
-use Rattle.ror_bench.specs.Kept.{keep_at, kept_from}
+use Rattle.ror_bench.specs.Kept.{keep_at}
 use Rattle.ror_bench.specs.Reports.{revisions_then}
 use Rattle.ror_frame.specs.Inputs.{bench_for}
 use Rattle.ror_roll.specs.Laws.{stated_at}

@@ -1,5 +1,5 @@
 -- What holds of the pages of a report.
-use Rattle.std.specs.Prelude.{◌≡◌, ℕ, ◌<◌, true, List, [], length, map, slice_get, slice_index_or, Some, None}
+use Rattle.std.specs.Prelude.{◌≡◌, ℕ, ◌<◌, Bool, true, false, List, [], length, map, slice_get, slice_index_or, Some, None}
 use Rattle.std.specs.List.{AllByRecursion}
 use Rattle.ror_statement.specs.declared.statement.Numbered.{Numbered}
 use Rattle.ror_statement.specs.Statements.{statements_in}
@@ -22,6 +22,8 @@ use Rattle.ror_roll.specs.Roll.{roll_of}
 use Rattle.ror_roll.specs.Shown.{shown}
 use Rattle.ror_roll.specs.Steps.{kept_turns}
 use Rattle.ror_pages.specs.Cells.{cell_at}
+use Rattle.ror_pages.specs.Pages.{IsRelationPage}
+use Rattle.ror_pages.specs.declared.relation.RelationPage.{RelationPage}
 use Rattle.ror_pages.specs.Meaning.{Says}
 use Rattle.ror_class_pages.specs.Meaning.{SignSays}
 use Rattle.ror_class_pages.specs.Signs.{alternative_of, sign_of_class}
@@ -31,14 +33,27 @@ use Rattle.ror_frame.specs.Inputs.{bench_for}
 use Rattle.ror_session.specs.declared.session.Session.{Session}
 use Rattle.ror_show_words.specs.declared.table.Page.{Page}
 use Rattle.ror_show_words.specs.declared.table.Page.TheVariants as pages
+use Rattle.ror_show_words.specs.declared.words.Form.{Form}
+use Rattle.ror_show_words.specs.declared.words.Form.TheVariants.{Text}
 use Rattle.ror_show_words.specs.Words.{PageWords}
 use Rattle.ror_work_pages.specs.Choosing.{is_desk, keeps}
-use Rattle.ror_work_pages.specs.Showing.{ReadsPage}
+use Rattle.ror_work_pages.specs.Grounds.{Ground}
+use Rattle.ror_work_pages.specs.Showing.{IsPage, ReadsKept}
 
--- a report has one page
-abbrev pub OnePage : Type 0
-OnePage = (page : Page) (words : PageWords) (i : Input) (s : Session) (bytes one other : List ℕ) → IsTable i.table
-    → ReadsPage page words i s bytes one → ReadsPage page words i s bytes other → one ≡ other
+-- the page names parts of what stood, which may be some of several
+abbrev pub names_parts : Page → Form → Bool
+names_parts pages.Relation Text = true
+names_parts _ _ = false
+
+-- Of a report the lines are one list of which something is kept. These have one page, where it names no parts of what stood; and where it
+-- does, the answers to a line have one relation, of which all stands there but those parts.
+pub record OnePage : Type 0 where
+  pub lines : (keep : List Keep) (i : Input) (s : Session) (bytes : List ℕ) (one other : List KeptLine) → IsTable i.table
+      → ReadsKept keep i s bytes one → ReadsKept keep i s bytes other → one ≡ other
+  pub text : (page : Page) (words : PageWords) (g : Ground) (kept : List KeptLine) (one other : List ℕ)
+      → names_parts page words.form ≡ false → IsPage page words g kept one → IsPage page words g kept other → one ≡ other
+  pub relation : (t : DecisionTable) (xs : List Answer) (one other : RelationPage)
+      → IsRelationPage t xs one → IsRelationPage t xs other → one ≡ other
 
 -- where a line's answers are kept with what stood, each cell that they give is true of all value functions that are compatible
 -- with that
@@ -51,6 +66,12 @@ abbrev pub ShownIsTrue : Type 0
 ShownIsTrue = (i : Input) (s : Session) (bytes : List ℕ) (accepted : Accepted) (keep : List Keep)
     → IsLawfulIn i.table i.opening → (report : IsProvedReport (bench_for i s) s.lines bytes accepted)
     → AllByRecursion (AreTrueOfWhatStood i.table) (kept_from (bench_for i s) keep [] s.lines report.blocks)
+
+-- Each line that the page of the relation is of is kept with what stood there, so the statements that carry its arrows can be named.
+abbrev pub RelationsHaveWhatStood : Type 0
+RelationsHaveWhatStood = (words : PageWords) (i : Input) (s : Session) (blocks : List Block)
+    → AllByRecursion (λ x. (list : List Numbered) × (x.standing ≡ Some list))
+    (kept_from (bench_for i s) (keeps pages.Relation words s) [] s.lines blocks)
 
 -- ---- classes
 

@@ -1,5 +1,5 @@
 -- What is shown of the relations that were asked.
-use Rattle.std.specs.Prelude.{◌≡◌, ℕ, Bool, not, List, [], ◌∷◌, ◌++◌, length, unwrap_or, slice_get, count_by}
+use Rattle.std.specs.Prelude.{◌≡◌, ℕ, Bool, not, List, [], ◌∷◌, ◌++◌, length, Option, Some, unwrap_or, slice_get, count_by}
 use Rattle.std.specs.Option.{option_map_or}
 use Rattle.ror_statement.specs.declared.statement.Numbered.{Numbered}
 use Rattle.ror_statement.specs.Statements.{numbers_in}
@@ -18,6 +18,7 @@ use Rattle.ror_exports.specs.Dot.{dot_text}
 use Rattle.ror_pages.specs.Heads.{Head}
 use Rattle.ror_pages.specs.Pages.{IsRelationPage}
 use Rattle.ror_pages.specs.Text.{relation_text}
+use Rattle.ror_arrow_reasons.specs.Section.{AreArrowReasons}
 use Rattle.ror_show_words.specs.declared.words.Form.{Form}
 use Rattle.ror_show_words.specs.declared.words.Form.TheVariants.{Text, Csv, Dot}
 
@@ -49,21 +50,30 @@ head_for s x xs = record {
   answers = length xs;
 }
 
--- the relation in a form; between two plain ones stands an empty line
-abbrev pub relation_in : Form → DecisionTable → Head → RelationPage → List ℕ
-relation_in Text t head page = relation_text t head page ++ 10 ∷ []
-relation_in Csv t head page = csv_text t head page.rows
-relation_in Dot t head page = dot_text t head page.arrows
+-- Below the relation as a text stand statements that carry its arrows, of what stood. Those of an arrow may be one of several parts
+-- that carry it.
+abbrev pub AreReasonsIn : Form → DecisionTable → Option (List Numbered) → List Answer → List (ℕ × ℕ) → List ℕ → Type 0
+AreReasonsIn Text t (Some list) xs arrows text = AreArrowReasons t list xs arrows text
+AreReasonsIn _ t _ xs arrows text = text ≡ []
 
--- the text is what the answers say of the relation
-pub record IsRelationIn (form : Form) (t : DecisionTable) (head : Head) (xs : List Answer) (text : List ℕ) : Type 0 where
+-- the relation in a form, with these below a text; between two plain ones stands an empty line
+abbrev pub relation_in : Form → DecisionTable → Head → RelationPage → List ℕ → List ℕ
+relation_in Text t head page reasons = relation_text t head page ++ reasons ++ 10 ∷ []
+relation_in Csv t head page reasons = csv_text t head page.rows
+relation_in Dot t head page reasons = dot_text t head page.arrows
+
+-- the text is what the answers say of the relation, and what carries that over what stood
+pub record IsRelationIn (form : Form) (t : DecisionTable) (head : Head) (list : Option (List Numbered)) (xs : List Answer)
+    (text : List ℕ) : Type 0 where
   pub page : RelationPage
   pub shows : IsRelationPage t xs page
-  pub text_is : text ≡ relation_in form t head page
+  pub reasons : List ℕ
+  pub carry : AreReasonsIn form t list xs page.arrows reasons
+  pub text_is : text ≡ relation_in form t head page reasons
 
 -- of a line that was refused nothing is said
 abbrev pub IsSection : Form → DecisionTable → Session → KeptLine → Body → List ℕ → Type 0
-IsSection form t s x (bodies.Answers xs) text = IsRelationIn form t (head_for s x xs) xs text
+IsSection form t s x (bodies.Answers xs) text = IsRelationIn form t (head_for s x xs) x.standing xs text
 IsSection form t s x _ text = text ≡ []
 
 -- ---- the answers to all lines

@@ -1,7 +1,8 @@
 -- What a page does: it is written of a report that is proved for a session over a table, and says nothing of any other.
-use Rattle.std.specs.Prelude.{◌≡◌, ℕ, ◌≤◌, List, [], ◌∷◌, ◌++◌, length, codes}
+use Rattle.std.specs.Prelude.{◌≡◌, ℕ, ◌≤◌, false, List, [], ◌∷◌, ◌++◌, length, codes, Some}
 use Rattle.ror_value.specs.declared.input.Input.{Input}
 use Rattle.ror_session.specs.declared.session.Session.{Session}
+use Rattle.ror_bench.specs.declared.kept.Keep.{Keep}
 use Rattle.ror_bench.specs.declared.kept.KeptLine.{KeptLine}
 use Rattle.ror_bench.specs.declared.report.Accepted.{Accepted}
 use Rattle.ror_bench.specs.declared.report.TheConstants.{MOST_REPORT_BYTES}
@@ -25,7 +26,7 @@ use Rattle.ror_work_pages.specs.Classing.{classes_in}
 use Rattle.ror_work_pages.specs.Functions.{functions_in}
 use Rattle.ror_work_pages.specs.Grounds.{Ground, ground_in}
 use Rattle.ror_work_pages.specs.Relations.{AreSections}
-use Rattle.ror_work_pages.specs.Shown.{shown_output}
+use Rattle.ror_work_pages.specs.Shown.{IsShown}
 use Rattle.ror_work_pages.specs.Standings.{rolls_text}
 
 -- ---- the page
@@ -60,30 +61,44 @@ page_of page Csv body = head_of page ++ body
 page_of page Text [] = nothing_of page
 page_of page _ body = body
 
--- the text is the page of the kept lines
+-- The text is a page of the kept lines: the one that is defined, but that the relation as a text names for each arrow one of the parts
+-- of what stood that carry it.
 pub record IsPage (page : Page) (words : PageWords) (g : Ground) (kept : List KeptLine) (text : List ℕ) : Type 0 where
   pub body : List ℕ
   pub is : IsBody page words g kept body
   pub text_is : text ≡ page_of page words.form body
 
+-- such a page in a form, and behind it names of the table's file
+abbrev pub IsShownPage : Page → PageWords → List ℕ → Ground → List KeptLine → List ℕ → Type 0
+IsShownPage page words file g kept text = (shown : List ℕ) × IsPage page words g kept shown × IsShown words.form file shown text
+
 -- ---- the course
 
--- the bytes are the text of a report that is proved for table and session, and this is the page of its chosen lines
-pub record ReadsPage (page : Page) (words : PageWords) (i : Input) (s : Session) (bytes text : List ℕ) : Type 0 where
+-- the bytes are the text of a report that is proved for table and session, and these are its lines of which something is kept
+pub record ReadsKept (keep : List Keep) (i : Input) (s : Session) (bytes : List ℕ) (kept : List KeptLine) : Type 0 where
   pub within : length bytes ≤ MOST_REPORT_BYTES
   pub accepted : Accepted
   pub report : IsProvedReport (bench_for i s) s.lines bytes accepted
-  pub shows : IsPage page words (ground_in i s) (kept_from (bench_for i s) (keeps page words s) [] s.lines report.blocks) text
+  pub chosen : kept ≡ kept_from (bench_for i s) keep [] s.lines report.blocks
+
+-- a page is written, and nothing of it is too wide; where all of it is, this holds
+abbrev pub page_output : Page → PageWords → List ℕ → Ground → List KeptLine → Type 0 → Output
+page_output page words file g kept Holds = record {
+  tells = Some false;
+  Whole = λ wide text. (wide ≡ false) × IsShownPage page words file g kept text × Holds;
+  Begun = IsShownPage page words file g kept;
+  keeps_front = false;
+}
 
 -- Where the page is written, every answer of the report that isn't too wide is true of all compatible value functions.
-abbrev pub page_output : Page → PageWords → Input → Session → List ℕ → List ℕ → List ℕ → Output
-page_output page words i s file bytes text =
-    shown_output words.form file text ((accepted : Accepted) × IsAcceptedReport (bench_for i s) s.lines bytes accepted)
+abbrev pub report_output : Page → PageWords → List ℕ → Input → Session → List ℕ → List KeptLine → Output
+report_output page words file i s bytes kept = page_output page words file (ground_in i s) kept
+    ((accepted : Accepted) × IsAcceptedReport (bench_for i s) s.lines bytes accepted)
 
 -- the report is fetched, and refused where a check rejects it
 abbrev pub report_course : Page → PageWords → List ℕ → Input → Session → Course
-report_course page words file i s = fetch (List ℕ) words.report (ReadsPage page words i s) (RefusesReport i s)
-    (λ bytes text. finish (page_output page words i s file bytes text))
+report_course page words file i s = fetch (List KeptLine) words.report (ReadsKept (keeps page words s) i s) (RefusesReport i s)
+    (λ bytes kept. finish (report_output page words file i s bytes kept))
 
 -- once the table was read, the session is fetched, and then the report
 abbrev pub session_course : Page → PageWords → List ℕ → Input → Course

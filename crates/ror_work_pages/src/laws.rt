@@ -1,8 +1,9 @@
 //! Each function here states one law, for all reports, and does nothing.
 
-ghost use Rattle.ror_work_pages.specs.Laws.{OnePage, ShownIsTrue, ClassesAreTrue, FunctionsAreTrue, StandingIsShown};
+ghost use Rattle.ror_work_pages.specs.Laws.{OnePage, ShownIsTrue, RelationsHaveWhatStood, ClassesAreTrue, FunctionsAreTrue, StandingIsShown};
 
-/// A report has one page.
+/// A report has one page, but that the parts of what stood that carry the arrows of a relation, below it as a text, may be some of
+/// several.
 pub fn one_page()
     ensures { OnePage }
 {}
@@ -10,6 +11,11 @@ pub fn one_page()
 /// What is shown of a line is true of all value functions that are compatible with what stood there.
 pub fn shown_is_true()
     ensures { ShownIsTrue }
+{}
+
+/// Each line that the page of the relation is of is kept with what stood there.
+pub fn relations_have_what_stood()
+    ensures { RelationsHaveWhatStood }
 {}
 
 /// At each time that the page of classes shows one list of statements stood, and each sign in its rows is true of all value

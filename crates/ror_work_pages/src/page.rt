@@ -1,6 +1,8 @@
 //! The text of a page.
 
 ghost use Rattle.std.specs.Prelude.{◌≡◌, ◌≤◌, ◌++◌, length, IfOk};
+ghost use Rattle.std.specs.List.{AllByRecursion};
+ghost use Rattle.ror_line_reasons.specs.Laws.{IsReady};
 ghost use Rattle.ror_show_words.specs.Named.{page_words_of};
 ghost use Rattle.ror_work_pages.specs.Grounds.{ground_of};
 ghost use Rattle.ror_work_pages.specs.Showing as spec;
@@ -18,7 +20,7 @@ use ror_show_words::{Form, Page, PageWords};
 use ror_statement::MOST_STATEMENTS;
 use std::alloc::{AllocError, Global};
 
-/// The page of the kept lines.
+/// A page of the kept lines.
 pub(crate) fn page_text(
     alloc: Global,
     page: Page,
@@ -28,6 +30,7 @@ pub(crate) fn page_text(
 ) -> Result<Vec<u8>, AllocError>
     requires few { length ground.now.opening.now ≤ MOST_STATEMENTS }
     requires few_desks { length ground.now.session.now.desks ≤ MOST_DESKS }
+    requires ready { AllByRecursion (IsReady ground.now.table.now) kept.now }
     ensures { IfOk result (λ text. spec.IsPage page (page_words_of words.now) (ground_of ground.now) kept.now text.items) }
 {
     let body = body_of(alloc, page, words, ground, kept)?;
@@ -44,6 +47,7 @@ fn body_of(
 ) -> Result<Vec<u8>, AllocError>
     requires few { length ground.now.opening.now ≤ MOST_STATEMENTS }
     requires few_desks { length ground.now.session.now.desks ≤ MOST_DESKS }
+    requires ready { AllByRecursion (IsReady ground.now.table.now) kept.now }
     ensures { IfOk result (λ text. spec.IsBody page (page_words_of words.now) (ground_of ground.now) kept.now text.items) }
 {
     match page {

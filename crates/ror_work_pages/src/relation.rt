@@ -1,11 +1,15 @@
 //! The relations that were asked.
 
-ghost use Rattle.std.specs.Prelude.{◌≡◌, count_by, IfOk};
+ghost use Rattle.std.specs.Prelude.{◌≡◌, [], ◌∷◌, ◌++◌, count_by, IfOk, OnOk};
+ghost use Rattle.std.specs.List.{AllByRecursion};
 ghost use Rattle.ror_statement.specs.Statements.{numbers_in};
+ghost use Rattle.ror_report.specs.declared.block.Body.TheVariants.{Answers};
 ghost use Rattle.ror_pages.specs.Heads.{head_of};
+ghost use Rattle.ror_line_reasons.specs.Laws.{IsReady};
 ghost use Rattle.ror_work_pages.specs.Relations as spec;
 
 use crate::choose::desk_name;
+use ror_arrow_reasons::arrow_reasons;
 use ror_bench::KeptLine;
 use ror_exports::{print_csv, print_dot};
 use ror_pages::{Heading, RelationPage, print_relation, relation_page};
@@ -15,6 +19,7 @@ use ror_session::Session;
 use ror_show_words::Form;
 use ror_statement::Numbered;
 use ror_table::Table;
+use ror_warm::Engine;
 use std::alloc::{AllocError, Global};
 
 /// What is said of each line, one after the other.
@@ -25,11 +30,13 @@ pub(crate) fn sections_of(
     session: &Session,
     kept: &[KeptLine],
 ) -> Result<Vec<u8>, AllocError>
+    requires { AllByRecursion (IsReady table.now) kept.now }
     ensures { IfOk result (λ text. spec.AreSections form table.now session.now kept.now text.items) }
 {
+    let mut engine = Engine::new(alloc);
     let mut text = Vec::new(alloc);
     for line in kept {
-        let section = section_of(alloc, form, table, session, line)?;
+        let section = section_of(alloc, &mut engine, form, table, session, line)?;
         text.extend_from_slice(section.as_slice())?;
     }
     Ok(text)
@@ -38,16 +45,19 @@ pub(crate) fn sections_of(
 /// What is said of a line.
 fn section_of(
     alloc: Global,
+    engine: &mut Engine,
     form: Form,
     table: &Table,
     session: &Session,
     line: &KeptLine,
 ) -> Result<Vec<u8>, AllocError>
+    requires { IsReady table.now line.now }
     ensures { IfOk result (λ text. spec.IsSection form table.now session.now line.now line.now.block.body text.items) }
 {
     match &line.block.body {
         Body::Answers(answers) => relation_of(
             alloc,
+            engine,
             form,
             table,
             session,
@@ -61,16 +71,21 @@ fn section_of(
 /// What the answers to a line say of the relation.
 fn relation_of(
     alloc: Global,
+    engine: &mut Engine,
     form: Form,
     table: &Table,
     session: &Session,
     line: &KeptLine,
     answers: &[Answer],
 ) -> Result<Vec<u8>, AllocError>
+    requires ready { IsReady table.now line.now }
+    requires answered { line.now.block.body ≡ Answers answers.now }
     ensures { IfOk result (λ text. spec.IsRelationIn form table.now
-        (spec.head_for session.now line.now answers.now) answers.now text.items) }
+        (spec.head_for session.now line.now answers.now) line.now.standing answers.now text.items) }
 {
     let page = relation_page(alloc, table, answers)?;
+    let arrows = page.arrows.as_slice();
+    let reasons = reasons_in(alloc, engine, form, table, line, answers, arrows)?;
     let numbers = numbers_of(alloc, line)?;
     let heading = Heading {
         line: line.block.line,
@@ -79,29 +94,61 @@ fn relation_of(
         proved: proved_among(answers),
         answers: answers.len(),
     };
-    print_page(alloc, form, table, &heading, &page)
+    print_page(alloc, form, table, &heading, &page, reasons.as_slice())
 }
 
-/// The relation in a form.
+/// The statements that carry arrows, below a text, where what stood is kept.
+fn reasons_in(
+    alloc: Global,
+    engine: &mut Engine,
+    form: Form,
+    table: &Table,
+    line: &KeptLine,
+    answers: &[Answer],
+    arrows: &[(usize, usize)],
+) -> Result<Vec<u8>, AllocError>
+    requires ready { IsReady table.now line.now }
+    requires answered { line.now.block.body ≡ Answers answers.now }
+    ensures { IfOk result (λ text. spec.AreReasonsIn form table.now line.now.standing answers.now arrows.now text.items) }
+{
+    match (form, &line.standing) {
+        (Form::Text, Some(list)) => {
+            arrow_reasons(alloc, engine, table, list.as_slice(), answers, arrows)
+        }
+        _ => Ok(Vec::new(alloc)),
+    }
+}
+
+/// The relation in a form, with what carries its arrows below a text.
 fn print_page(
     alloc: Global,
     form: Form,
     table: &Table,
     heading: &Heading,
     page: &RelationPage,
+    reasons: &[u8],
 ) -> Result<Vec<u8>, AllocError>
-    ensures { IfOk result (λ text. text.items ≡ spec.relation_in form table.now (head_of heading.now) page.now) }
+    ensures { IfOk result (λ text. text.items ≡ spec.relation_in form table.now (head_of heading.now) page.now reasons.now) }
 {
     let mut text = Vec::new(alloc);
     match form {
         Form::Text => {
             print_relation(&mut text, table, heading, page)?;
-            text.push(b'\n')?;
+            write_below(&mut text, reasons)?;
         }
         Form::Csv => print_csv(&mut text, table, heading, page)?,
         Form::Dot => print_dot(&mut text, table, heading, page)?,
     }
     Ok(text)
+}
+
+/// What carries the arrows, and an empty line.
+fn write_below(text: &mut Vec<u8>, reasons: &[u8]) -> Result<(), AllocError>
+    ensures { OnOk result (text.new.items ≡ text.old.items ++ reasons.now ++ 10 ∷ []) }
+{
+    text.extend_from_slice(reasons)?;
+    text.push(b'\n')?;
+    Ok(())
 }
 
 /// The name of the desk of the line at a place.

@@ -1,27 +1,35 @@
 //! The course of a page: the three files are fetched in order, and the page of the report is written.
 
 ghost use Rattle.std.specs.Prelude.{◌≡◌, ◌≤◌, [], ◌∷◌, length, false, IfOk};
+ghost use Rattle.std.specs.List.{AllByRecursion};
+ghost use Rattle.ror_value.specs.declared.input.Input.{Input};
 ghost use Rattle.ror_value.specs.Over.{IsLawfulIn};
 ghost use Rattle.ror_session.specs.Sound.{IsSound};
+ghost use Rattle.ror_bench.specs.Bench.{HoldTheSame, LeavesNumbers};
+ghost use Rattle.ror_bench.specs.Reports.{NamesADesk};
+ghost use Rattle.ror_line_reasons.specs.Laws.{IsReady};
 ghost use Rattle.ror_frame.specs.States.{shelf_state, sink_state};
 ghost use Rattle.ror_frame.specs.Courses.{IsFetch, ReadAs, IsWork, WritesDue};
-ghost use Rattle.ror_frame.specs.Inputs.{line_output};
+ghost use Rattle.ror_frame.specs.Inputs.{bench_for, line_output};
 ghost use Rattle.ror_frame.specs.Stops.{last};
 ghost use Rattle.ror_show_words.specs.Named.{page_words_of};
 ghost use Rattle.ror_work.specs.Checking.{RefusesReport};
-ghost use Rattle.ror_work_pages.specs.Showing.{ReadsPage, session_course, show_chore};
+ghost use Rattle.ror_work_pages.specs.Grounds.{ground_of};
+ghost use Rattle.ror_work_pages.specs.Showing.{ReadsKept, page_output, report_course, session_course, show_chore};
 ghost use Rattle.ror_work_pages.specs.Shown.{AreNames, shown_output};
 
 use crate::choose::keeps;
 use crate::grounds::Ground;
 use crate::names::{names_for, shown_with};
 use crate::page::page_text;
-use ror_bench::{Bench, MOST_REPORT_BYTES, Reason, Rejection, check_report_keeping};
+use ror_bench::{
+    Bench, Keep, KeptLine, MOST_REPORT_BYTES, Reason, Rejection, check_report_keeping,
+};
 use ror_frame::{Refusal, Stop, fetch_session, fetch_whole};
 use ror_io::{Shelf, Sink, write_all};
-use ror_session::Session;
+use ror_session::{MOST_DESKS, Session};
 use ror_show_words::{Form, Page, PageWords};
-use ror_statement::Statement;
+use ror_statement::{MOST_STATEMENTS, Statement};
 use ror_table::{TableFault, TableKind};
 use ror_text::Items;
 use ror_text::lines::MOST_TEXT_BYTES;
@@ -83,7 +91,79 @@ fn show_report<F: Shelf, O: Sink>(
         best_first: words.best_first,
     };
     let session = fetch_session(alloc, &files, shelf)?;
-    let text = fetch_page(alloc, page, words, shelf, input, &session)?;
+    show_session(alloc, page, words, file, input, &session, names, shelf, out)
+}
+
+/// Fetches the report, once table and session were read, and writes the page, with names behind it.
+fn show_session<F: Shelf, O: Sink>(
+    alloc: Global,
+    page: Page,
+    words: &PageWords<'_>,
+    file: &[u8],
+    input: Input,
+    session: &Session,
+    names: Result<Vec<u8>, AllocError>,
+    shelf: &mut F,
+    out: &mut O,
+) -> Result<bool, Stop>
+    requires lawful { IsLawfulIn input.table input.opening }
+    requires sound { IsSound session.now }
+    requires names { IfOk names (λ names. AreNames words.now.form file.now names.items) }
+    ensures { IsWork 2 (words.now.report.now ∷ [])
+        (report_course page (page_words_of words.now) file.now input session.now)
+        (shelf_state (F.told shelf.old) (F.faults shelf.old) (F.fetch_count shelf.old))
+        (shelf_state (F.told shelf.new) (F.faults shelf.new) (F.fetch_count shelf.new))
+        (sink_state (O.written out.old) (O.faults out.old))
+        (sink_state (O.written out.new) (O.faults out.new)) result }
+{
+    let keep = keeps(alloc, page, words, session)?;
+    let opening = opening_of(alloc, &input)?;
+    let mut bench = Bench::new(alloc, input, session.desks.len() as u32)?;
+    let kept = fetch_kept(
+        alloc,
+        words.report,
+        shelf,
+        &mut bench,
+        session,
+        keep.as_slice(),
+    )?;
+    let ground = Ground {
+        table: bench.table(),
+        opening: opening.as_slice(),
+        session,
+    };
+    write_kept(
+        alloc,
+        page,
+        words,
+        file,
+        &ground,
+        kept.as_slice(),
+        names,
+        out,
+    )
+}
+
+/// Writes the page of the kept lines, and names behind it. What it gives says that nothing is left to say.
+fn write_kept<O: Sink>(
+    alloc: Global,
+    page: Page,
+    words: &PageWords<'_>,
+    file: &[u8],
+    ground: &Ground<'_>,
+    kept: &[KeptLine],
+    names: Result<Vec<u8>, AllocError>,
+    out: &mut O,
+) -> Result<bool, Stop>
+    requires few { length ground.now.opening.now ≤ MOST_STATEMENTS }
+    requires few_desks { length ground.now.session.now.desks ≤ MOST_DESKS }
+    requires ready { AllByRecursion (IsReady ground.now.table.now) kept.now }
+    requires names { IfOk names (λ names. AreNames words.now.form file.now names.items) }
+    ensures { WritesDue (page_output page (page_words_of words.now) file.now (ground_of ground.now) kept.now (Unit {0}))
+        (sink_state (O.written out.old) (O.faults out.old))
+        (sink_state (O.written out.new) (O.faults out.new)) result }
+{
+    let text = page_text(alloc, page, words, ground, kept)?;
     write_shown(alloc, words.form, file, text.as_slice(), names, out)
 }
 
@@ -118,58 +198,49 @@ fn write_page<O: Sink>(out: &mut O, text: &[u8]) -> Result<bool, Stop>
     Ok(false)
 }
 
-/// Fetches and checks the report, and makes the page of it.
-fn fetch_page<F: Shelf>(
+/// Fetches the report, and checks it over a bench, which keeps its table. What it gives is what the check kept of the lines.
+fn fetch_kept<F: Shelf>(
     alloc: Global,
-    page: Page,
-    words: &PageWords<'_>,
+    report: &str,
     shelf: &mut F,
-    input: Input,
+    bench: &mut Bench,
     session: &Session,
-) -> Result<Items<u8>, Stop>
-    requires lawful { IsLawfulIn input.table input.opening }
-    requires sound { IsSound session.now }
-    ensures { IsFetch words.now.report.now last (ReadsPage page (page_words_of words.now) input session.now)
-        (RefusesReport input session.now)
+    keep: &[Keep],
+) -> Result<Items<KeptLine>, Stop>
+    requires desks { AllByRecursion (NamesADesk (length bench.old.state)) session.now.lines }
+    requires numbers { AllByRecursion (LeavesNumbers (length session.now.lines)) bench.old.state }
+    ensures fetch { (i : Input) → HoldTheSame bench.old (bench_for i session.now)
+        → IsFetch report.now last (ReadsKept keep.now i session.now) (RefusesReport i session.now)
         (shelf_state (F.told shelf.old) (F.faults shelf.old) (F.fetch_count shelf.old))
         (shelf_state (F.told shelf.new) (F.faults shelf.new) (F.fetch_count shelf.new)) result }
+    ensures table { bench.new.table ≡ bench.old.table }
 {
     let too_long = Refusal::Rejected(Rejection {
         block: 0,
         reason: Reason::TooLong,
     });
-    let bytes = fetch_whole(alloc, words.report, MOST_REPORT_BYTES, too_long, shelf)?;
-    page_in(alloc, page, words, input, session, bytes.as_slice())
+    let bytes = fetch_whole(alloc, report, MOST_REPORT_BYTES, too_long, shelf)?;
+    kept_in(alloc, bench, session, bytes.as_slice(), keep)
 }
 
-/// Checks the bytes of a report, and makes the page of it.
-fn page_in(
+/// Checks the bytes of a report, and keeps the lines of it of which something is needed.
+fn kept_in(
     alloc: Global,
-    page: Page,
-    words: &PageWords<'_>,
-    input: Input,
+    bench: &mut Bench,
     session: &Session,
     bytes: &[u8],
-) -> Result<Items<u8>, Stop>
-    requires lawful { IsLawfulIn input.table input.opening }
-    requires sound { IsSound session.now }
+    keep: &[Keep],
+) -> Result<Items<KeptLine>, Stop>
+    requires desks { AllByRecursion (NamesADesk (length bench.old.state)) session.now.lines }
+    requires numbers { AllByRecursion (LeavesNumbers (length session.now.lines)) bench.old.state }
     requires within { length bytes.now ≤ MOST_REPORT_BYTES }
-    ensures { ReadAs last (ReadsPage page (page_words_of words.now) input session.now) (RefusesReport input session.now)
-        bytes.now result }
+    ensures read { (i : Input) → HoldTheSame bench.old (bench_for i session.now)
+        → ReadAs last (ReadsKept keep.now i session.now) (RefusesReport i session.now) bytes.now result }
+    ensures table { bench.new.table ≡ bench.old.table }
 {
-    let keep = keeps(alloc, page, words, session)?;
-    let opening = opening_of(alloc, &input)?;
-    let desks = session.desks.len() as u32;
-    let mut bench = Bench::new(alloc, input, desks)?;
     let lines = session.lines.as_slice();
-    let checked = check_report_keeping(alloc, &mut bench, lines, bytes, keep.as_slice())?;
-    let ground = Ground {
-        table: bench.table(),
-        opening: opening.as_slice(),
-        session,
-    };
-    let text = page_text(alloc, page, words, &ground, checked.1.as_slice())?;
-    Ok(Items::from(text))
+    let checked = check_report_keeping(alloc, bench, lines, bytes, keep)?;
+    Ok(Items::from(checked.1))
 }
 
 /// The statements that come with the table's file.

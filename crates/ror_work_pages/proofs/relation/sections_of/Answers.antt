@@ -3,8 +3,11 @@ use Rattle.std.proofs.Common.{◌≡◌, ℕ, ◌+◌, ◌++◌, [], ◌∷◌, 
 use Rattle.std.proofs.lemmas.List.{take_more}
 use Rattle.ror_bench.specs.declared.kept.KeptLine.{KeptLine}
 use Rattle.ror_work_pages.specs.Relations.{AreSections}
-use Rattle.ror_work_pages.proofs.Sections.{one_more}
+use Rattle.ror_work_pages.proofs.Sections.{one_more, ready_at}
 use Rattle.ror_work_pages.proofs.relation.sections_of.Goals as goal
+
+pub section_of-requires : goal.section_of-requires
+section_of-requires c = ready_at c.args.table.now c.args.kept.now c.loop-line.line-index c.line-item.result c.loop-line-test.true c.line-item.is c.requires
 
 pub loop-line-preserved : goal.loop-line-preserved
 loop-line-preserved c =
