@@ -9,16 +9,21 @@ use Rattle.ror_statement.specs.declared.comparison.Pair.{Pair}
 use Rattle.ror_table.specs.Table.{DecisionTable}
 use Rattle.ror_session.specs.declared.session.Session.{Session}
 use Rattle.ror_proof.specs.declared.answer.Answer.{Answer}
+use Rattle.ror_proof.specs.declared.kept.Kept.{Kept}
 use Rattle.ror_report.specs.declared.block.Body.{Body}
 use Rattle.ror_report.specs.declared.block.Body.TheVariants as bodies
 use Rattle.ror_bench.specs.declared.kept.KeptLine.{KeptLine}
+use Rattle.ror_drop_reasons.specs.Drops.{Repaired}
 use Rattle.ror_line_reasons.specs.Answers.{left_with, left_at, is_shown, IsToldWhere, IsToldAt, AreTold, AreReasons}
 use Rattle.ror_line_reasons.specs.Laws.{IsReady}
-use Rattle.ror_line_reasons.specs.Lines.{scene_at, IsSection, IsSectionAt, AreLines}
+use Rattle.ror_line_reasons.specs.Lines.{scene_at, repaired_at, AreDropsWhere, IsSection, IsSectionAt, AreLines}
 use Rattle.ror_line_reasons.specs.Paragraphs.{Scene}
 
 abbrev scene : DecisionTable → List Numbered → List (Option ℕ) → ℕ → List ℕ → Option Pair → Scene
 scene t list lines line desk pair = record { table = t; list = list; lines = lines; line = line; desk = desk; pair = pair }
+
+abbrev repaired : DecisionTable → List Numbered → List (Option ℕ) → ℕ → List ℕ → List ℕ → Repaired
+repaired t list lines line desk dropped = record { table = t; list = list; lines = lines; line = line; desk = desk; dropped = dropped }
 
 at_place : {X : Type 0} (xs : List X) (k : ℕ) (d : X) → k < length xs → slice_get xs k ≡ Some (get_or xs k d)
 at_place [] k d within = absurd (omega (arith, within))
@@ -50,6 +55,10 @@ pub section_is : (pair : Option Pair) (t : DecisionTable) (s : Session) (opening
 section_is pair t s opening before x list xs text stood body p q h =
     subst (λ (o : Option (List Numbered)). IsSection pair t s opening before x o body text) (sym p) (subst (λ (b : Body). IsSection pair t s opening before x (Some list) b text) (sym q) h)
 
+pub repaired_is : (pair : Option Pair) (t : DecisionTable) (s : Session) (opening : ℕ) (before : List KeptLine) (x : KeptLine) (list : List Numbered) (kept : Kept) (text : List ℕ) (stood : Option (List Numbered)) (body : Body) → stood ≡ Some list → body ≡ bodies.Repaired kept → AreDropsWhere pair (repaired_at t s opening before x list kept.dropped) text → IsSection pair t s opening before x stood body text
+repaired_is pair t s opening before x list kept text stood body p q h =
+    subst (λ (o : Option (List Numbered)). IsSection pair t s opening before x o body text) (sym p) (subst (λ (b : Body). IsSection pair t s opening before x (Some list) b text) (sym q) h)
+
 pub lines_more : (pair : Option Pair) (t : DecisionTable) (s : Session) (opening : ℕ) (kept : List KeptLine) (k : ℕ) (line : KeptLine) (front last after : List ℕ) → k < length kept → line ≡ get_or kept k line → AreLines pair t s opening kept k front → IsSection pair t s opening (take k kept) line line.standing line.block.body last → after ≡ front ++ last → AreLines pair t s opening kept (k + 1) after
 lines_more pair t s opening kept k line front last after within here so_far section all =
     let there : IsSectionAt pair t s opening kept k last = λ x is.
@@ -64,3 +73,7 @@ ready_at t kept k line within here all = subst (IsReady t) (sym here) (all_at (I
 -- what a reason is read against is the same where its lines and its desk are
 pub same_scene : (t : DecisionTable) (list : List Numbered) (said lines : List (Option ℕ)) (line : ℕ) (desk name : List ℕ) (pair : Option Pair) → said ≡ lines → desk ≡ name → scene t list said line desk pair ≡ scene t list lines line name pair
 same_scene t list said lines line desk name pair p q = cc
+
+-- and so is what a repair's reasons are read against
+pub same_repaired : (t : DecisionTable) (list : List Numbered) (said lines : List (Option ℕ)) (line : ℕ) (desk name dropped : List ℕ) → said ≡ lines → desk ≡ name → repaired t list said line desk dropped ≡ repaired t list lines line name dropped
+same_repaired t list said lines line desk name dropped p q = cc

@@ -1,4 +1,4 @@
--- That what stood at a kept line is lawful, its numbers rise, and its answers are proved over it.
+-- That what stood at a kept line is lawful, its numbers rise, and its answers and its repair are proved over it.
 use Rattle.std.proofs.Common.{◌≡◌, ◌≢◌, ◌⊎◌, inl, inr, ℕ, zero, suc, ◌-◌, List, [], ◌∷◌, ◌++◌, length, drop, replicate, Result, Ok, Err, sym, ap, subst, ◌∙◌, append_assoc}
 use Rattle.std.specs.List.{AllByRecursion, AllZip}
 use Rattle.std.specs.List.Sorted.{IsStrictlyIncreasing}
@@ -27,13 +27,14 @@ use Rattle.ror_history.specs.Laws.{AreNumberedInTurn}
 use Rattle.ror_history.proofs.TurnLemmas.{numbers_rise, first_turn, turn_more, turn_kept}
 use Rattle.ror_bench.specs.Allowed.{IsProvedUnlessWide, IsRepairProvedUnlessWide, proved_unless_wide}
 use Rattle.ror_bench.specs.Bench.{Workbench, IsLawfulThroughout}
-use Rattle.ror_bench.specs.Blocks.{IsBodyOf, refused, taken, without_last, with_stated, revisions_with, IsProvedBlock}
+use Rattle.ror_bench.specs.Blocks.{IsTrueRepair, IsBodyOf, refused, taken, without_last, with_stated, revisions_with, IsProvedBlock}
 use Rattle.ror_bench.specs.declared.kept.Keep.{Keep}
 use Rattle.ror_bench.specs.declared.kept.KeptLine.{KeptLine}
 use Rattle.ror_bench.specs.declared.kept.Keep.TheVariants as keeping
 use Rattle.ror_bench.specs.Kept.{keep_at, standing_for, kept_of, kept_from}
 use Rattle.ror_bench.specs.Names.{statement_of}
 use Rattle.ror_bench.specs.Reports.{EachHolds, revisions_then}
+use Rattle.ror_bench.proofs.AnswerLemmas.{block_true}
 use Rattle.ror_bench.proofs.DeskLemmas.{nothing_lawful}
 use Rattle.ror_bench.proofs.LawfulLemmas.{lawful_now, moved_lawful}
 use Rattle.ror_bench.proofs.NameLemmas.{questions_valid}
@@ -130,17 +131,18 @@ moved t r command body h of = record {
 
 -- ---- a kept line
 
-ready : (t : DecisionTable) (r : Revisions) (x : KeptLine) (list : List Numbered) → IsOrderly t r → AllByRecursion (IsSoundAnswer t (statements_of r)) (answers_of x.block.body) → standing r ≡ list → IsReadyOver t x list
-ready t r x list h sound same = record {
+ready : (t : DecisionTable) (r : Revisions) (x : KeptLine) (list : List Numbered) → IsOrderly t r → AllByRecursion (IsSoundAnswer t (statements_of r)) (answers_of x.block.body) → IsTrueRepair t (standing r) x.block.body → standing r ≡ list → IsReadyOver t x list
+ready t r x list h sound repair same = record {
   lawful = subst (λ (l : List Numbered). IsLawfulIn t (statements_in l)) same (lawful_now t r h.lawful);
   rising = subst (λ (l : List Numbered). IsStrictlyIncreasing (numbers_in l)) same (numbers_rise r h.turn).rising;
   sound = subst (λ (l : List Numbered). AllByRecursion (IsSoundAnswer t (statements_in l)) (answers_of x.block.body)) same sound;
+  repair = subst (λ (l : List Numbered). IsTrueRepair t l x.block.body) same repair;
 }
 
-line_ready : (t : DecisionTable) (place : ℕ) (keep : Keep) (r : Revisions) (block : Block) → IsOrderly t r → AllByRecursion (IsSoundAnswer t (statements_of r)) (answers_of block.body) → AllByRecursion (IsReady t) (kept_of place keep (standing_for keep r) block)
-line_ready t place keeping.Nothing r block h sound = tt
-line_ready t place keeping.Block r block h sound = ((λ list stood. absurd cc), tt)
-line_ready t place keeping.Standing r block h sound = ((λ list stood. let same : standing r ≡ list = cc in ready t r _ list h sound same), tt)
+line_ready : (t : DecisionTable) (place : ℕ) (keep : Keep) (r : Revisions) (block : Block) → IsOrderly t r → AllByRecursion (IsSoundAnswer t (statements_of r)) (answers_of block.body) → IsTrueRepair t (standing r) block.body → AllByRecursion (IsReady t) (kept_of place keep (standing_for keep r) block)
+line_ready t place keeping.Nothing r block h sound repair = tt
+line_ready t place keeping.Block r block h sound repair = ((λ list stood. absurd cc), tt)
+line_ready t place keeping.Standing r block h sound repair = ((λ list stood. let same : standing r ≡ list = cc in ready t r _ list h sound repair same), tt)
 
 -- ---- a report
 
@@ -152,7 +154,7 @@ each_ready bench keep before (line ∷ lines) [] orderly h = absurd h
 each_ready bench keep before (line ∷ lines) (block ∷ blocks) orderly h =
     let r = revisions_then bench before line.desk in
     all-append (IsReady bench.table) _ _
-    (line_ready bench.table (length before) (keep_at keep (length before)) r block (orderly line.desk) (body_sound bench.table r line.command block.body h.0.body))
+    (line_ready bench.table (length before) (keep_at keep (length before)) r block (orderly line.desk) (body_sound bench.table r line.command block.body h.0.body) (block_true bench.table r line block (lawful_now bench.table r (orderly line.desk).lawful) h.0).repair)
     (each_ready bench keep (before ++ (line, block) ∷ []) lines blocks (λ desk. then desk (number_cases line.desk desk)) h.1)
   where
     then : (desk : ℕ) → (line.desk ≡ desk) ⊎ (line.desk ≢ desk) → IsOrderly bench.table (revisions_then bench (before ++ (line, block) ∷ []) desk)

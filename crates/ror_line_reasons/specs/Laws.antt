@@ -11,6 +11,7 @@ use Rattle.ror_session.specs.declared.session.Line.{Line}
 use Rattle.ror_report.specs.Text.{answers_of}
 use Rattle.ror_history.specs.Laws.{AreNumberedInTurn}
 use Rattle.ror_bench.specs.Bench.{Workbench, bench_of, HoldTheSame, IsLawfulBench}
+use Rattle.ror_bench.specs.Blocks.{IsTrueRepair}
 use Rattle.ror_bench.specs.declared.kept.Keep.{Keep}
 use Rattle.ror_bench.specs.declared.kept.KeptLine.{KeptLine}
 use Rattle.ror_bench.specs.declared.report.Accepted.{Accepted}
@@ -18,11 +19,12 @@ use Rattle.ror_bench.specs.Kept.{kept_from}
 use Rattle.ror_bench.specs.Reports.{IsProvedReport}
 use Rattle.ror_functions.specs.Laws.{IsSoundAnswer}
 
--- what stood is lawful, its numbers rise, and each answer has its proof over it or is too wide
+-- what stood is lawful, its numbers rise, each answer has its proof over it or is too wide, and a repair drops what a repair of it drops
 pub record IsReadyOver (t : DecisionTable) (x : KeptLine) (list : List Numbered) : Type 0 where
   pub lawful : IsLawfulIn t (statements_in list)
   pub rising : IsStrictlyIncreasing (numbers_in list)
   pub sound : AllByRecursion (IsSoundAnswer t (statements_in list)) (answers_of x.block.body)
+  pub repair : IsTrueRepair t list x.block.body
 
 -- so it is where what stood is kept
 abbrev pub IsReady : DecisionTable → KeptLine → Type 0

@@ -1,5 +1,5 @@
--- The reasons of the answers to kept lines.
-use Rattle.std.specs.Prelude.{◌≡◌, ℕ, zero, suc, List, [], ◌++◌, take, Option, Some, slice_get}
+-- The reasons of the answers to kept lines, and those for which repairs dropped statements.
+use Rattle.std.specs.Prelude.{◌≡◌, ℕ, zero, suc, List, [], ◌++◌, length, take, Option, Some, None, slice_get}
 use Rattle.std.specs.Option.{option_map_or}
 use Rattle.ror_statement.specs.declared.statement.Numbered.{Numbered}
 use Rattle.ror_statement.specs.declared.comparison.Pair.{Pair}
@@ -7,9 +7,12 @@ use Rattle.ror_table.specs.Table.{DecisionTable}
 use Rattle.ror_session.specs.declared.session.Line.{Line}
 use Rattle.ror_session.specs.declared.session.Session.{Session}
 use Rattle.ror_session.specs.Sound.{desk_name}
+use Rattle.ror_proof.specs.declared.kept.Dropped.{Dropped}
+use Rattle.ror_check.specs.Repair.{numbers_of}
 use Rattle.ror_report.specs.declared.block.Body.{Body}
 use Rattle.ror_report.specs.declared.block.Body.TheVariants as bodies
 use Rattle.ror_bench.specs.declared.kept.KeptLine.{KeptLine}
+use Rattle.ror_drop_reasons.specs.Drops.{Repaired, AreDrops}
 use Rattle.ror_line_reasons.specs.Answers.{AreReasons}
 use Rattle.ror_line_reasons.specs.Paragraphs.{Scene}
 use Rattle.ror_line_reasons.specs.Said.{said_lines}
@@ -33,9 +36,26 @@ scene_at pair t s opening before x list = record {
   pair = pair;
 }
 
--- of a line without answers, or without what stood, nothing is said
+-- and what the reasons of a repair's line are
+abbrev pub repaired_at : DecisionTable → Session → ℕ → List KeptLine → KeptLine → List Numbered → List Dropped → Repaired
+repaired_at t s opening before x list dropped = record {
+  table = t;
+  list = list;
+  lines = said_lines s.lines opening (desk_of s.lines x.place) before;
+  line = x.block.line;
+  desk = desk_at s x.place;
+  dropped = numbers_of dropped;
+}
+
+-- why a repair dropped what it did; where answers between two alternatives are meant, it has none
+abbrev pub AreDropsWhere : Option Pair → Repaired → List ℕ → Type 0
+AreDropsWhere None r text = AreDrops r (length r.list) text
+AreDropsWhere (Some p) r text = text ≡ []
+
+-- of another line, or without what stood, nothing is said
 abbrev pub IsSection : Option Pair → DecisionTable → Session → ℕ → List KeptLine → KeptLine → Option (List Numbered) → Body → List ℕ → Type 0
 IsSection pair t s opening before x (Some list) (bodies.Answers xs) text = AreReasons (scene_at pair t s opening before x list) xs text
+IsSection pair t s opening before x (Some list) (bodies.Repaired kept) text = AreDropsWhere pair (repaired_at t s opening before x list kept.dropped) text
 IsSection pair t s opening before x _ _ text = text ≡ []
 
 abbrev pub IsSectionAt : Option Pair → DecisionTable → Session → ℕ → List KeptLine → ℕ → List ℕ → Type 0

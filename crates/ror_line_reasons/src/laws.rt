@@ -7,8 +7,8 @@ pub fn desks_begin_numbered()
     ensures { DesksBeginNumbered }
 {}
 
-/// In a proved report over such desks, what stood at each line that is kept with that is lawful, its numbers rise, and the line's
-/// answers are proved over it.
+/// In a proved report over such desks, what stood at each line that is kept with that is lawful, its numbers rise, the line's
+/// answers are proved over it, and what it dropped is what a repair of it drops.
 pub fn kept_lines_are_ready()
     ensures { KeptLinesAreReady }
 {}

@@ -1,8 +1,8 @@
-//! Why the answers to a session's lines are what they are.
+//! Why the answers to a session's lines are what they are, and why its repairs dropped what they did.
 //!
 //! Of lines that a check of the report kept, those that are answered have the reason of each answer written, below the line's number,
-//! its desk and what was asked ([`line_reasons`]). Where line 6 asks while statements 1 to 4 stand, of which line 1 said the first and
-//! line 5 the fourth, the text is
+//! its desk and what was asked, and those that repair the conflict of each statement that was dropped ([`line_reasons`]). Where line 6
+//! asks while statements 1 to 4 stand, of which line 1 said the first and line 5 the fourth, the text is
 //!
 //! ```text
 //! line 6  necessary c01 c09 yes

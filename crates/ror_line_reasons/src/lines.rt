@@ -1,4 +1,4 @@
-//! The reasons of the answers to kept lines.
+//! The reasons of the answers to kept lines, and those for which repairs dropped statements.
 
 ghost use Rattle.std.specs.Prelude.{◌≡◌, ◌≤◌, length, IfOk};
 ghost use Rattle.std.specs.List.{AllByRecursion};
@@ -7,6 +7,7 @@ ghost use Rattle.ror_session.specs.Sound.{desk_name};
 ghost use Rattle.ror_statement.specs.Statements.{numbers_in, statements_in};
 ghost use Rattle.ror_value.specs.Over.{IsLawfulIn};
 ghost use Rattle.ror_functions.specs.Laws.{IsSoundAnswer};
+ghost use Rattle.ror_drop_reasons.specs.Drops.{AreDrops};
 ghost use Rattle.ror_line_reasons.specs.Answers.{AreReasons};
 ghost use Rattle.ror_line_reasons.specs.Laws.{IsReady};
 ghost use Rattle.ror_line_reasons.specs.Lines as spec;
@@ -15,7 +16,8 @@ use crate::answers::reasons_of;
 use crate::said::said_lines;
 use crate::scene::Scene;
 use ror_bench::KeptLine;
-use ror_proof::Answer;
+use ror_drop_reasons::{Repaired, drop_reasons};
+use ror_proof::{Answer, Dropped};
 use ror_report::Body;
 use ror_session::{Line, Session};
 use ror_statement::{MOST_STATEMENTS, Numbered, Pair};
@@ -24,8 +26,9 @@ use ror_text::Text;
 use ror_warm::Engine;
 use std::alloc::{AllocError, Global};
 
-/// The reasons of the answers to the kept lines, of those with what stood: of all answers, or of those that compare two alternatives. So
-/// many statements came with the table's file; of each line at the desk of one that is answered, up to it, something is kept.
+/// The reasons of the kept lines, of those with what stood: of all answers, and why a repair dropped what it did, or of the answers alone
+/// that compare two alternatives. So many statements came with the table's file; of each line at the desk of one that has reasons, up to
+/// it, something is kept.
 ///
 /// # Errors
 ///
@@ -61,7 +64,7 @@ pub fn line_reasons(
     Ok(text)
 }
 
-/// The reasons of the answers to a line, after others.
+/// The reasons of a line, after others.
 fn section(
     alloc: Global,
     engine: &mut Engine,
@@ -89,6 +92,17 @@ fn section(
             line,
             list.as_slice(),
             answers.as_slice(),
+        ),
+        (Some(list), Body::Repaired(kept)) => repaired(
+            alloc,
+            table,
+            session,
+            opening,
+            pair,
+            before,
+            line,
+            list.as_slice(),
+            kept.dropped.as_slice(),
         ),
         _ => Ok(Vec::new(alloc)),
     }
@@ -126,6 +140,60 @@ fn answered(
         pair,
     };
     reasons_of(alloc, engine, &scene, answers)
+}
+
+/// Why a repair of this list dropped what it did, where all that a line did is meant.
+fn repaired(
+    alloc: Global,
+    table: &Table,
+    session: &Session,
+    opening: usize,
+    pair: Option<Pair>,
+    before: &[KeptLine],
+    line: &KeptLine,
+    list: &[Numbered],
+    dropped: &[Dropped],
+) -> Result<Vec<u8>, AllocError>
+    requires few { opening ≤ MOST_STATEMENTS }
+    requires lawful { IsLawfulIn table.now (statements_in list.now) }
+    requires rising { IsStrictlyIncreasing (numbers_in list.now) }
+    ensures { IfOk result (λ text. spec.AreDropsWhere pair
+        (spec.repaired_at table.now session.now opening before.now line.now list.now dropped.now) text.items) }
+{
+    match pair {
+        Some(_) => Ok(Vec::new(alloc)),
+        None => drops_of(alloc, table, session, opening, before, line, list, dropped),
+    }
+}
+
+fn drops_of(
+    alloc: Global,
+    table: &Table,
+    session: &Session,
+    opening: usize,
+    before: &[KeptLine],
+    line: &KeptLine,
+    list: &[Numbered],
+    dropped: &[Dropped],
+) -> Result<Vec<u8>, AllocError>
+    requires few { opening ≤ MOST_STATEMENTS }
+    requires lawful { IsLawfulIn table.now (statements_in list.now) }
+    requires rising { IsStrictlyIncreasing (numbers_in list.now) }
+    ensures { IfOk result (λ text. AreDrops
+        (spec.repaired_at table.now session.now opening before.now line.now list.now dropped.now) (length list.now) text.items) }
+{
+    let lines = session.lines.as_slice();
+    let desk = desk_of(lines, line.place);
+    let said = said_lines(alloc, lines, opening, desk, before)?;
+    let repaired = Repaired {
+        table,
+        list,
+        lines: said.as_slice(),
+        line: line.block.line,
+        desk: desk_at(session, line.place),
+        dropped,
+    };
+    drop_reasons(alloc, &repaired)
 }
 
 /// The place of the desk of the line at a place.

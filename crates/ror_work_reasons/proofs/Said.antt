@@ -41,7 +41,7 @@ use Rattle.ror_work_pages.specs.Choosing.{is_line, is_up_to, is_desk, keep_where
 use Rattle.ror_work_pages.proofs.ClassTruth.{kept_there}
 use Rattle.ror_work_pages.proofs.Stands.{at_replicate}
 use Rattle.ror_work_reasons.specs.Choosing.{keep_for, keep_of, keeps}
-use Rattle.ror_work_reasons.specs.Laws.{kept_lines, MeantLinesAreKept, SaidIsWhatStood}
+use Rattle.ror_work_reasons.specs.Laws.{kept_lines, IsExplained, MeantLinesAreKept, SaidIsWhatStood}
 use Rattle.ror_work_reasons.proofs.Found.{found, made, kept_at_place}
 
 -- ---- lines that ask leave what stands
@@ -116,6 +116,14 @@ no_block : (b : Bool) → keep_where b keeping.Block ≡ keeping.Standing → �
 no_block true is = cc
 no_block false is = cc
 
+repair_meant : (here before : Bool) → (if here then keeping.Standing else keep_where before keeping.Block) ≡ keeping.Standing → here ≡ true
+repair_meant true before is = refl
+repair_meant false before is = absurd (no_block before is)
+
+repair_some : (here before : Bool) → before ≡ true → (if here then keeping.Standing else keep_where before keeping.Block) ≡ keeping.Nothing → ⊥
+repair_some true before below is = cc
+repair_some false before below is = let p = ap (λ (b : Bool). keep_where b keeping.Block) (sym below) ∙ is in cc
+
 meant_line : (meant : Option ℕ) (n : ℕ) (command : Command) → keep_for meant n command ≡ keeping.Standing → is_line meant n ≡ true
 meant_line meant n (Ask asked) is = by (is_line meant n) is
   where
@@ -125,7 +133,7 @@ meant_line meant n (Ask asked) is = by (is_line meant n) is
 meant_line meant n (State named) is = absurd (no_block (is_up_to meant n) is)
 meant_line meant n (Withdraw m) is = absurd (no_block (is_up_to meant n) is)
 meant_line meant n (Replace m named) is = absurd (no_block (is_up_to meant n) is)
-meant_line meant n Repair is = absurd (no_block (is_up_to meant n) is)
+meant_line meant n Repair is = repair_meant (is_line meant n) (is_up_to meant n) is
 meant_line meant n Undo is = absurd (no_block (is_up_to meant n) is)
 
 -- of a line before the one that is meant something is kept, or it asks
@@ -138,8 +146,17 @@ kept_some meant n (Ask asked) below none = tt
 kept_some meant n (State named) below none = absurd (let p = ap (λ (b : Bool). keep_where b keeping.Block) (sym below) ∙ none in cc)
 kept_some meant n (Withdraw m) below none = absurd (let p = ap (λ (b : Bool). keep_where b keeping.Block) (sym below) ∙ none in cc)
 kept_some meant n (Replace m named) below none = absurd (let p = ap (λ (b : Bool). keep_where b keeping.Block) (sym below) ∙ none in cc)
-kept_some meant n Repair below none = absurd (let p = ap (λ (b : Bool). keep_where b keeping.Block) (sym below) ∙ none in cc)
+kept_some meant n Repair below none = absurd (repair_some (is_line meant n) (is_up_to meant n) below none)
 kept_some meant n Undo below none = absurd (let p = ap (λ (b : Bool). keep_where b keeping.Block) (sym below) ∙ none in cc)
+
+-- of a line that asks or repairs and is meant what stood is kept
+kept_standing : (meant : Option ℕ) (n : ℕ) (command : Command) → IsExplained command → is_line meant n ≡ true → keep_for meant n command ≡ keeping.Standing
+kept_standing meant n (Ask asked) explained here = ap (λ (b : Bool). keep_where b keeping.Standing) here
+kept_standing meant n Repair explained here = ap (λ (b : Bool). if b then keeping.Standing else keep_where (is_up_to meant n) keeping.Block) here
+kept_standing meant n (State named) explained here = absurd explained
+kept_standing meant n (Withdraw m) explained here = absurd explained
+kept_standing meant n (Replace m named) explained here = absurd explained
+kept_standing meant n Undo explained here = absurd explained
 
 -- ---- places
 
@@ -200,11 +217,10 @@ said_is_what_stood words i s bytes accepted k x list sound report is stood =
     ∙ ap (map Some) stand.1
 
 pub meant_lines_are_kept : MeantLinesAreKept
-meant_lines_are_kept words i s bytes accepted n line asked block report at there asks desk_meant line_meant =
+meant_lines_are_kept words i s bytes accepted n line block report at there explained desk_meant line_meant =
     let keep = keeps words s in
     let by_desk : keep_of words s.desks line ≡ keep_for words.line line.number line.command = ap (λ (b : Bool). if b then keep_for words.line line.number line.command else keeping.Nothing) desk_meant in
-    let by_command : keep_for words.line line.number line.command ≡ keep_where (is_line words.line line.number) keeping.Standing = ap (keep_for words.line line.number) asks in
-    let by_line : keep_where (is_line words.line line.number) keeping.Standing ≡ keeping.Standing = ap (λ (b : Bool). keep_where b keeping.Standing) line_meant in
+    let by_line = kept_standing words.line line.number line.command explained line_meant in
     let place : 0 + n ≡ n = omega arith in
-    let kept = kept_at_place (bench_for i s) keep [] s.lines report.blocks n line block at there (ap (keep_at keep) place ∙ kept_there (keep_of words s.desks) s.lines n line at ∙ by_desk ∙ by_command ∙ by_line) in
+    let kept = kept_at_place (bench_for i s) keep [] s.lines report.blocks n line block at there (ap (keep_at keep) place ∙ kept_there (keep_of words s.desks) s.lines n line at ∙ by_desk ∙ by_line) in
     (kept.0, kept.1 ∙ ap (λ (m : ℕ). Some (made (bench_for i s) keep m (with_blocks (take n s.lines) (take n report.blocks)) line block)) place)

@@ -2,8 +2,8 @@
 use Rattle.std.specs.Prelude.{◌≡◌, ℕ, true, List, [], length, map, take, Some, slice_get}
 use Rattle.ror_statement.specs.declared.statement.Numbered.{Numbered}
 use Rattle.ror_value.specs.declared.input.Input.{Input}
-use Rattle.ror_session.specs.declared.session.Asked.{Asked}
-use Rattle.ror_session.specs.declared.session.Command.TheVariants.{Ask}
+use Rattle.ror_session.specs.declared.session.Command.{Command}
+use Rattle.ror_session.specs.declared.session.Command.TheVariants.{Ask, Repair}
 use Rattle.ror_session.specs.declared.session.Line.{Line}
 use Rattle.ror_session.specs.declared.session.Session.{Session}
 use Rattle.ror_session.specs.Sound.{IsSound, desk_name}
@@ -28,12 +28,18 @@ use Rattle.ror_work_reasons.specs.Choosing.{keeps}
 abbrev pub kept_lines : PageWords → Input → Session → List Block → List KeptLine
 kept_lines words i s blocks = kept_from (bench_for i s) (keeps words s) [] s.lines blocks
 
--- A line that asks, at a desk that is meant, and is meant itself, is among them in a proved report, with its block and what stood there
--- when it was asked: so its answers have their reasons on the page.
+-- it asks or repairs, so there may be reasons for what came of it
+abbrev pub IsExplained : Command → Type 0
+IsExplained (Ask asked) = Unit {0}
+IsExplained Repair = Unit {0}
+IsExplained _ = ⊥
+
+-- A line that asks or repairs, at a desk that is meant, and is meant itself, is among them in a proved report, with its block and what
+-- stood there before it: so its answers, or what it dropped, have their reasons on the page.
 abbrev pub MeantLinesAreKept : Type 0
 MeantLinesAreKept = (words : PageWords) (i : Input) (s : Session) (bytes : List ℕ) (accepted : Accepted) (n : ℕ) (line : Line)
-    (asked : Asked) (block : Block) → (report : IsProvedReport (bench_for i s) s.lines bytes accepted)
-    → slice_get s.lines n ≡ Some line → slice_get report.blocks n ≡ Some block → line.command ≡ Ask asked
+    (block : Block) → (report : IsProvedReport (bench_for i s) s.lines bytes accepted)
+    → slice_get s.lines n ≡ Some line → slice_get report.blocks n ≡ Some block → IsExplained line.command
     → is_desk words.desk (desk_name s.desks line) ≡ true → is_line words.line line.number ≡ true
     → (k : ℕ) × (slice_get (kept_lines words i s report.blocks) k ≡ Some (record {
       place = n;

@@ -44,6 +44,13 @@ fn keep_for(meant: Option<u32>, number: u32, command: &Command) -> Keep
 {
     match command {
         Command::Ask(_) => keep_where(is_line(meant, number), Keep::Standing),
+        Command::Repair => {
+            if is_line(meant, number) {
+                Keep::Standing
+            } else {
+                keep_where(is_up_to(meant, number), Keep::Block)
+            }
+        }
         _ => keep_where(is_up_to(meant, number), Keep::Block),
     }
 }

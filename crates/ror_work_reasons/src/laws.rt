@@ -2,7 +2,7 @@
 
 ghost use Rattle.ror_work_reasons.specs.Laws.{MeantLinesAreKept, SaidIsWhatStood};
 
-/// Of each line that asks and is meant its answers are kept, with what stood.
+/// Of each line that asks or repairs and is meant what came of it is kept, with what stood before.
 pub fn meant_lines_are_kept()
     ensures { MeantLinesAreKept }
 {}

@@ -1,5 +1,5 @@
 //! The course of the page of reasons: table, session and report are fetched, the report is checked, and why the answers to the lines
-//! that are meant are what they are is written.
+//! that are meant are what they are, and why repairs there dropped what they did, is written.
 //!
 //! [`show_reasons`] does it. Nothing is shown of a report that a check rejects. For a report of seven lines, of which the fourth and
 //! the sixth, both at desk `@tenant`, ask, it writes
