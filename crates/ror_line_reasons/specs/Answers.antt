@@ -11,10 +11,13 @@ use Rattle.ror_proof.specs.declared.answer.Verdict.{Verdict}
 use Rattle.ror_proof.specs.declared.answer.Verdict.TheVariants as verdicts
 use Rattle.ror_pages.specs.Text.{line_text, counted}
 use Rattle.ror_reason.specs.Reducts.{rests_on_part}
-use Rattle.ror_line_reasons.specs.declared.answers.TheConstants.{MOST_SHOWN}
 use Rattle.ror_line_reasons.specs.Paragraphs.{Scene, IsParagraph}
 
 -- ---- which are shown
+
+-- so many that statements carry are told in full, where there are more answers than that
+abbrev pub most_shown : ℕ
+most_shown = 20
 
 -- statements carry the answer
 abbrev pub is_carried_by : Question → Verdict → Bool
@@ -32,7 +35,7 @@ left_with left x = if is_carried x then left - 1 else left
 
 -- and behind the first answers, so many
 abbrev pub left_at : List Answer → ℕ → ℕ
-left_at xs zero = MOST_SHOWN
+left_at xs zero = most_shown
 left_at xs (suc k) = option_map_or (left_with (left_at xs k)) (slice_get xs k) (left_at xs k)
 
 -- the one is compared with the other, or the other with the one
@@ -46,7 +49,7 @@ is_between p _ = false
 
 -- all of few answers, and of more than that the first that statements carry; or those between two alternatives, where these are meant
 abbrev pub is_shown : Option Pair → ℕ → ℕ → Answer → Bool
-is_shown None count left x = nat_le count MOST_SHOWN || (nat_lt 0 left && is_carried x)
+is_shown None count left x = nat_le count most_shown || (nat_lt 0 left && is_carried x)
 is_shown (Some p) count left x = is_between p x.question
 
 -- ---- what is told of them
@@ -67,7 +70,7 @@ AreTold sc xs (suc k) text = (front : List ℕ) × (last : List ℕ) × AreTold 
 
 -- how many of the answers statements carry, and how many of them are shown at most
 abbrev pub end_text : List ℕ
-end_text = counted (codes ", of which the first ") MOST_SHOWN ++ codes " at most are shown\n\n"
+end_text = counted (codes ", of which the first ") most_shown ++ codes " at most are shown\n\n"
 
 abbrev pub carried_text : ℕ → List ℕ
 carried_text carried = counted (codes "  answers that statements carry: ") carried ++ end_text
@@ -77,7 +80,7 @@ counts_text sc carried = line_text sc.line sc.desk ++ carried_text carried
 
 -- that is said where there are more than all are shown of, and all are meant
 abbrev pub rest_by : Option Pair → Scene → List Answer → List ℕ
-rest_by None sc xs = if nat_le (length xs) MOST_SHOWN then [] else counts_text sc (count_by is_carried xs)
+rest_by None sc xs = if nat_le (length xs) most_shown then [] else counts_text sc (count_by is_carried xs)
 rest_by (Some p) sc xs = []
 
 abbrev pub rest_text : Scene → List Answer → List ℕ
