@@ -81,7 +81,12 @@ fn write_part(
     write_section(alloc, text, table, session, before, now)
 }
 
-fn write_gap(text: &mut Vec<u8>, place: usize) -> Result<(), AllocError>
+/// Adds an empty line, where what comes isn't the first of its kind: where its place isn't 0.
+///
+/// # Errors
+///
+/// Only want of memory.
+pub fn write_gap(text: &mut Vec<u8>, place: usize) -> Result<(), AllocError>
     ensures { OnOk result (text.new.items ≡ text.old.items ++ spec.gap place) }
 {
     if place > 0 {
@@ -103,7 +108,7 @@ fn write_section(
 {
     let first = relation_of(alloc, table, before)?;
     let second = relation_of(alloc, table, now)?;
-    write_pages(alloc, text, table, session, before, now, &first, &second)
+    write_comparison(alloc, text, table, session, before, now, &first, &second)
 }
 
 /// The page of the relation by the answers to a line.
@@ -113,7 +118,8 @@ fn relation_of(alloc: Global, table: &Table, line: &KeptLine) -> Result<Relation
     relation_page(alloc, table, answers_of(&line.block.body))
 }
 
-pub(crate) fn answers_of(body: &Body) -> &[Answer]
+/// The answers to a line, none where it wasn't answered.
+pub fn answers_of(body: &Body) -> &[Answer]
     ensures { result.now ≡ answers_of body.now }
 {
     match body {
@@ -122,7 +128,13 @@ pub(crate) fn answers_of(body: &Body) -> &[Answer]
     }
 }
 
-fn write_pages(
+/// Adds what changed from one kept line to a later one, by the pages of the relation before and now: a part of what [`write_changes`]
+/// writes.
+///
+/// # Errors
+///
+/// Only want of memory.
+pub fn write_comparison(
     alloc: Global,
     text: &mut Vec<u8>,
     table: &Table,

@@ -21,5 +21,6 @@ mod lists;
 mod sides;
 mod turns;
 
-pub use changes::write_changes;
+pub use changes::{answers_of, write_changes, write_comparison, write_gap};
 pub use csv::{csv_head, write_changes_csv};
+pub use turns::turns_among;

@@ -9,8 +9,13 @@ use ror_report::Body;
 use ror_session::{Asked, Command, Line, Session};
 use std::alloc::{AllocError, Global};
 
-/// Each answered line that has one before it at its desk, with the last one before it, by their places among the kept lines.
-pub(crate) fn turns_among(
+/// Each answered line that has one before it at its desk, with the last one before it, by their places among the kept lines, in order of
+/// the later one.
+///
+/// # Errors
+///
+/// Only want of memory.
+pub fn turns_among(
     alloc: Global,
     session: &Session,
     kept: &[KeptLine],

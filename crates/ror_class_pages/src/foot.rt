@@ -62,8 +62,8 @@ pub(crate) fn is_settled(classes: u32, answers: &[Answer]) -> bool
     lowest == highest(answers, classes) && sign_of_class(answers, lowest).is_possible()
 }
 
-/// The least of the first `classes` classes that isn't excluded, 0 where each is.
-pub(crate) fn lowest(answers: &[Answer], classes: u32) -> u32
+/// The least of the first `classes` classes that these answers don't exclude, 0 where they exclude each.
+pub fn lowest(answers: &[Answer], classes: u32) -> u32
     ensures { result ≡ spec.lowest answers.now classes }
 {
     let mut found = 0;
@@ -75,8 +75,8 @@ pub(crate) fn lowest(answers: &[Answer], classes: u32) -> u32
     found
 }
 
-/// The greatest of them.
-pub(crate) fn highest(answers: &[Answer], classes: u32) -> u32
+/// The greatest of the first `classes` classes that these answers don't exclude, 0 where they exclude each.
+pub fn highest(answers: &[Answer], classes: u32) -> u32
     ensures { result ≡ spec.highest answers.now classes }
 {
     let mut found = 0;

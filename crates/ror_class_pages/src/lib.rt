@@ -29,9 +29,11 @@ mod times;
 mod value;
 
 pub use csv::{csv_head, write_classes_csv};
-pub use foot::{write_interval, write_list};
+pub use foot::{highest, lowest, write_interval, write_list};
 pub use keep::keep_for;
-pub use page::{write_classes, write_stood, write_to};
-pub use sign::Sign;
-pub use times::desk_at;
+pub use order::in_order;
+pub use page::{write_classes, write_numbered_time, write_stood, write_to};
+pub use sign::{Sign, alternative_of};
+pub use table::answers_of;
+pub use times::{all_times, desk_at, desk_of, rows};
 pub use value::{ClassRow, ClassTime, class_times};

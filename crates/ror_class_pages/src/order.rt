@@ -9,8 +9,12 @@ use ror_bench::KeptLine;
 use ror_table::Table;
 use std::alloc::{AllocError, Global};
 
-/// These places in the order of the table's alternatives, those of one alternative as they come.
-pub(crate) fn in_order(
+/// These places of kept lines in the order of the table's alternatives, those of one alternative as they come.
+///
+/// # Errors
+///
+/// Only want of memory.
+pub fn in_order(
     alloc: Global,
     table: &Table,
     kept: &[KeptLine],

@@ -73,10 +73,16 @@ fn write_section_of(
     let Some(place) = starts.get(number) else {
         return Ok(());
     };
-    write_behind_gap(alloc, text, table, session, kept, number, *place)
+    write_numbered_time(alloc, text, table, session, kept, number, *place)
 }
 
-fn write_behind_gap(
+/// Adds the section of the time that the kept line at a place begins, behind an empty line where the time's number isn't 0: a part of
+/// what [`write_classes`] writes.
+///
+/// # Errors
+///
+/// Only want of memory.
+pub fn write_numbered_time(
     alloc: Global,
     text: &mut Vec<u8>,
     table: &Table,

@@ -60,8 +60,8 @@ impl Sign {
     }
 }
 
-/// The alternative of the first answer.
-pub(crate) fn alternative_of(answers: &[Answer]) -> usize
+/// The alternative of the first answer, by its place in the table; 0 where that isn't on a class.
+pub fn alternative_of(answers: &[Answer]) -> usize
     ensures { result ≡ spec.alternative_of answers.now }
 {
     match answers.get(0) {

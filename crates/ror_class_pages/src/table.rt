@@ -188,7 +188,8 @@ pub(crate) fn id_at<'a>(table: &'a Table, line: &KeptLine) -> &'a [u8]
     id_bytes(table, alternative_of(answers_of(&line.block.body)))
 }
 
-pub(crate) fn answers_of(body: &Body) -> &[Answer]
+/// The answers to a line, none where it wasn't answered.
+pub fn answers_of(body: &Body) -> &[Answer]
     ensures { result.now ≡ answers_of body.now }
 {
     match body {

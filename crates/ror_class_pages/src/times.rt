@@ -10,7 +10,11 @@ use ror_session::{Asked, Command, Line, Session};
 use std::alloc::{AllocError, Global};
 
 /// The places of the kept lines that begin a time, in order.
-pub(crate) fn all_times(
+///
+/// # Errors
+///
+/// Only want of memory.
+pub fn all_times(
     alloc: Global,
     session: &Session,
     kept: &[KeptLine],
@@ -71,8 +75,13 @@ fn goes_on(session: &Session, kept: &[KeptLine], desk: u32, end: usize) -> bool
     false
 }
 
-/// The places of the answered lines of a desk from a place on, before the next change there.
-pub(crate) fn rows(
+/// The places of the answered lines of a desk from a place on, before the next change there: those of a time, where the line at the place
+/// begins one.
+///
+/// # Errors
+///
+/// Only want of memory.
+pub fn rows(
     alloc: Global,
     session: &Session,
     kept: &[KeptLine],
@@ -183,8 +192,8 @@ fn is_revision(body: &Body) -> bool
     }
 }
 
-/// The place of the desk of a kept line.
-pub(crate) fn desk_of(session: &Session, line: &KeptLine) -> u32
+/// The place of the desk of a kept line among the session's desks, 0 where the session has no such line.
+pub fn desk_of(session: &Session, line: &KeptLine) -> u32
     ensures { result ≡ spec.desk_of session.now line.now }
 {
     match session.lines.as_slice().get(line.place) {

@@ -6,7 +6,7 @@ use Rattle.ror_change_pages.proofs.changes.write_section.Goals as goal
 
 pub returns : goal.returns
 returns c =
-    on_ok_weaker c.write_pages.result
+    on_ok_weaker c.write_comparison.result
     (λ last. record {
       piece = section_text c.args.table.now c.args.session.now c.args.before.now c.args.now.now c.in_ok-first.first c.in_ok-second.second;
       is = record {
@@ -18,4 +18,4 @@ returns c =
       };
       text_is = last;
     })
-    c.write_pages.ensures
+    c.write_comparison.ensures

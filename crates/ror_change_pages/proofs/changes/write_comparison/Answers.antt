@@ -3,7 +3,7 @@ use Rattle.std.proofs.Common.{◌≡◌, ℕ, ◌++◌, List, Option, ap, ◌∙
 use Rattle.ror_pages.specs.Pages.{known}
 use Rattle.ror_pages.proofs.Pieces.{four_more}
 use Rattle.ror_change_pages.specs.Text.{head_text, counts_text, changes_text, both_levels}
-use Rattle.ror_change_pages.proofs.changes.write_pages.Goals as goal
+use Rattle.ror_change_pages.proofs.changes.write_comparison.Goals as goal
 
 pub returns : goal.returns
 returns c =
