@@ -98,7 +98,7 @@ proved_over t list arrow x is sound = record { question = refl; proof = by x.ver
 
 -- ---- the numbers in its reason
 
-of_reason : (t : DecisionTable) (list : List Numbered) (a b : ℕ) (reason : Reason) → IsReasonOf (most_of B127) t list (Necessary a b) conclusions.Yes reason → Carries t list (Necessary a b) (numbers_of reason)
+of_reason : (t : DecisionTable) (list : List Numbered) (a b : ℕ) (reason : Reason) → IsReasonOf (most_of B127) t list (Necessary a b) conclusions.Yes reason → Carries t list (Necessary a b) conclusions.Yes (numbers_of reason)
 of_reason t list a b (reasons.Carried x) h = h.1
 of_reason t list a b (reasons.Wide ns x others) h = (ns, x, others, h)
 of_reason t list a b (reasons.OneHas x) h = absurd (let p = h.0 in cc)
@@ -113,12 +113,12 @@ for_yes t list q (verdicts.No proof) reason yes_ h = absurd (let p = yes_ in cc)
 for_yes t list q (verdicts.Contradiction proof) reason yes_ h = absurd (let p = yes_ in cc)
 for_yes t list q (verdicts.Wide system note) reason yes_ h = absurd yes_
 
-carries : (t : DecisionTable) (list : List Numbered) (arrow : ℕ × ℕ) (q : Question) (v : Verdict) (numbers : Option (List ℕ)) → is_yes_over arrow q v ≡ true → AreNumbersFor t list q v numbers → Carries t list (Necessary arrow.0 arrow.1) numbers
+carries : (t : DecisionTable) (list : List Numbered) (arrow : ℕ × ℕ) (q : Question) (v : Verdict) (numbers : Option (List ℕ)) → is_yes_over arrow q v ≡ true → AreNumbersFor t list q v numbers → Carries t list (Necessary arrow.0 arrow.1) conclusions.Yes numbers
 carries t list arrow q v numbers is are =
     let said = says_yes arrow q v is in
     let of = for_yes t list q v are.0 said.concludes are.1 in
     let about = subst (λ (p : Question). IsReasonOf (most_of B127) t list p conclusions.Yes are.0) said.asks of in
-    subst (Carries t list (Necessary arrow.0 arrow.1)) (sym are.2) (of_reason t list arrow.0 arrow.1 are.0 about)
+    subst (Carries t list (Necessary arrow.0 arrow.1) conclusions.Yes) (sym are.2) (of_reason t list arrow.0 arrow.1 are.0 about)
 
 pub carried_by : (t : DecisionTable) (list : List Numbered) (xs : List Answer) (arrow : ℕ × ℕ) (x : Answer) (numbers : Option (List ℕ)) → find (says_over arrow) xs ≡ Some x → AreNumbersFor t list x.question x.verdict numbers → IsCarriedBy t list xs arrow numbers
 carried_by t list xs arrow x numbers there are =

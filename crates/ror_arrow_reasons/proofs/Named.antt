@@ -101,6 +101,16 @@ said_somewhere a b xs k None there said = absurd cc
 known-size : (n : ℕ) (xs : List Answer) → length (known (cell_rows n xs)) ≡ n
 known-size n xs = length-map (cell_rows n xs) (map is_over) ∙ length-map-range_with_len (cells_from n xs) 0 n
 
+-- so is that one alternative is over another, by the cell of both
+pub over_by_answer : (n : ℕ) (xs : List Answer) (a b : ℕ) → a ≢ b → is_over (cell_at n xs a b) ≡ true → (x : Answer) × (find (says_over (a, b)) xs ≡ Some x)
+over_by_answer n xs a b differ over =
+    let said = by (a == b) refl over in
+    said_somewhere a b xs (2 * place_of_pair n a b) (slice_get xs (2 * place_of_pair n a b)) refl said
+  where
+    by : (same : Bool) → (a == b) ≡ same → is_over (if same then cells.Itself else cell_of (said_of_pair n xs a b) (said_of_pair n xs b a)) ≡ true → (said_of_pair n xs a b).necessary ≡ Yes
+    by true same over = absurd (differ (eqb-true a b same))
+    by false same over = over_said (said_of_pair n xs a b) (said_of_pair n xs b a) over
+
 above_said : (n : ℕ) (xs : List Answer) (a b : ℕ) → IsAbove (known (cell_rows n xs)) a b → (x : Answer) × (find (says_over (a, b)) xs ≡ Some x)
 above_said n xs a b above =
     let r = known (cell_rows n xs) in
@@ -108,20 +118,14 @@ above_said n xs a b above =
     let size = known-size n xs in
     let first = first-there r a b parts.0 in
     let second = second-there r a b parts.0 in
-    let over : is_over (cell_at n xs a b) ≡ true = sym (known-at n xs a b (omega (arith, size, first)) (omega (arith, size, second))) ∙ parts.0 in
-    let said = by r parts.0 parts.1 (a == b) refl over in
-    said_somewhere a b xs (2 * place_of_pair n a b) (slice_get xs (2 * place_of_pair n a b)) refl said
+    over_by_answer n xs a b (itself r parts.0 parts.1) (sym (known-at n xs a b (omega (arith, size, first)) (omega (arith, size, second))) ∙ parts.0)
   where
     itself : (r : Square) → holds r a b ≡ true → holds r b a ≡ false → a ≢ b
     itself r there back same = let p = sym there ∙ ap (λ (c : ℕ). holds r c b) same ∙ ap (λ (c : ℕ). holds r b c) (sym same) ∙ back in cc
 
-    by : (r : Square) → holds r a b ≡ true → holds r b a ≡ false → (same : Bool) → (a == b) ≡ same → is_over (if same then cells.Itself else cell_of (said_of_pair n xs a b) (said_of_pair n xs b a)) ≡ true → (said_of_pair n xs a b).necessary ≡ Yes
-    by r there back true same over = absurd (itself r there back (eqb-true a b same))
-    by r there back false same over = over_said (said_of_pair n xs a b) (said_of_pair n xs b a) over
-
 -- ---- and is carried by what is named
 
-of_carries : (t : DecisionTable) (list : List Numbered) (arrow : ℕ × ℕ) (numbers : Option (List ℕ)) → Carries t list (Necessary arrow.0 arrow.1) numbers → AreNeededOrWide t list arrow numbers
+pub of_carries : (t : DecisionTable) (list : List Numbered) (arrow : ℕ × ℕ) (numbers : Option (List ℕ)) → Carries t list (Necessary arrow.0 arrow.1) conclusions.Yes numbers → AreNeededOrWide t list arrow numbers
 of_carries t list arrow (Some ns) reduct = record {
   numbers = reduct.numbers;
   consistent = reduct.carries.0;

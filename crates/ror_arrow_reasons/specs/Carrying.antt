@@ -2,6 +2,7 @@
 use Rattle.std.specs.Prelude.{◌≡◌, ◌==◌, ℕ, Bool, false, ◌&&◌, List, [], ◌∷◌, Option, Some, None}
 use Rattle.std.specs.List.{find}
 use Rattle.ror_statement.specs.declared.statement.Numbered.{Numbered}
+use Rattle.ror_statement.specs.declared.question.Conclusion.{Conclusion}
 use Rattle.ror_statement.specs.declared.question.Conclusion.TheVariants as conclusions
 use Rattle.ror_statement.specs.declared.question.Question.{Question}
 use Rattle.ror_statement.specs.declared.question.Question.TheVariants.{Necessary}
@@ -52,16 +53,15 @@ AreNumbersFor t list q v numbers = (reason : Reason) × IsReasonFor t list q v r
 
 -- ---- which statements carry it
 
--- The numbers are those of a reduct of the answer yes: over the statements that they name it is that, and without any one of these it
+-- The numbers are those of a reduct of an answer: over the statements that they name it is concluded, and without any one of these it
 -- isn't. None stands where for some statement of a part that carries the answer the answer over the others passes the greatest width.
-abbrev pub Carries : DecisionTable → List Numbered → Question → Option (List ℕ) → Type 0
-Carries t list q (Some numbers) = IsReduct t list q conclusions.Yes numbers
-Carries t list q None = (ns : List ℕ) × (x : Answer) × (others : List Answer)
-    × IsWideReason (most_of B127) t list q conclusions.Yes ns x others
+abbrev pub Carries : DecisionTable → List Numbered → Question → Conclusion → Option (List ℕ) → Type 0
+Carries t list q c (Some numbers) = IsReduct t list q c numbers
+Carries t list q c None = (ns : List ℕ) × (x : Answer) × (others : List Answer) × IsWideReason (most_of B127) t list q c ns x others
 
 -- where an answer says it, and none where none does
 abbrev pub CarriesWhere : DecisionTable → List Numbered → ℕ × ℕ → Option Answer → Option (List ℕ) → Type 0
-CarriesWhere t list arrow (Some x) numbers = Carries t list (Necessary arrow.0 arrow.1) numbers
+CarriesWhere t list arrow (Some x) numbers = Carries t list (Necessary arrow.0 arrow.1) conclusions.Yes numbers
 CarriesWhere t list arrow None numbers = numbers ≡ None
 
 -- of what some answers say

@@ -21,8 +21,13 @@ abbrev pub head : List ℕ
 head = codes "\n  statements that carry each arrow (none of them can be spared, and others may carry it too)\n"
 
 -- nothing where there are no arrows
-abbrev pub headed : List (ℕ × ℕ) → List ℕ → List ℕ
-headed arrows lines = if length arrows == 0 then [] else head ++ lines
+abbrev pub headed : List ℕ → List (ℕ × ℕ) → List ℕ → List ℕ
+headed words arrows lines = if length arrows == 0 then [] else words ++ lines
+
+-- below these words
+abbrev pub AreHeadedReasons : DecisionTable → List Numbered → List Answer → List ℕ → List (ℕ × ℕ) → List ℕ → Type 0
+AreHeadedReasons t list xs words arrows text = (lines : List ℕ) × AreArrowLines t list xs arrows lines
+    × (text ≡ headed words arrows lines)
 
 abbrev pub AreArrowReasons : DecisionTable → List Numbered → List Answer → List (ℕ × ℕ) → List ℕ → Type 0
-AreArrowReasons t list xs arrows text = (lines : List ℕ) × AreArrowLines t list xs arrows lines × (text ≡ headed arrows lines)
+AreArrowReasons t list xs arrows text = AreHeadedReasons t list xs head arrows text

@@ -56,8 +56,16 @@ fn says_over(answer: &Answer, arrow: (usize, usize)) -> bool
     }
 }
 
-/// The numbers in the reason of an answer.
-fn carrying_by(
+/// The numbers of statements that carry an answer over the list, of which none can be spared: those of a reduct. None where that isn't known
+/// of some of them, since over the others a number is too wide, and where no statement carries the answer.
+///
+/// The statements are lawful, their numbers rise, the question of the answer is valid for the table, and the answer has its proof. An engine
+/// that may have decided others before decides which statements can be spared.
+///
+/// # Errors
+///
+/// Only want of memory.
+pub fn carrying_by(
     alloc: Global,
     engine: &mut Engine,
     table: &Table,

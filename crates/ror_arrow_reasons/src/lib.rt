@@ -19,4 +19,6 @@ pub mod laws;
 mod section;
 mod words;
 
-pub use section::arrow_reasons;
+pub use carrying::carrying_by;
+pub use section::{arrow_reasons, headed_arrow_reasons};
+pub use words::write_carrying;

@@ -36,8 +36,36 @@ pub fn arrow_reasons(
     requires sound { AllByRecursion (IsSoundAnswer table.now (statements_in list.now)) answers.now }
     ensures { IfOk result (λ text. spec.AreArrowReasons table.now list.now answers.now arrows.now text.items) }
 {
+    headed_arrow_reasons(alloc, engine, table, list, answers, arrows, head())
+}
+
+/// The same as [`arrow_reasons`], below another head.
+///
+/// # Errors
+///
+/// Only want of memory.
+pub fn headed_arrow_reasons(
+    alloc: Global,
+    engine: &mut Engine,
+    table: &Table,
+    list: &[Numbered],
+    answers: &[Answer],
+    arrows: &[(usize, usize)],
+    words: &[u8],
+) -> Result<Vec<u8>, AllocError>
+    requires lawful { IsLawfulIn table.now (statements_in list.now) }
+    requires rising { IsStrictlyIncreasing (numbers_in list.now) }
+    requires sound { AllByRecursion (IsSoundAnswer table.now (statements_in list.now)) answers.now }
+    ensures { IfOk result (λ text. spec.AreHeadedReasons table.now list.now answers.now words.now arrows.now text.items) }
+{
     let lines = arrow_lines(alloc, engine, table, list, answers, arrows)?;
-    headed(alloc, arrows, lines)
+    headed(alloc, words, arrows, lines)
+}
+
+fn head() -> &'static [u8]
+    ensures { result.now ≡ spec.head }
+{
+    b"\n  statements that carry each arrow (none of them can be spared, and others may carry it too)\n"
 }
 
 /// The lines of the arrows.
@@ -81,16 +109,19 @@ fn line_of(
 }
 
 /// The lines below a head, where there are some.
-fn headed(alloc: Global, arrows: &[(usize, usize)], lines: Vec<u8>) -> Result<Vec<u8>, AllocError>
-    ensures { IfOk result (λ text. text.items ≡ spec.headed arrows.now lines.items) }
+fn headed(
+    alloc: Global,
+    words: &[u8],
+    arrows: &[(usize, usize)],
+    lines: Vec<u8>,
+) -> Result<Vec<u8>, AllocError>
+    ensures { IfOk result (λ text. text.items ≡ spec.headed words.now arrows.now lines.items) }
 {
     let mut text = Vec::new(alloc);
     if arrows.is_empty() {
         return Ok(text);
     }
-    text.extend_from_slice(
-        b"\n  statements that carry each arrow (none of them can be spared, and others may carry it too)\n",
-    )?;
+    text.extend_from_slice(words)?;
     text.extend_from_slice(lines.as_slice())?;
     Ok(text)
 }

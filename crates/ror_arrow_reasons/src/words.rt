@@ -82,8 +82,13 @@ fn lead_word(alloc: Global, table: &Table, b: usize) -> Result<Vec<u8>, AllocErr
     Ok(word)
 }
 
-/// What carries an arrow.
-fn write_carrying(
+/// Adds the numbers of what carries something, or that none is needed, or that a number is too wide, behind a text that has so many columns
+/// left in its line. Where these are full the numbers go on below, behind a margin of eight columns.
+///
+/// # Errors
+///
+/// Only want of memory.
+pub fn write_carrying(
     text: &mut Vec<u8>,
     room: usize,
     carrying: &Option<Items<u32>>,
