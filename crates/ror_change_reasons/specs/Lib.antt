@@ -1,0 +1,3 @@
+pub mod Section
+pub mod Page
+pub mod Laws
