@@ -25,7 +25,7 @@ use Rattle.ror_work_pages.specs.Relations.{IsRelationIn, relation_in, IsSection,
 use Rattle.ror_work_pages.specs.Showing.{IsBody, IsPage, page_of, ReadsKept}
 use Rattle.ror_work_pages.specs.Laws.{names_parts, OnePage}
 use Rattle.ror_work_pages.proofs.OneContent.{one_content}
-use Rattle.ror_work_pages.proofs.OneChange.{one_change}
+use Rattle.ror_work_pages.proofs.OneChange.{one_change, one_of_classes}
 
 -- one text of it in each form for programs
 one_relation : (form : Form) (t : DecisionTable) (head : Head) (list : Option (List Numbered)) (xs : List Answer) (one other : List ℕ) → names_parts pages.Relation form ≡ false → IsRelationIn form t head list xs one → IsRelationIn form t head list xs other → one ≡ other
@@ -55,8 +55,8 @@ one_sections form t s (x ∷ xs) one other none p q =
 -- what is said of kept lines is one text
 one_body : (page : Page) (words : PageWords) (g : Ground) (xs : List KeptLine) (one other : List ℕ) → names_parts page words.form ≡ false → IsBody page words g xs one → IsBody page words g xs other → one ≡ other
 one_body pages.Relation words g xs one other none p q = one_sections words.form g.table g.session xs one other none p q
-one_body pages.Changes words g xs one other none p q = one_change words.form g xs one other p q
-one_body pages.Classes words g xs one other none p q = p ∙ sym q
+one_body pages.Changes words g xs one other none p q = one_change words.form g xs one other none p q
+one_body pages.Classes words g xs one other none p q = one_of_classes words.form g xs one other none p q
 one_body pages.Standing words g xs one other none p q = p ∙ sym q
 one_body pages.Functions words g xs one other none p q = p ∙ sym q
 

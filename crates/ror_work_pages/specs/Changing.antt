@@ -2,7 +2,7 @@
 use Rattle.std.specs.Prelude.{◌≡◌, ℕ, List, [], ◌∷◌, ◌++◌}
 use Rattle.ror_bench.specs.declared.kept.KeptLine.{KeptLine}
 use Rattle.ror_change_pages.specs.Csv.{csv_text}
-use Rattle.ror_change_pages.specs.Text.{IsChanges}
+use Rattle.ror_change_reasons.specs.Page.{IsChangesPage}
 use Rattle.ror_class_changes.specs.Text.{page_text}
 use Rattle.ror_show_words.specs.declared.words.Form.{Form}
 use Rattle.ror_show_words.specs.declared.words.Form.TheVariants.{Text, Csv, Dot}
@@ -14,10 +14,11 @@ behind [] other = other
 behind one [] = one
 behind one other = one ++ 10 ∷ other
 
--- what changed in relations, and behind it what changed in classes
+-- What changed in relations, with statements that carry what is new, which may be one of several parts that do, and behind it what changed
+-- in classes.
 pub record AreBothChanges (g : Ground) (kept : List KeptLine) (text : List ℕ) : Type 0 where
   pub relations : List ℕ
-  pub are : IsChanges g.table g.session kept relations
+  pub are : IsChangesPage g.table g.session kept relations
   pub text_is : text ≡ behind relations (page_text g.table g.session kept)
 
 -- What changed from each relation of a desk to the next one, and from each time of its classes, in a form. Values are of relations

@@ -1,5 +1,5 @@
 -- What holds of the pages of a report.
-use Rattle.std.specs.Prelude.{◌≡◌, ℕ, ◌<◌, Bool, true, false, List, [], length, map, slice_get, slice_index_or, Some, None}
+use Rattle.std.specs.Prelude.{◌≡◌, ℕ, ◌<◌, Bool, true, false, List, [], length, map, slice_get, slice_index_or, Option, Some, None}
 use Rattle.std.specs.List.{AllByRecursion}
 use Rattle.ror_statement.specs.declared.statement.Numbered.{Numbered}
 use Rattle.ror_statement.specs.Statements.{statements_in}
@@ -30,6 +30,9 @@ use Rattle.ror_class_pages.specs.Signs.{alternative_of, sign_of_class}
 use Rattle.ror_class_pages.specs.Times.{answers_at, rows}
 use Rattle.ror_function_pages.specs.Laws.{AreMeantOfWhatStood}
 use Rattle.ror_frame.specs.Inputs.{bench_for}
+use Rattle.ror_session.specs.declared.session.Command.{Command}
+use Rattle.ror_session.specs.declared.session.Command.TheVariants.{Ask}
+use Rattle.ror_session.specs.declared.session.Line.{Line}
 use Rattle.ror_session.specs.declared.session.Session.{Session}
 use Rattle.ror_show_words.specs.declared.table.Page.{Page}
 use Rattle.ror_show_words.specs.declared.table.Page.TheVariants as pages
@@ -43,10 +46,12 @@ use Rattle.ror_work_pages.specs.Showing.{IsPage, ReadsKept}
 -- the page names parts of what stood, which may be some of several
 abbrev pub names_parts : Page → Form → Bool
 names_parts pages.Relation Text = true
+names_parts pages.Changes Text = true
+names_parts pages.Classes Text = true
 names_parts _ _ = false
 
 -- Of a report the lines are one list of which something is kept. These have one page, where it names no parts of what stood; and where it
--- does, the answers to a line have one relation, of which all stands there but those parts.
+-- does, the answers to a line have one relation, of which all stands there but those parts, as it does of the section of a time of classes.
 pub record OnePage : Type 0 where
   pub lines : (keep : List Keep) (i : Input) (s : Session) (bytes : List ℕ) (one other : List KeptLine) → IsTable i.table
       → ReadsKept keep i s bytes one → ReadsKept keep i s bytes other → one ≡ other
@@ -72,6 +77,22 @@ abbrev pub RelationsHaveWhatStood : Type 0
 RelationsHaveWhatStood = (words : PageWords) (i : Input) (s : Session) (blocks : List Block)
     → AllByRecursion (λ x. (list : List Numbered) × (x.standing ≡ Some list))
     (kept_from (bench_for i s) (keeps pages.Relation words s) [] s.lines blocks)
+
+-- the line asks something
+abbrev pub is_question : Command → Bool
+is_question (Ask asks) = true
+is_question _ = false
+
+abbrev pub asks_at : Option Line → Bool
+asks_at (Some line) = is_question line.command
+asks_at None = false
+
+-- On each page that names parts of what stood each line that asks something is kept with what stood there, if at all.
+abbrev pub AskedHaveWhatStood : Type 0
+AskedHaveWhatStood = (page : Page) (words : PageWords) (i : Input) (s : Session) (blocks : List Block)
+    → names_parts page Text ≡ true
+    → AllByRecursion (λ x. asks_at (slice_get s.lines x.place) ≡ true → (list : List Numbered) × (x.standing ≡ Some list))
+    (kept_from (bench_for i s) (keeps page words s) [] s.lines blocks)
 
 -- ---- classes
 

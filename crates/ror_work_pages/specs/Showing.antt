@@ -22,7 +22,7 @@ use Rattle.ror_frame.specs.Inputs.{bench_for, ReadsTable, RefusesTable, ReadsSes
 use Rattle.ror_work.specs.Checking.{RefusesReport}
 use Rattle.ror_work_pages.specs.Changing.{AreChanges}
 use Rattle.ror_work_pages.specs.Choosing.{keeps}
-use Rattle.ror_work_pages.specs.Classing.{classes_in}
+use Rattle.ror_work_pages.specs.Classing.{AreClasses}
 use Rattle.ror_work_pages.specs.Functions.{functions_in}
 use Rattle.ror_work_pages.specs.Grounds.{Ground, ground_in}
 use Rattle.ror_work_pages.specs.Relations.{AreSections}
@@ -35,7 +35,7 @@ use Rattle.ror_work_pages.specs.Standings.{rolls_text}
 abbrev pub IsBody : Page → PageWords → Ground → List KeptLine → List ℕ → Type 0
 IsBody Relation words g kept text = AreSections words.form g.table g.session kept text
 IsBody Changes words g kept text = AreChanges words.form g kept text
-IsBody Classes words g kept text = text ≡ classes_in words.form g kept
+IsBody Classes words g kept text = AreClasses words.form g kept text
 IsBody Standing words g kept text = text ≡ rolls_text words g kept
 IsBody Functions words g kept text = text ≡ functions_in words.form g kept
 
@@ -61,8 +61,8 @@ page_of page Csv body = head_of page ++ body
 page_of page Text [] = nothing_of page
 page_of page _ body = body
 
--- The text is a page of the kept lines: the one that is defined, but that the relation as a text names for each arrow one of the parts
--- of what stood that carry it.
+-- The text is a page of the kept lines: the one that is defined, but that relation, changes and classes as texts name for each arrow, for each
+-- new pair and for each bound one of the parts of what stood that carry it.
 pub record IsPage (page : Page) (words : PageWords) (g : Ground) (kept : List KeptLine) (text : List ℕ) : Type 0 where
   pub body : List ℕ
   pub is : IsBody page words g kept body

@@ -1,13 +1,16 @@
 //! What changed from one relation to the next, and from one time of classes to the next.
 
 ghost use Rattle.std.specs.Prelude.{◌≡◌, IfOk};
+ghost use Rattle.std.specs.List.{AllByRecursion};
+ghost use Rattle.ror_line_reasons.specs.Laws.{IsReady};
 ghost use Rattle.ror_work_pages.specs.Changing.{AreBothChanges, AreChanges, behind};
 ghost use Rattle.ror_show_words.specs.declared.words.Form.TheVariants.{Csv};
 ghost use Rattle.ror_work_pages.specs.Grounds.{ground_of};
 
 use crate::grounds::Ground;
 use ror_bench::KeptLine;
-use ror_change_pages::{write_changes, write_changes_csv};
+use ror_change_pages::write_changes_csv;
+use ror_change_reasons::changes_with_reasons;
 use ror_class_changes::write_class_changes;
 use ror_show_words::Form;
 use std::alloc::{AllocError, Global};
@@ -19,6 +22,7 @@ pub(crate) fn changes_of(
     ground: &Ground<'_>,
     kept: &[KeptLine],
 ) -> Result<Vec<u8>, AllocError>
+    requires { AllByRecursion (IsReady ground.now.table.now) kept.now }
     ensures { IfOk result (λ text. AreChanges form (ground_of ground.now) kept.now text.items) }
 {
     match form {
@@ -33,10 +37,10 @@ fn both_changes(
     ground: &Ground<'_>,
     kept: &[KeptLine],
 ) -> Result<Vec<u8>, AllocError>
+    requires { AllByRecursion (IsReady ground.now.table.now) kept.now }
     ensures { IfOk result (λ text. AreBothChanges (ground_of ground.now) kept.now text.items) }
 {
-    let mut relations = Vec::new(alloc);
-    write_changes(alloc, &mut relations, ground.table, ground.session, kept)?;
+    let relations = changes_with_reasons(alloc, ground.table, ground.session, kept)?;
     let mut classes = Vec::new(alloc);
     write_class_changes(alloc, &mut classes, ground.table, ground.session, kept)?;
     behind(relations, &classes)

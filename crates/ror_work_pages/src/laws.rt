@@ -1,9 +1,9 @@
 //! Each function here states one law, for all reports, and does nothing.
 
-ghost use Rattle.ror_work_pages.specs.Laws.{OnePage, ShownIsTrue, RelationsHaveWhatStood, ClassesAreTrue, FunctionsAreTrue, StandingIsShown};
+ghost use Rattle.ror_work_pages.specs.Laws.{OnePage, ShownIsTrue, RelationsHaveWhatStood, AskedHaveWhatStood, ClassesAreTrue, FunctionsAreTrue, StandingIsShown};
 
-/// A report has one page, but that the parts of what stood that carry the arrows of a relation, below it as a text, may be some of
-/// several.
+/// A report has one page, but that the parts of what stood that carry the arrows of a relation, what is new in one and the bounds of classes,
+/// below these as texts, may be some of several.
 pub fn one_page()
     ensures { OnePage }
 {}
@@ -16,6 +16,11 @@ pub fn shown_is_true()
 /// Each line that the page of the relation is of is kept with what stood there.
 pub fn relations_have_what_stood()
     ensures { RelationsHaveWhatStood }
+{}
+
+/// Each line of the pages of relation, changes and classes that asks something is kept with what stood there.
+pub fn asked_have_what_stood()
+    ensures { AskedHaveWhatStood }
 {}
 
 /// At each time that the page of classes shows one list of statements stood, and each sign in its rows is true of all value
