@@ -1,0 +1,5 @@
+pub mod Text
+pub mod Reading
+pub mod Printing
+pub mod Faults
+pub mod Laws
