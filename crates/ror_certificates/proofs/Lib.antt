@@ -1,0 +1,8 @@
+pub mod ListLoops
+pub mod ListTexts
+pub mod Refusals
+pub mod OneFault
+pub mod Certified
+pub mod FoundLemmas
+pub mod FoundProved
+pub mod FoundPrinted
