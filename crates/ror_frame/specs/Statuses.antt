@@ -33,6 +33,7 @@ code_of statuses.Usage = 2
 code_of (statuses.BadTable f) = 3
 code_of (statuses.BadSession f) = 4
 code_of (statuses.Rejected r) = 5
+code_of (statuses.Uncertified r) = 5
 code_of statuses.ReadFault = 6
 code_of statuses.WriteFault = 7
 code_of statuses.Memory = 8
@@ -129,6 +130,11 @@ reason_text (reasons.Contradiction r) = codes "contradiction " ++ reject_text r
 reason_text reasons.BadJson = codes "BadJson"
 reason_text reasons.BadShape = codes "BadShape"
 
+-- a certificate that is none of its answer has a word of its own
+abbrev pub certificate_reason_text : Reason → List ℕ
+certificate_reason_text reasons.WrongBlock = codes "WrongCertificate"
+certificate_reason_text reason = reason_text reason
+
 -- the lines of the refusals
 abbrev pub table_line : TableFault → List ℕ
 table_line f =
@@ -145,6 +151,11 @@ session_line sessions.Memory = codes "bad session: Memory\n"
 abbrev pub rejection_line : Rejection → List ℕ
 rejection_line r =
     codes "rejected: block " ++ decimal r.block ++ codes " " ++ reason_text r.reason ++ codes "\n"
+
+-- certificates are counted as blocks
+abbrev pub uncertified_line : Rejection → List ℕ
+uncertified_line r =
+    codes "rejected: certificate " ++ decimal r.block ++ codes " " ++ certificate_reason_text r.reason ++ codes "\n"
 
 abbrev pub unsuited_line : ℕ → List ℕ
 unsuited_line n = codes "unsuited session: line " ++ decimal n ++ codes "\n"
@@ -164,6 +175,7 @@ status_text statuses.Usage = usage_text
 status_text (statuses.BadTable f) = table_line f
 status_text (statuses.BadSession f) = session_line f
 status_text (statuses.Rejected r) = rejection_line r
+status_text (statuses.Uncertified r) = uncertified_line r
 status_text statuses.ReadFault = codes "read fault\n"
 status_text statuses.WriteFault = codes "write fault\n"
 status_text statuses.Memory = codes "memory\n"

@@ -51,11 +51,12 @@ abbrev pub IsPlace : FilePlace → ℕ → ℕ → Type 0
 IsPlace (counted k) n all = n ≡ k
 IsPlace last n all = n ≡ all
 
--- where the file stands whose bytes are refused: a report is the last, and an unsuited line is one of the session
+-- Where the file stands whose bytes are refused: a report is the last, behind the certificates, which are judged by it, and an unsuited line is one of the session
 abbrev pub place_of : Refusal → FilePlace
 place_of (refusals.BadTable fault) = counted 1
 place_of (refusals.BadSession fault) = counted 2
 place_of (refusals.Rejected rejection) = last
+place_of (refusals.Uncertified rejection) = last
 place_of (refusals.Unsuited line) = counted 2
 place_of (refusals.BadLevels fault) = counted 3
 
@@ -63,6 +64,7 @@ place_of (refusals.BadLevels fault) = counted 3
 abbrev pub HidesNone : Refusal → Type 0
 HidesNone (refusals.BadSession fault) = fault ≢ session_faults.Memory
 HidesNone (refusals.Rejected rejection) = IsFreeOfMemory rejection.reason
+HidesNone (refusals.Uncertified rejection) = IsFreeOfMemory rejection.reason
 HidesNone (refusals.BadLevels fault) = fault ≢ levels_faults.Memory
 HidesNone _ = Unit {0}
 
@@ -70,6 +72,7 @@ abbrev pub refused_status : Refusal → Status
 refused_status (refusals.BadTable fault) = statuses.BadTable fault
 refused_status (refusals.BadSession fault) = statuses.BadSession fault
 refused_status (refusals.Rejected rejection) = statuses.Rejected rejection
+refused_status (refusals.Uncertified rejection) = statuses.Uncertified rejection
 refused_status (refusals.Unsuited line) = statuses.Unsuited line
 refused_status (refusals.BadLevels fault) = statuses.BadLevels fault
 
@@ -98,6 +101,7 @@ outcome_of statuses.Usage = None
 outcome_of (statuses.BadTable fault) = Some (Err (stops.At (refusals.BadTable fault)))
 outcome_of (statuses.BadSession fault) = Some (Err (stops.At (refusals.BadSession fault)))
 outcome_of (statuses.Rejected rejection) = Some (Err (stops.At (refusals.Rejected rejection)))
+outcome_of (statuses.Uncertified rejection) = Some (Err (stops.At (refusals.Uncertified rejection)))
 outcome_of statuses.ReadFault = Some (Err stops.ReadFault)
 outcome_of statuses.WriteFault = Some (Err stops.WriteFault)
 outcome_of statuses.Memory = Some (Err stops.Memory)

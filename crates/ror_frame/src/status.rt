@@ -21,6 +21,8 @@ pub enum Status {
     BadSession(SessionFault),
     /// The report's bytes are no report that is proved for the session but for answers and repairs that are too wide: why.
     Rejected(Rejection),
+    /// The report is proved so, and the bytes of the certificates are none that are proved over it: why.
+    Uncertified(Rejection),
     /// A file is not there, or could not be read.
     ReadFault,
     /// Standard output could not be written.
@@ -59,7 +61,7 @@ impl Status {
             Status::Usage => 2,
             Status::BadTable(_) => 3,
             Status::BadSession(_) => 4,
-            Status::Rejected(_) => 5,
+            Status::Rejected(_) | Status::Uncertified(_) => 5,
             Status::ReadFault => 6,
             Status::WriteFault => 7,
             Status::Memory => 8,

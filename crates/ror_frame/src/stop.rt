@@ -19,6 +19,8 @@ pub enum Refusal {
     BadSession(SessionFault),
     /// The report's bytes are no report that is proved for the session but for answers and repairs that are too wide.
     Rejected(Rejection),
+    /// The report is proved so, and the bytes of the certificates are none that are proved over it; a certificate counts as a block.
+    Uncertified(Rejection),
     /// The session is one, and has a line that the command doesn't take: the first one's number.
     Unsuited(u32),
     /// The bytes are no levels of the statements of a session that is suited.
@@ -133,6 +135,7 @@ impl From<Refusal> for Status {
             Refusal::BadTable(fault) => Status::BadTable(fault),
             Refusal::BadSession(fault) => Status::BadSession(fault),
             Refusal::Rejected(rejection) => Status::Rejected(rejection),
+            Refusal::Uncertified(rejection) => Status::Uncertified(rejection),
             Refusal::Unsuited(line) => Status::Unsuited(line),
             Refusal::BadLevels(fault) => Status::BadLevels(fault),
         }

@@ -6,7 +6,7 @@ ghost use Rattle.ror_frame.specs.Courses.{WritesDue};
 ghost use Rattle.ror_frame.specs.Inputs.{accepted_output};
 ghost use Rattle.ror_frame.specs.States.{sink_state};
 ghost use Rattle.ror_frame.specs.Printing.{Prints};
-ghost use Rattle.ror_frame.specs.Statuses.{kind_text, reject_text, fault_text, repair_fault_text, optimal_fault_text, reason_text, table_line, session_line, levels_line, rejection_line, status_text, accepted_text};
+ghost use Rattle.ror_frame.specs.Statuses.{kind_text, reject_text, fault_text, repair_fault_text, optimal_fault_text, reason_text, certificate_reason_text, table_line, session_line, levels_line, rejection_line, uncertified_line, status_text, accepted_text};
 
 use crate::status::Status;
 use crate::stop::Stop;
@@ -33,6 +33,7 @@ pub fn write_status<S: Sink>(sink: &mut S, status: &Status) -> Result<(), SinkFa
         Status::BadTable(fault) => write_table_fault(sink, fault),
         Status::BadSession(fault) => write_session_fault(sink, fault),
         Status::Rejected(rejection) => write_rejection(sink, rejection),
+        Status::Uncertified(rejection) => write_uncertified(sink, rejection),
         Status::ReadFault => write_text(sink, b"read fault\n"),
         Status::WriteFault => write_text(sink, b"write fault\n"),
         Status::Memory => write_text(sink, b"memory\n"),
@@ -253,6 +254,25 @@ fn write_rejection<S: Sink>(sink: &mut S, rejection: &Rejection) -> Result<(), S
     write_numbered(sink, b"rejected: block ", rejection.block, b" ")?;
     write_reason(sink, &rejection.reason)?;
     write_text(sink, b"\n")
+}
+
+fn write_uncertified<S: Sink>(sink: &mut S, rejection: &Rejection) -> Result<(), SinkFault>
+    ensures { Prints (S.faults sink.old) (S.faults sink.new)
+        (S.written sink.old) (S.written sink.new) (uncertified_line rejection.now) result }
+{
+    write_numbered(sink, b"rejected: certificate ", rejection.block, b" ")?;
+    write_certificate_reason(sink, &rejection.reason)?;
+    write_text(sink, b"\n")
+}
+
+fn write_certificate_reason<S: Sink>(sink: &mut S, reason: &Reason) -> Result<(), SinkFault>
+    ensures { Prints (S.faults sink.old) (S.faults sink.new)
+        (S.written sink.old) (S.written sink.new) (certificate_reason_text reason.now) result }
+{
+    match reason {
+        Reason::WrongBlock => write_text(sink, b"WrongCertificate"),
+        _ => write_reason(sink, reason),
+    }
 }
 
 fn write_reason<S: Sink>(sink: &mut S, reason: &Reason) -> Result<(), SinkFault>

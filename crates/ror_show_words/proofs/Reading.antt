@@ -6,7 +6,7 @@ use Rattle.clap.specs.declared.error.kind.ErrorKind.{ErrorKind}
 use Rattle.clap.specs.declared.parser.matches.Found.{Found}
 use Rattle.clap.proofs.OnLiterals.{clap_on_literals}
 use Rattle.clap.proofs.WalkLemmas.{first_value-rows, raw_values-rows}
-use Rattle.ror_show_words.specs.Words.{named_app, page_app, words_of, given_in, reasons_app, reasons_of, reasons_in, sheet_app, sheet_words_of, sheet_in}
+use Rattle.ror_show_words.specs.Words.{named_app, page_app, words_of, given_in, reasons_app, reasons_of, reasons_in, check_app, check_words_of, check_in, sheet_app, sheet_words_of, sheet_in}
 
 pub simple : is_simple page_app ≡ true
 unfolding page_app named_app clap_on_literals
@@ -68,7 +68,7 @@ unfolding reasons_app page_app named_app clap_on_literals
 reasons-free = refl
 
 same_reasons : (f g : Text → Option Text) (fs gs : Text → Option (List Text)) → ((id : Text) → f id ≡ g id) → ((id : Text) → fs id ≡ gs id) → reasons_of f fs ≡ reasons_of g gs
-same_reasons f g fs gs same sames = rw (same_words f g same, sames (codes "pair")) refl
+same_reasons f g fs gs same sames = rw (same (codes "TABLE"), same (codes "SESSION"), same (codes "REPORT"), same (codes "best-first"), same (codes "line"), same (codes "desk"), same (codes "as"), sames (codes "pair")) refl
 
 pub reasons-taken : (words : List Text) (found : Found) → fault_of reasons_app words ≡ [] → rows_of found ≡ matches_of reasons_app words → reasons_of (first_value found) (λ id. option_map raw_values (matched_of found id)) ≡ reasons_in words
 unfolding reasons_in
@@ -78,3 +78,25 @@ reasons-taken words found none same =
 pub reasons-refused : (words : List Text) (k : ErrorKind) → IsAmong k (fault_of reasons_app words) → reasons_in words ≡ None
 unfolding reasons_in
 reasons-refused words k among = rw (some_kind k (fault_of reasons_app words) among) refl
+
+-- ---- the same of the check of certificates
+
+pub check-simple : is_simple check_app ≡ true
+unfolding check_app named_app clap_on_literals
+check-simple = refl
+
+pub check-free : is_simple_and_free check_app ≡ true
+unfolding check_app named_app clap_on_literals
+check-free = refl
+
+same_files : (f g : Text → Option Text) → ((id : Text) → f id ≡ g id) → check_words_of f ≡ check_words_of g
+same_files f g same = rw (same (codes "TABLE"), same (codes "SESSION"), same (codes "REPORT"), same (codes "CERTIFICATES"), same (codes "best-first")) refl
+
+pub check-taken : (words : List Text) (found : Found) → fault_of check_app words ≡ [] → rows_of found ≡ matches_of check_app words → check_words_of (first_value found) ≡ check_in words
+unfolding check_in
+check-taken words found none same =
+    rw none (same_files (first_value found) (λ id. first_of id (matches_of check_app words)) (λ id. first_value-rows found id ∙ ap (first_of id) same))
+
+pub check-refused : (words : List Text) (k : ErrorKind) → IsAmong k (fault_of check_app words) → check_in words ≡ None
+unfolding check_in
+check-refused words k among = rw (some_kind k (fault_of check_app words) among) refl

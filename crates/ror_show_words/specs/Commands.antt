@@ -5,7 +5,7 @@ use Rattle.std.specs.Str.{bytes_eq}
 use Rattle.ror_show_words.specs.declared.table.Page.{Page}
 use Rattle.ror_show_words.specs.declared.table.Page.TheVariants.{Relation, Changes, Classes, Standing, Functions}
 use Rattle.ror_show_words.specs.declared.table.Shown.{Shown}
-use Rattle.ror_show_words.specs.declared.table.Shown.TheVariants.{Report, Sheet, Reasons}
+use Rattle.ror_show_words.specs.declared.table.Shown.TheVariants.{Report, Sheet, Reasons, Check}
 use Rattle.ror_show_words.specs.declared.words.Form.{Form}
 use Rattle.ror_show_words.specs.declared.words.Form.TheVariants.{Text, Csv, Dot}
 
@@ -20,7 +20,7 @@ row shown word = record { shown = shown; word = word }
 abbrev pub table : List Row
 table = row Sheet (codes "read") ∷ row (Report Relation) (codes "relation") ∷ row (Report Changes) (codes "changes")
     ∷ row (Report Classes) (codes "classes") ∷ row (Report Standing) (codes "standing")
-    ∷ row (Report Functions) (codes "functions") ∷ row Reasons (codes "why") ∷ []
+    ∷ row (Report Functions) (codes "functions") ∷ row Reasons (codes "why") ∷ row Check (codes "check-why") ∷ []
 
 abbrev pub row_for : List ℕ → Option Row
 row_for word = find (λ row. bytes_eq row.word word) table
@@ -61,7 +61,8 @@ form_usage _ = codes " [--as text|csv]"
 -- the names and options
 abbrev pub shown_usage : Shown → List ℕ
 shown_usage Sheet = codes " TABLE [SESSION] [--best-first]"
-shown_usage Reasons = codes " TABLE SESSION REPORT [--best-first] [--desk NAME] [--line N] [--pair A B]"
+shown_usage Reasons = codes " TABLE SESSION REPORT [--best-first] [--desk NAME] [--line N] [--pair A B] [--as text|certificates]"
+shown_usage Check = codes " TABLE SESSION REPORT CERTIFICATES [--best-first]"
 shown_usage (Report page) = codes " TABLE SESSION REPORT [--best-first] [--desk NAME]" ++ line_usage page ++ form_usage page
 
 abbrev pub row_usage : Row → List ℕ

@@ -6,9 +6,10 @@ use Rattle.ror_show_words.specs.declared.words.Asked.TheVariants as asked
 use Rattle.ror_show_words.specs.declared.words.PageWords as words
 use Rattle.ror_show_words.specs.declared.words.PairWords as pairs
 use Rattle.ror_show_words.specs.declared.words.ReasonWords as reasons
+use Rattle.ror_show_words.specs.declared.words.CheckWords as checks
 use Rattle.ror_show_words.specs.declared.words.SheetWords as sheets
 use Rattle.ror_show_words.specs.Commands.{Row}
-use Rattle.ror_show_words.specs.Words.{PageWords, PairWords, ReasonWords, SheetWords, Asked, OfReport, OfFiles, OfReasons}
+use Rattle.ror_show_words.specs.Words.{PageWords, PairWords, ReasonWords, CheckWords, SheetWords, Asked, OfReport, OfFiles, OfReasons, OfCertificates, OfCheck}
 
 abbrev pub row_with : rows.Row → Row
 row_with row = record { shown = row.shown; word = row.word.now }
@@ -30,6 +31,15 @@ pair_words_of given = record { first = given.first.now; second = given.second.no
 abbrev pub reason_words_of : reasons.ReasonWords → ReasonWords
 reason_words_of given = record { page = page_words_of given.page; pair = option_map pair_words_of given.pair }
 
+abbrev pub check_words_of : checks.CheckWords → CheckWords
+check_words_of given = record {
+  table = given.table.now;
+  session = given.session.now;
+  report = given.report.now;
+  certificates = given.certificates.now;
+  best_first = given.best_first;
+}
+
 abbrev pub sheet_words_of : sheets.SheetWords → SheetWords
 sheet_words_of given = record {
   table = given.table.now;
@@ -41,3 +51,5 @@ abbrev pub asked_with : given.Asked → Asked
 asked_with (asked.OfReport page words) = OfReport page (page_words_of words)
 asked_with (asked.OfFiles words) = OfFiles (sheet_words_of words)
 asked_with (asked.OfReasons words) = OfReasons (reason_words_of words)
+asked_with (asked.OfCertificates words) = OfCertificates (page_words_of words)
+asked_with (asked.OfCheck words) = OfCheck (check_words_of words)

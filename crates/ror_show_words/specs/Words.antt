@@ -11,7 +11,7 @@ use Rattle.ror_show_words.specs.declared.table.Page.{Page}
 use Rattle.ror_show_words.specs.declared.words.Form.{Form}
 use Rattle.ror_show_words.specs.declared.words.Form.TheVariants as forms
 use Rattle.ror_show_words.specs.declared.table.Shown.{Shown}
-use Rattle.ror_show_words.specs.declared.table.Shown.TheVariants.{Report, Sheet, Reasons}
+use Rattle.ror_show_words.specs.declared.table.Shown.TheVariants.{Report, Sheet, Reasons, Check}
 use Rattle.ror_show_words.specs.Commands.{row_for, takes_line, needs_line, has_form}
 
 -- ---- what a page takes
@@ -54,6 +54,10 @@ page_app = with_rule (with_rule (with_rule (with_rule named_app (flag_rule (code
 unfoldable pub reasons_app : App
 reasons_app = with_rule page_app (pair_rule (codes "pair"))
 
+-- the check of certificates has the names of four files
+unfoldable pub check_app : App
+check_app = with_rule (with_rule named_app (name_rule (codes "CERTIFICATES"))) (flag_rule (codes "best-first"))
+
 -- the page of what was read has the names of two files, of which it needs the first
 unfoldable pub sheet_app : App
 sheet_app = with_rule (with_rule (with_rule bare_app (name_rule (codes "TABLE"))) (spare_rule (codes "SESSION")))
@@ -88,11 +92,22 @@ pub record ReasonWords : Type 0 where
   pub page : PageWords
   pub pair : Option PairWords
 
--- what words ask for: a page of a report, what was read of files, or why the answers of a report are what they are
+-- the names of four files
+pub record CheckWords : Type 0 where
+  pub table : List ℕ
+  pub session : List ℕ
+  pub report : List ℕ
+  pub certificates : List ℕ
+  pub best_first : Bool
+
+-- what words ask for: a page of a report, what was read of files, why the answers of a report are what they are, for people or as
+-- certificates, or whether certificates are proved
 pub data Asked : Type 0 where
   OfReport : Page → PageWords → Asked
   OfFiles : SheetWords → Asked
   OfReasons : ReasonWords → Asked
+  OfCertificates : PageWords → Asked
+  OfCheck : CheckWords → Asked
 
 -- the number of a line has 1 to 9 digits, and isn't 0
 abbrev pub line_of : List ℕ → Option ℕ
@@ -122,20 +137,33 @@ is_given found = option_map_or (λ word. bytes_eq word (codes "true")) found fal
 
 -- What is found for each name and option; None where a name isn't, or the value of `--line` is no number of a line, or that of
 -- `--as` no form.
-abbrev pub words_of : (Text → Option Text) → Option PageWords
-words_of found =
+abbrev pub words_with : (Text → Option Text) → Form → Option PageWords
+words_with found form =
     option_and_then (λ table. option_and_then (λ session. option_and_then (λ report.
-    option_and_then (λ line. option_map (λ form. record {
+    option_map (λ line. record {
       table = table;
       session = session;
       report = report;
       best_first = is_given (found (codes "best-first"));
       line = line;
       desk = found (codes "desk");
-      form = unwrap_or form forms.Text;
-    }) (if_given form_of (found (codes "as"))))
-    (if_given line_of (found (codes "line"))))
+      form = form;
+    }) (if_given line_of (found (codes "line"))))
     (found (codes "REPORT"))) (found (codes "SESSION"))) (found (codes "TABLE"))
+
+abbrev pub words_of : (Text → Option Text) → Option PageWords
+words_of found = option_and_then (λ form. words_with found (unwrap_or form forms.Text)) (if_given form_of (found (codes "as")))
+
+-- the same of the check of certificates
+abbrev pub check_words_of : (Text → Option Text) → Option CheckWords
+check_words_of found =
+    option_and_then (λ table. option_and_then (λ session. option_and_then (λ report. option_map (λ certificates. record {
+      table = table;
+      session = session;
+      report = report;
+      certificates = certificates;
+      best_first = is_given (found (codes "best-first"));
+    }) (found (codes "CERTIFICATES"))) (found (codes "REPORT"))) (found (codes "SESSION"))) (found (codes "TABLE"))
 
 -- the same of the page of what was read
 abbrev pub sheet_words_of : (Text → Option Text) → Option SheetWords
@@ -149,6 +177,10 @@ sheet_words_of found = option_map (λ table. record {
 unfoldable pub given_in : List (List ℕ) → Option PageWords
 given_in words = if length (fault_of page_app words) == 0
     then words_of (λ id. first_of id (matches_of page_app words)) else None
+
+unfoldable pub check_in : List (List ℕ) → Option CheckWords
+check_in words = if length (fault_of check_app words) == 0
+    then check_words_of (λ id. first_of id (matches_of check_app words)) else None
 
 unfoldable pub sheet_in : List (List ℕ) → Option SheetWords
 sheet_in words = if length (fault_of sheet_app words) == 0
@@ -170,17 +202,27 @@ fits page words = fits_line page words.line && has_form page words.form
 abbrev pub of_report : Page → PageWords → Option Asked
 of_report page words = if fits page words then Some (OfReport page words) else None
 
--- reasons are written as text alone
-abbrev pub is_text : Form → Bool
-is_text forms.Text = true
-is_text _ = false
+-- reasons are written for people, or as certificates, and these of all that is meant
+pub data Writing : Type 0 where
+  ForPeople : Writing
+  Certified : Writing
 
-abbrev pub of_reasons : PageWords → Option PairWords → Option Asked
-of_reasons page pair = if is_text page.form then Some (OfReasons (record { page = page; pair = pair })) else None
+abbrev pub writing_text : Writing → List ℕ
+writing_text ForPeople = codes "text"
+writing_text Certified = codes "certificates"
+
+abbrev pub writing_of : List ℕ → Option Writing
+writing_of word = find (λ writing. bytes_eq word (writing_text writing)) (ForPeople ∷ Certified ∷ [])
+
+abbrev pub of_reasons : PageWords → Option PairWords → Writing → Option Asked
+of_reasons page pair ForPeople = Some (OfReasons (record { page = page; pair = pair }))
+of_reasons page None Certified = Some (OfCertificates page)
+of_reasons page (Some pair) Certified = None
 
 -- what is found for each name and option, and which values
 abbrev pub reasons_of : (Text → Option Text) → (Text → Option (List Text)) → Option Asked
-reasons_of found values = option_and_then (λ page. option_and_then (of_reasons page) (pair_in values)) (words_of found)
+reasons_of found values = option_and_then (λ page. option_and_then (λ pair. option_and_then (λ writing. of_reasons page pair (unwrap_or writing ForPeople))
+    (if_given writing_of (found (codes "as")))) (pair_in values)) (words_with found forms.Text)
 
 unfoldable pub reasons_in : List (List ℕ) → Option Asked
 reasons_in words = if length (fault_of reasons_app words) == 0
@@ -190,6 +232,7 @@ abbrev pub asked_by : Shown → List (List ℕ) → Option Asked
 asked_by (Report page) words = option_and_then (of_report page) (given_in words)
 asked_by Sheet words = option_map OfFiles (sheet_in words)
 asked_by Reasons words = reasons_in words
+asked_by Check words = option_map OfCheck (check_in words)
 
 -- None of words that ask for nothing
 unfoldable pub asked : List (List ℕ) → Option Asked

@@ -2,7 +2,7 @@
 
 ghost use Rattle.std.specs.Prelude.{◌≡◌, IfOk};
 ghost use Rattle.clap.specs.Words.{app_of, with_rule};
-ghost use Rattle.ror_show_words.specs.Words.{name_rule, spare_rule, option_rule, flag_rule, pair_rule, bare_app, named_app, page_app, reasons_app, sheet_app};
+ghost use Rattle.ror_show_words.specs.Words.{name_rule, spare_rule, option_rule, flag_rule, pair_rule, bare_app, named_app, page_app, reasons_app, check_app, sheet_app};
 
 use clap::{Arg, ArgAction, Command};
 use std::alloc::{AllocError, Global};
@@ -24,6 +24,15 @@ pub(crate) fn reasons_command<'a>(alloc: Global) -> Result<Command<'a>, AllocErr
     ensures { IfOk result (λ c. app_of c ≡ reasons_app) }
 {
     with_pair(alloc, page_command(alloc)?, "pair")
+}
+
+/// The names and options after the word of the check of certificates.
+#[tactic(auto, unfolding(crate::specs::Words::check_app))]
+pub(crate) fn check_command<'a>(alloc: Global) -> Result<Command<'a>, AllocError>
+    ensures { IfOk result (λ c. app_of c ≡ check_app) }
+{
+    let command = with_name(alloc, named_command(alloc)?, "CERTIFICATES")?;
+    with_flag(alloc, command, "best-first")
 }
 
 /// The names and options after the word of the page of what was read.

@@ -18,5 +18,5 @@ mod words;
 
 pub use table::{Page, usage};
 pub use words::{
-    Asked, Form, PageWords, PairWords, ReasonWords, SheetWords, WordsFault, read_words,
+    Asked, CheckWords, Form, PageWords, PairWords, ReasonWords, SheetWords, WordsFault, read_words,
 };

@@ -31,6 +31,8 @@ pub(crate) enum Shown {
     Sheet,
     /// Why the answers of a report are what they are.
     Reasons,
+    /// Whether certificates of that are proved.
+    Check,
 }
 
 /// A row of the table of pages.
@@ -41,7 +43,7 @@ pub(crate) struct Row {
     pub(crate) word: &'static str,
 }
 
-const TABLE: [Row; 7] = [
+const TABLE: [Row; 8] = [
     Row {
         shown: Shown::Sheet,
         word: "read",
@@ -70,13 +72,17 @@ const TABLE: [Row; 7] = [
         shown: Shown::Reasons,
         word: "why",
     },
+    Row {
+        shown: Shown::Check,
+        word: "check-why",
+    },
 ];
 
 /// The usage line: the pages of the table, each with its names and options.
 pub fn usage() -> &'static str
     ensures { result.now ≡ usage_text }
 {
-    "usage: ror_show read TABLE [SESSION] [--best-first] | ror_show relation TABLE SESSION REPORT [--best-first] [--desk NAME] [--line N] [--as text|csv|dot] | ror_show changes TABLE SESSION REPORT [--best-first] [--desk NAME] [--as text|csv] | ror_show classes TABLE SESSION REPORT [--best-first] [--desk NAME] [--as text|csv] | ror_show standing TABLE SESSION REPORT [--best-first] [--desk NAME] [--line N] | ror_show functions TABLE SESSION REPORT [--best-first] [--desk NAME] --line N [--as text|csv] | ror_show why TABLE SESSION REPORT [--best-first] [--desk NAME] [--line N] [--pair A B]\n"
+    "usage: ror_show read TABLE [SESSION] [--best-first] | ror_show relation TABLE SESSION REPORT [--best-first] [--desk NAME] [--line N] [--as text|csv|dot] | ror_show changes TABLE SESSION REPORT [--best-first] [--desk NAME] [--as text|csv] | ror_show classes TABLE SESSION REPORT [--best-first] [--desk NAME] [--as text|csv] | ror_show standing TABLE SESSION REPORT [--best-first] [--desk NAME] [--line N] | ror_show functions TABLE SESSION REPORT [--best-first] [--desk NAME] --line N [--as text|csv] | ror_show why TABLE SESSION REPORT [--best-first] [--desk NAME] [--line N] [--pair A B] [--as text|certificates] | ror_show check-why TABLE SESSION REPORT CERTIFICATES [--best-first]\n"
 }
 
 /// The row of the page with this word.

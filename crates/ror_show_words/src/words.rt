@@ -1,6 +1,6 @@
 //! The words of a command line, and what they ask for.
 
-ghost use Rattle.std.specs.Prelude.{◌≡◌, ◌≢◌, MatchResult, Some, None, map};
+ghost use Rattle.std.specs.Prelude.{◌≡◌, ◌≢◌, MatchResult, Some, None, map, unwrap_or, if◌then◌else◌};
 ghost use Rattle.std.specs.Option.{option_map};
 ghost use Rattle.std.specs.String.{string_bytes};
 ghost use Rattle.clap.specs.declared.error.kind.ErrorKind.TheVariants.{OutOfMemory};
@@ -8,12 +8,12 @@ ghost use Rattle.clap.specs.Words.{found_of, first_value, matched_of, raw_values
 ghost use Rattle.ror_show_words.specs.declared.table.Shown.TheVariants.{Report, Reasons};
 ghost use Rattle.ror_show_words.specs.Commands.{has_form};
 ghost use Rattle.ror_show_words.specs.Words as spec;
-ghost use Rattle.ror_show_words.specs.Words.{line_of, form_of, if_given, words_of, given_in, sheet_in, fits_line, fits, is_text, reasons_of, reasons_in, asked_by, asked};
+ghost use Rattle.ror_show_words.specs.Words.{line_of, form_of, if_given, words_of, given_in, sheet_in, ForPeople, Certified, fits_line, fits, reasons_of, reasons_in, check_in, asked_by, asked};
 ghost use Rattle.ror_show_words.specs.Named as named;
 ghost use Rattle.ror_show_words.specs.Named.{page_words_of, asked_with};
 ghost use Rattle.ror_show_words.specs.declared.words.WordsFault.TheVariants.{Unknown};
 
-use crate::command::{page_command, reasons_command, sheet_command};
+use crate::command::{check_command, page_command, reasons_command, sheet_command};
 use crate::table::{Page, Shown, row_for};
 use clap::error::ErrorKind;
 use clap::{ArgMatches, Error};
@@ -67,6 +67,21 @@ pub struct ReasonWords<'a> {
     pub pair: Option<PairWords<'a>>,
 }
 
+/// The names of the check of certificates.
+#[derive(Debug, Drop)]
+pub struct CheckWords<'a> {
+    /// The file with the table.
+    pub table: &'a str,
+    /// The file with the session.
+    pub session: &'a str,
+    /// The file with the report of the session.
+    pub report: &'a str,
+    /// The file with certificates of reasons.
+    pub certificates: &'a str,
+    /// Whether the ranks of the table's categories begin with the best one.
+    pub best_first: bool,
+}
+
 /// The names of the page of what was read.
 #[derive(Debug, Drop)]
 pub struct SheetWords<'a> {
@@ -87,6 +102,10 @@ pub enum Asked<'a> {
     OfFiles(SheetWords<'a>),
     /// Why the answers of a report are what they are.
     OfReasons(ReasonWords<'a>),
+    /// The same as certificates; the form is text.
+    OfCertificates(PageWords<'a>),
+    /// Whether certificates are proved.
+    OfCheck(CheckWords<'a>),
 }
 
 /// Why words ask for nothing.
@@ -128,6 +147,7 @@ pub fn read_words(alloc: Global, words: &[String]) -> Result<Asked<'_>, WordsFau
         Shown::Report(page) => report_asked(alloc, page, rest),
         Shown::Sheet => Ok(Asked::OfFiles(sheet_words(alloc, rest)?)),
         Shown::Reasons => reasons_asked(alloc, rest),
+        Shown::Check => Ok(Asked::OfCheck(check_words(alloc, rest)?)),
     }
 }
 
@@ -160,10 +180,39 @@ fn reasons_found<'w>(matches: &ArgMatches<'w>) -> Option<Asked<'w>>
     ensures { option_map asked_with result ≡ reasons_of (first_value (found_of matches.now))
         (λ id. option_map raw_values (matched_of (found_of matches.now) id)) }
 {
-    let page = words_found(matches)?;
+    let page = words_with(matches, Form::Text)?;
     let pair = pair_found(matches)?;
-    if is_text(page.form) {
-        Some(Asked::OfReasons(ReasonWords { page, pair }))
+    let is_certified = is_certified(matches.get_str("as"))?;
+    reasons_with(page, pair, is_certified)
+}
+
+fn reasons_with<'w>(
+    page: PageWords<'w>,
+    pair: Option<PairWords<'w>>,
+    is_certified: bool,
+) -> Option<Asked<'w>>
+    ensures { option_map asked_with result ≡ spec.of_reasons (page_words_of page.entry)
+        (option_map named.pair_words_of pair.entry) (if is_certified then Certified else ForPeople) }
+{
+    match (pair, is_certified) {
+        (pair, false) => Some(Asked::OfReasons(ReasonWords { page, pair })),
+        (None, true) => Some(Asked::OfCertificates(page)),
+        (Some(_), true) => None,
+    }
+}
+
+/// Whether reasons are written as certificates; `None` where the word is that of no form in which they are.
+fn is_certified(word: Option<&str>) -> Option<bool>
+    ensures { option_map (λ certified. if certified then Certified else ForPeople) result
+        ≡ option_map (λ writing. unwrap_or writing ForPeople) (if_given spec.writing_of (option_map (λ w. w.now) word.entry)) }
+{
+    let Some(word) = word else {
+        return Some(false);
+    };
+    if word == "text" {
+        Some(false)
+    } else if word == "certificates" {
+        Some(true)
     } else {
         None
     }
@@ -187,12 +236,6 @@ fn pair_of<'w>(words: &[&'w str]) -> Option<PairWords<'w>>
         [first, second] => Some(PairWords { first, second }),
         _ => None,
     }
-}
-
-fn is_text(form: Form) -> bool
-    ensures { result ≡ is_text form }
-{
-    matches!(form, Form::Text)
 }
 
 /// Whether the page takes these.
@@ -221,6 +264,31 @@ fn has_form(page: Page, form: Form) -> bool
         Form::Csv => !matches!(page, Page::Standing),
         Form::Dot => matches!(page, Page::Relation),
     }
+}
+
+/// What the words after that of the check of certificates give.
+#[tactic(auto, unfolding(crate::specs::Words::check_in))]
+fn check_words(alloc: Global, words: &[String]) -> Result<CheckWords<'_>, WordsFault>
+    ensures { MatchResult result (λ w. check_in (map string_bytes words.now) ≡ Some (named.check_words_of w))
+        (λ e. e ≡ Unknown → check_in (map string_bytes words.now) ≡ None) }
+{
+    match check_command(alloc)?.try_get_matches_from(words) {
+        Ok(matches) => check_words_found(&matches).ok_or(WordsFault::Unknown),
+        Err(error) => Err(fault_with(&error)),
+    }
+}
+
+/// What was found.
+fn check_words_found<'w>(matches: &ArgMatches<'w>) -> Option<CheckWords<'w>>
+    ensures { option_map named.check_words_of result ≡ spec.check_words_of (first_value (found_of matches.now)) }
+{
+    Some(CheckWords {
+        table: matches.get_str("TABLE")?,
+        session: matches.get_str("SESSION")?,
+        report: matches.get_str("REPORT")?,
+        certificates: matches.get_str("CERTIFICATES")?,
+        best_first: matches.get_str("best-first") == Some("true"),
+    })
 }
 
 /// What the words after that of the page of what was read give.
@@ -262,6 +330,14 @@ fn page_words(alloc: Global, words: &[String]) -> Result<PageWords<'_>, WordsFau
 fn words_found<'w>(matches: &ArgMatches<'w>) -> Option<PageWords<'w>>
     ensures { option_map page_words_of result ≡ words_of (first_value (found_of matches.now)) }
 {
+    let form = form_given(matches.get_str("as"))?;
+    words_with(matches, form.unwrap_or(Form::Text))
+}
+
+/// What was found, in this form.
+fn words_with<'w>(matches: &ArgMatches<'w>, form: Form) -> Option<PageWords<'w>>
+    ensures { option_map page_words_of result ≡ spec.words_with (first_value (found_of matches.now)) form }
+{
     Some(PageWords {
         table: matches.get_str("TABLE")?,
         session: matches.get_str("SESSION")?,
@@ -269,7 +345,7 @@ fn words_found<'w>(matches: &ArgMatches<'w>) -> Option<PageWords<'w>>
         best_first: matches.get_str("best-first") == Some("true"),
         line: line_given(matches.get_str("line"))?,
         desk: matches.get_str("desk"),
-        form: form_given(matches.get_str("as"))?.unwrap_or(Form::Text),
+        form,
     })
 }
 
