@@ -13,7 +13,8 @@ use std::alloc::{AllocError, Global};
 struct Names<'a> {
     table: &'a str,
     session: &'a str,
-    report: &'a str,
+    third: &'a str,
+    fourth: &'a str,
 }
 
 /// What helps, by the bytes of the file that was fetched last; nothing where nothing does, or where memory is wanting.
@@ -38,10 +39,18 @@ fn names_of<'a>(asked: &Asked<'a>) -> Names<'a> {
     match asked {
         Asked::OfReport(_, words) => names_in(words),
         Asked::OfReasons(words) => names_in(&words.page),
+        Asked::OfCertificates(words) => names_in(words),
+        Asked::OfCheck(words) => Names {
+            table: words.table,
+            session: words.session,
+            third: words.certificates,
+            fourth: words.report,
+        },
         Asked::OfFiles(words) => Names {
             table: words.table,
             session: words.session.unwrap_or(""),
-            report: "",
+            third: "",
+            fourth: "",
         },
     }
 }
@@ -50,7 +59,8 @@ fn names_in<'a>(words: &PageWords<'a>) -> Names<'a> {
     Names {
         table: words.table,
         session: words.session,
-        report: words.report,
+        third: words.report,
+        fourth: "",
     }
 }
 
@@ -62,11 +72,12 @@ fn advice_on(
     kept: Option<&[u8]>,
     fetches: usize,
 ) -> Result<Vec<u8>, AllocError> {
+    let name = name_at(names, fetches);
     if matches!(status, Status::ReadFault) {
-        return missing_advice(alloc, name_at(names, fetches));
+        return missing_advice(alloc, name);
     }
     match kept {
-        Some(bytes) => file_advice(alloc, names, status, bytes),
+        Some(bytes) => file_advice(alloc, File { name, bytes }, status),
         None => Ok(Vec::new(alloc)),
     }
 }
@@ -76,39 +87,18 @@ fn name_at<'a>(names: &Names<'a>, fetches: usize) -> &'a str {
     match fetches {
         0 | 1 => names.table,
         2 => names.session,
-        _ => names.report,
+        3 => names.third,
+        _ => names.fourth,
     }
 }
 
-/// What helps against the file that was fetched last.
-fn file_advice(
-    alloc: Global,
-    names: &Names<'_>,
-    status: &Status,
-    bytes: &[u8],
-) -> Result<Vec<u8>, AllocError> {
+/// What helps against the file that was fetched last, where that is the one at fault. Of certificates the line of the status has the
+/// place, and there is nothing likely to say.
+fn file_advice(alloc: Global, file: File<'_>, status: &Status) -> Result<Vec<u8>, AllocError> {
     match status {
-        Status::BadTable(fault) => {
-            let file = File {
-                name: names.table,
-                bytes,
-            };
-            table_advice(alloc, file, *fault)
-        }
-        Status::BadSession(fault) => {
-            let file = File {
-                name: names.session,
-                bytes,
-            };
-            session_advice(alloc, file, fault)
-        }
-        Status::Rejected(rejection) => {
-            let file = File {
-                name: names.report,
-                bytes,
-            };
-            report_advice(alloc, file, fault_of(rejection))
-        }
+        Status::BadTable(fault) => table_advice(alloc, file, *fault),
+        Status::BadSession(fault) => session_advice(alloc, file, fault),
+        Status::Rejected(rejection) => report_advice(alloc, file, fault_of(rejection)),
         _ => Ok(Vec::new(alloc)),
     }
 }

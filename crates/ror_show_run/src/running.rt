@@ -16,6 +16,7 @@ use crate::keeping::KeepingShelf;
 use ror_frame::{Status, Stop, write_status};
 use ror_io::{Shelf, Sink, SinkFault, write_all};
 use ror_show_words::{Asked, WordsFault, read_words, usage};
+use ror_work_certificates::{check_certificates, show_certificates};
 use ror_work_pages::show_files;
 use ror_work_reasons::show_reasons;
 use ror_work_sheet::{SheetFiles, show_sheet};
@@ -130,6 +131,8 @@ fn work_on<F: Shelf, O: Sink>(
             show_sheet(alloc, &files, shelf, out)
         }
         Asked::OfReasons(words) => show_reasons(alloc, words, shelf, out),
+        Asked::OfCertificates(words) => show_certificates(alloc, words, shelf, out),
+        Asked::OfCheck(words) => check_certificates(alloc, words, shelf, out),
     }
 }
 
