@@ -51,7 +51,7 @@ use Rattle.ror_bench.proofs.RepairLemmas.{contained, dropped_stand}
 
 -- ---- what stands has a number below the next
 
-numbers_kept : (P : ℕ → Type 0) (p : Numbered → Bool) (list : List Numbered) → AllByRecursion P (numbers_in list) → AllByRecursion P (numbers_in (filter p list))
+pub numbers_kept : (P : ℕ → Type 0) (p : Numbered → Bool) (list : List Numbered) → AllByRecursion P (numbers_in list) → AllByRecursion P (numbers_in (filter p list))
 numbers_kept P p [] all = tt
 numbers_kept P p (x ∷ xs) all = by (p x) (numbers_kept P p xs all.1)
   where
@@ -59,7 +59,7 @@ numbers_kept P p (x ∷ xs) all = by (p x) (numbers_kept P p xs all.1)
     by true rest = (all.0, rest)
     by false rest = rest
 
-numbers_after : (list : List Numbered) (most : ℕ) (rest : List Revision) → AllByRecursion (λ n. n ≤ most) (numbers_in list) → AllByRecursion (λ n. n ≤ fold max most (added_numbers rest)) (numbers_in (fold revised list rest))
+pub numbers_after : (list : List Numbered) (most : ℕ) (rest : List Revision) → AllByRecursion (λ n. n ≤ most) (numbers_in list) → AllByRecursion (λ n. n ≤ fold max most (added_numbers rest)) (numbers_in (fold revised list rest))
 numbers_after list most [] all = all
 numbers_after list most (addition n s ∷ rest) all =
     let IsBelow : ℕ → Type 0 = λ m. m ≤ max most n in

@@ -89,7 +89,7 @@ wide_in b = (passed_of b.body).wide
 pub sums : {X : Type 0} (f : X → ℕ) (x : X) (xs : List X) → sum_by f (x ∷ xs) ≡ f x + sum_by f xs
 sums f x xs = sum_by-append f (x ∷ []) xs ∙ ap (λ n. n + sum_by f xs) (zero-add (f x))
 
-same_accepted : (x y : Accepted) → x.answers ≡ y.answers → x.wide ≡ y.wide → x ≡ y
+pub same_accepted : (x y : Accepted) → x.answers ≡ y.answers → x.wide ≡ y.wide → x ≡ y
 same_accepted x y a w = ap (λ n. record { answers = n; wide = x.wide }) a ∙ ap (λ n. record { answers = y.answers; wide = n }) w
 
 -- the numbers of a block and of those after it
@@ -306,7 +306,7 @@ next_here start before bench moved line bytes from block passed after is within 
 abbrev numbers_of : ℕ → ℕ → Accepted
 numbers_of answers wide = record { answers = answers; wide = wide }
 
-both_ways : (a x : Accepted) (p q : Passed) → q ≡ p → numbers_of (a.answers + (x.answers + p.answers)) (a.wide + (x.wide + p.wide)) ≡ numbers_of ((a.answers + q.answers) + x.answers) ((a.wide + q.wide) + x.wide)
+pub both_ways : (a x : Accepted) (p q : Passed) → q ≡ p → numbers_of (a.answers + (x.answers + p.answers)) (a.wide + (x.wide + p.wide)) ≡ numbers_of ((a.answers + q.answers) + x.answers) ((a.wide + q.wide) + x.wide)
 both_ways a x p q e =
     let answers : p.answers ≡ q.answers = ap (λ (y : Passed). y.answers) (sym e) in
     let wide : p.wide ≡ q.wide = ap (λ (y : Passed). y.wide) (sym e) in
@@ -369,7 +369,7 @@ way_ends_badly start lines bytes place bench from accepted count rejection way n
 
 -- ---- what is rejected is not proved
 
-end_read : (bytes : List ℕ) (from n : ℕ) → n < 2 ^ 32 → drop from bytes ≡ end_text n → end_at (cursor_at bytes from) ≡ Ok n
+pub end_read : (bytes : List ℕ) (from n : ℕ) → n < 2 ^ 32 → drop from bytes ≡ end_text n → end_at (cursor_at bytes from) ≡ Ok n
 end_read bytes from n small text = ap (λ (r : List ℕ). end_at (record { place = from; rest = r })) text ∙ end_reads_back from n small
 
 -- the block that a rest begins with is the one that is read

@@ -138,13 +138,13 @@ module _ (t : DecisionTable) (r : Revisions) (line : Line) (block : Block) where
 
 -- ---- what stands at a place has one reason
 
-one_err : {A F : Type 0} (r : Result A F) (f g : F) → r ≡ Err f → r ≡ Err g → f ≡ g
+pub one_err : {A F : Type 0} (r : Result A F) (f g : F) → r ≡ Err f → r ≡ Err g → f ≡ g
 one_err r f g first second = (let both = sym first ∙ second in cc)
 
 err_not_ok : {A F : Type 0} (r : Result A F) (f : F) (x : A) → r ≡ Err f → r ≡ Ok x → ⊥
 err_not_ok r f x first second = absurd (let both = sym first ∙ second in cc)
 
-true_not_false : (b : Bool) → b ≡ true → b ≡ false → ⊥
+pub true_not_false : (b : Bool) → b ≡ true → b ≡ false → ⊥
 true_not_false b begins no_end = absurd (let both = sym begins ∙ no_end in cc)
 
 module _ (t : DecisionTable) (r : Revisions) (line : Line) (bytes : List ℕ) (from : ℕ) where

@@ -11,7 +11,7 @@ use Rattle.ror_bench.specs.Blocks.{passed_of, is_wide_body, has_wide}
 use Rattle.ror_bench.specs.Reports.{accepted_of}
 use Rattle.ror_bench.proofs.ReportProofs.{sums}
 
-some_of_either : (m n : ℕ) → nat_lt 0 (m + n) ≡ (nat_lt 0 m || nat_lt 0 n)
+pub some_of_either : (m n : ℕ) → nat_lt 0 (m + n) ≡ (nat_lt 0 m || nat_lt 0 n)
 some_of_either m n = grind arith
 
 one_wide : (x : Answer) → is_wide x.verdict ≡ nat_lt 0 (cond (beq (is_wide x.verdict) true) 1 0)

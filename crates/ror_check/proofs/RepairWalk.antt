@@ -42,7 +42,7 @@ number-filter p (x ∷ list) = elim (cases_Bool (p x.number)) [
   | inr no_ ↦ rw no_ (number-filter p list)
 ]
 
-length-numbers : (list : List Numbered) → length (numbers_in list) ≡ length list
+pub length-numbers : (list : List Numbered) → length (numbers_in list) ≡ length list
 length-numbers [] = refl
 length-numbers (x ∷ list) = ap suc (length-numbers list)
 

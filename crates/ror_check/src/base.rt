@@ -48,7 +48,7 @@ impl Base {
             return Ok(());
         }
         accept(&self.system, certificate)?;
-        if let Ok(copy) = copied(alloc, certificate) {
+        if let Ok(copy) = certificate.copied(alloc) {
             self.learn(copy);
         }
         Ok(())
@@ -79,18 +79,6 @@ impl Base {
         }
         self.next = self.next.wrapping_add(1) % MOST_KNOWN;
         self.known[self.next] = certificate;
-    }
-}
-
-/// The same certificate again.
-fn copied(alloc: Global, certificate: &Certificate) -> Result<Certificate, AllocError>
-    ensures { IfOk result (λ copy. copy ≡ certificate.now) }
-{
-    match certificate {
-        Certificate::Solution(solution) => Ok(Certificate::Solution(solution.copied(alloc)?)),
-        Certificate::Multipliers(multipliers) => {
-            Ok(Certificate::Multipliers(multipliers.copied(alloc)?))
-        }
     }
 }
 

@@ -25,6 +25,7 @@ use Rattle.ror_elements.specs.Refusals.{StandsBehind, IsBadRest, IsBadMarkup}
 use Rattle.ror_elements.specs.Tags.{root_name, id_name, opened, is_bad_root, open_element, close_in, close, after_end_name, in_end_name, begin_attribute, in_tag, in_start_name, in_empty_tag, add_name, after_attribute_name, in_attribute_name, quoted, before_value, end_value, add_byte, in_value}
 use Rattle.ror_elements.proofs.NameLemmas.{names, which, some_same}
 use Rattle.ror_elements.proofs.FaultWords.{AtSpace, IsFirstKept, Stacked, open_names, is_closed, Begun, Ended, BehindEnd, Tagged, InTag, AtSlash, InName, Naming, BehindName, BehindEquals, InValue, AtMode, Holds, Misnames, Misplaces, Fails, Goes, when, past, not-true, more_names, some_more, longer_name, some_name, begins_more, longer, refers}
+use Rattle.ror_elements.proofs.ListedLemmas.{both}
 use Rattle.ror_elements.proofs.FaultValues.{more_white, distinct_last, twice_last, no_test, attributes_last, names_last, tagged_more, tagged_as, naming_more, in_value_more, value_more, bad_rest, value_stays}
 
 -- ---- an element opens
@@ -33,10 +34,6 @@ root_kept : (top : Open) (below : List Open) (name : List ℕ) → Stacked top b
 unfolding is_kept
 root_kept top [] name s e = rw (s.0, s.1, (bytes_eq-Decides (local_name name) root_name).0 (not-false (bytes_eq (local_name name) root_name) e)) refl
 root_kept top (around ∷ outer) name s e = tt
-
-both : (p q : Bool) → (p && q) ≡ true → (p ≡ true) × (q ≡ true)
-both true q e = (refl, e)
-both false q e = absurd cc
 
 -- the tag ends with these bytes
 tag_ends : (seen : List ℕ) (start : ℕ) (top : Open) (below : List Open) (name : List ℕ) (names : List (List ℕ)) (space ending : List ℕ) → IsSpace space → (ending ≡ 62 ∷ []) ⊎ (ending ≡ 47 ∷ 62 ∷ []) → Tagged seen start top below name names (space ++ ending)

@@ -26,6 +26,7 @@ use Rattle.ror_elements.specs.Open.{is_none}
 use Rattle.ror_elements.specs.Reader.{add_text, add_value, referred, end_reference, in_reference}
 use Rattle.ror_elements.specs.Refusals.{AreReferenceBytes, IsBadRest, IsBadReference}
 use Rattle.ror_elements.specs.References.{entity, number_of, character_at, chosen, character_of}
+use Rattle.ror_elements.proofs.ListedLemmas.{either}
 use Rattle.ror_elements.proofs.NameLemmas.{names, character_at-code}
 use Rattle.ror_elements.proofs.FaultWords.{more_of_reference, IsInHome, Refers, Stacked, Referred, Tagged, Naming, InValue, AtMode, Holds, Misplaces, Fails, Goes, when, past, not-true, some_name, longer, further}
 use Rattle.ror_elements.proofs.FaultSteps.{content_behind, add_text-stacked}
@@ -44,10 +45,6 @@ all_last P (x ∷ names) name all h = (all.0, all_last P names name all.1 h)
 last_of_all : (P : List ℕ → Type 0) (names : List (List ℕ)) (name : List ℕ) → AllByRecursion P (names ++ name ∷ []) → P name
 last_of_all P [] name all = all.0
 last_of_all P (x ∷ names) name all = last_of_all P names name all.1
-
-either : (p q : Bool) → (p || q) ≡ true → (p ≡ true) ⊎ (q ≡ true)
-either true q e = inl refl
-either false q e = inr e
 
 neither : (p q : Bool) → (p || q) ≡ false → (p ≡ false) × (q ≡ false)
 neither true q e = absurd cc

@@ -33,11 +33,11 @@ brought_nothing {A} name place Reads Refuses a b shelf_faults.Memory called fail
     record { never_falls = called.never_falls; told_stays = called.told_stays; counted = called.counted; missing = λ lacks. absurd (let p = missing lacks in cc); fetched = other }
 
 -- what is not missing is there
-found_or : (found : Option (List ℕ)) → (found ≡ None → ⊥) → (bytes : List ℕ) × (found ≡ Some bytes)
+pub found_or : (found : Option (List ℕ)) → (found ≡ None → ⊥) → (bytes : List ℕ) × (found ≡ Some bytes)
 found_or None there = absurd (there refl)
 found_or (Some bytes) there = (bytes, refl)
 
-there : (told : Option Files) (files : Files) (name : List ℕ) → told ≡ Some files → (Lacks told name → ⊥) → (bytes : List ℕ) × (file files name ≡ Some bytes) × HasFile told name bytes
+pub there : (told : Option Files) (files : Files) (name : List ℕ) → told ≡ Some files → (Lacks told name → ⊥) → (bytes : List ℕ) × (file files name ≡ Some bytes) × HasFile told name bytes
 there told files name is kept =
     let found = found_or (file files name) (λ none. kept (subst (λ (t : Option Files). Lacks t name) (sym is) none)) in
     (found.0, found.1, subst (λ (t : Option Files). HasFile t name found.0) (sym is) found.1)

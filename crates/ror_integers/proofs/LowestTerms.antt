@@ -12,6 +12,9 @@ use Rattle.ror_integers.proofs.Gcd.{gcd-dvd_left, gcd-dvd_right, gcd_comm, gcd_s
 use Rattle.ror_integers.proofs.Solver.{ring3, ◌⊗◌}
 
 -- ---- fractions
+pub not_zero : (d : ℤ) → pos 0 <ℤ d → d ≢ pos 0
+not_zero d h e = absurd (omega (arith, ints))
+
 same_denominator : (p q r s : ℤ) → int_gcd p q ≡ 1 → p *ℤ s ≡ r *ℤ q → unsigned_abs q ∣ unsigned_abs s
 same_denominator p q r s e h =
     let a : unsigned_abs p * unsigned_abs s ≡ unsigned_abs r * unsigned_abs q = sym (unsigned_abs-mul p s) ∙ ap unsigned_abs h ∙ unsigned_abs-mul r q in

@@ -8,7 +8,7 @@ use Rattle.ror_integers.proofs.Dots.{dot-append}
 use Rattle.ror_integers.proofs.Rows.{dot-weighted, dots-append, entry-weighted, length-dots}
 use Rattle.ror_integers.proofs.Signs.{NoneNegative-append_left, NoneNegative-append_right, dot_nonnegative, dot_nonpositive, dot_positive}
 
-NoneNegative-dots : (rows : List (List ℤ)) (x : List ℤ) → AllByRecursion (λ row. pos 0 ≤ℤ dot row x) rows → NoneNegative (dots rows x)
+pub NoneNegative-dots : (rows : List (List ℤ)) (x : List ℤ) → AllByRecursion (λ row. pos 0 ≤ℤ dot row x) rows → NoneNegative (dots rows x)
 NoneNegative-dots [] x h = tt
 NoneNegative-dots (row ∷ rows) x h = (h.0, NoneNegative-dots rows x h.1)
 

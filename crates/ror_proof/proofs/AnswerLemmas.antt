@@ -79,25 +79,25 @@ head_words t q name = codes "answer" ∷ (question_words t q ++ verdict_word nam
 pub id_is_word : (t : DecisionTable) (a : ℕ) → IsTable t → a < length t.alternatives → is_word (id_of t a) ≡ true
 id_is_word t a table within = is_word-id (id_of t a) (id_of_is_id t a table within)
 
-pair_are_words : (t : DecisionTable) (p : Pair) → IsTable t → PairWithin (length t.alternatives) p → are_words (pair_words t p) ≡ true
+pub pair_are_words : (t : DecisionTable) (p : Pair) → IsTable t → PairWithin (length t.alternatives) p → are_words (pair_words t p) ≡ true
 pair_are_words t p table within = rw (id_is_word t p.first table within.0, id_is_word t p.second table within.1) refl
 
-scope_are_words : (t : DecisionTable) (s : Scope) → IsTable t → ScopeWithin (length t.criteria) s → are_words (scope_words t s) ≡ true
+pub scope_are_words : (t : DecisionTable) (s : Scope) → IsTable t → ScopeWithin (length t.criteria) s → are_words (scope_words t s) ≡ true
 scope_are_words t Whole table within = refl
 scope_are_words t (One i) table within = rw (is_word-id (criterion_id_of t i) (criterion_id_of_is_id t i table within)) refl
 
-form_are_words : (t : DecisionTable) (form : Form) → IsTable t → NamesWithin (length t.alternatives) (length t.criteria) form → are_words (form_words t form) ≡ true
+pub form_are_words : (t : DecisionTable) (form : Form) → IsTable t → NamesWithin (length t.alternatives) (length t.criteria) form → are_words (form_words t form) ≡ true
 form_are_words t (Value a b) table within = pair_are_words t (record { first = a; second = b }) table within
 form_are_words t (Strength p q s) table within =
     list_all-append is_word (pair_words t p) (pair_words t q ++ scope_words t s)
     ∙ and_from _ _ (pair_are_words t p table within.0) (list_all-append is_word (pair_words t q) (scope_words t s) ∙ and_from _ _ (pair_are_words t q table within.1) (scope_are_words t s table within.2))
 
-property_are_words : (t : DecisionTable) (p : Property) → IsTable t → HasWords t p → are_words (property_words t p) ≡ true
+pub property_are_words : (t : DecisionTable) (p : Property) → IsTable t → HasWords t p → are_words (property_words t p) ≡ true
 property_are_words t Compatible table named = refl
 property_are_words t (AtLeast form) table named = form_are_words t form table named
 property_are_words t (InClass a h) table named = rw (id_is_word t a table named.0, is_word-decimal h (omega (arith, named.1))) refl
 
-name_is_word : (name : QuestionName) → is_word (question_word name) ≡ true
+pub name_is_word : (name : QuestionName) → is_word (question_word name) ≡ true
 name_is_word asked.Consistent = refl
 name_is_word asked.Necessary = refl
 name_is_word asked.Possible = refl

@@ -53,14 +53,14 @@ unfolding name_at
 name_steps t place word_of names words = one_steps t place (λ word. need (BadLine place) (name_of word_of names word)) (one_of (map word_of names)) words no_end (name_one t place word_of names)
 
 -- the name is that of the first word
-name_is : {N : Type 0} (word_of : N → List ℕ) (names : List N) (place : ℕ) (word : List ℕ) (words : List (List ℕ)) (x : N × List (List ℕ)) → name_at word_of names place (word ∷ words) ≡ Ok x → (name_of word_of names word ≡ Some x.0) × (words ≡ x.1)
+pub name_is : {N : Type 0} (word_of : N → List ℕ) (names : List N) (place : ℕ) (word : List ℕ) (words : List (List ℕ)) (x : N × List (List ℕ)) → name_at word_of names place (word ∷ words) ≡ Ok x → (name_of word_of names word ≡ Some x.0) × (words ≡ x.1)
 unfolding name_at
 name_is word_of names place word words x e =
     let a = bind_ok (need (BadLine place) (name_of word_of names word)) (λ name. done (name, words)) x e in
     let is = ok_is (a.0, words) x a.2 in
     (need_ok (BadLine place) (name_of word_of names word) a.0 a.1 ∙ ap (λ y. Some y.0) is, ap (λ y. y.1) is)
 
-no_name : {N : Type 0} (word_of : N → List ℕ) (names : List N) (place : ℕ) (x : N × List (List ℕ)) → name_at word_of names place [] ≡ Ok x → ⊥
+pub no_name : {N : Type 0} (word_of : N → List ℕ) (names : List N) (place : ℕ) (x : N × List (List ℕ)) → name_at word_of names place [] ≡ Ok x → ⊥
 unfolding name_at
 no_name word_of names place x e = absurd cc
 
@@ -175,13 +175,13 @@ question_steps t place (word ∷ words) =
 
 -- ---- places
 
-entry_steps : (t : DecisionTable) (place : ℕ) (words : List (List ℕ)) → Steps t place (entry_at place words) (a_small_number ∷ a_small_number ∷ []) words
+pub entry_steps : (t : DecisionTable) (place : ℕ) (words : List (List ℕ)) → Steps t place (entry_at place words) (a_small_number ∷ a_small_number ∷ []) words
 unfolding entry_at
 entry_steps t place words =
     then_steps t place (small_number_at place words) (λ row. small_number_at place row.1 >>= λ column. class_made row.0 column) (a_small_number ∷ []) (a_small_number ∷ []) words (small_number_steps t place words)
     (λ row e. made_steps t place (small_number_at place row.1) (λ (column : ℕ). two row.0 column) (a_small_number ∷ []) row.1 (small_number_steps t place row.1))
 
-numbered_steps : (t : DecisionTable) (place : ℕ) (name : PlaceName) (words : List (List ℕ)) → Steps t place (numbered_at place name words) (expected_place name) words
+pub numbered_steps : (t : DecisionTable) (place : ℕ) (name : PlaceName) (words : List (List ℕ)) → Steps t place (numbered_at place name words) (expected_place name) words
 numbered_steps t place named.Start words = made_steps t place (entry_at place words) (λ (x : ℕ × ℕ). places.Start x.0 x.1) (a_small_number ∷ a_small_number ∷ []) words (entry_steps t place words)
 numbered_steps t place named.Step words = made_steps t place (entry_at place words) (λ (x : ℕ × ℕ). places.Step x.0 x.1) (a_small_number ∷ a_small_number ∷ []) words (entry_steps t place words)
 numbered_steps t place named.Denominator words = made_steps t place (small_number_at place words) (λ (x : ℕ). places.Denominator x) (a_small_number ∷ []) words (small_number_steps t place words)

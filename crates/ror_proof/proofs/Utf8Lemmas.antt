@@ -70,11 +70,11 @@ line_text_is_utf8 ws h = IsUtf8-append (join_words ws) (10 ∷ []) (joined ws h)
 pub decimal_is_utf8 : (n : ℕ) → n < 10 ^ 64 → IsUtf8 (decimal n)
 decimal_is_utf8 n h = IsUtf8-from_ascii (decimal n) (IsAscii-decimal_wide n h)
 
-signed_is_utf8 : (z : ℤ) → IsNarrow z → IsUtf8 (signed_decimal z)
+pub signed_is_utf8 : (z : ℤ) → IsNarrow z → IsUtf8 (signed_decimal z)
 signed_is_utf8 (pos n) narrow = decimal_is_utf8 n (omega (arith, narrow))
 signed_is_utf8 (negsuc n) narrow = IsUtf8-append (45 ∷ []) (decimal (suc n)) (ascii_is_utf8 (45 ∷ []) refl) (decimal_is_utf8 (suc n) (omega (arith, narrow)))
 
-numbers_are_texts : (zs : List ℤ) → AllByRecursion IsNarrow zs → AreTexts (map signed_decimal zs)
+pub numbers_are_texts : (zs : List ℤ) → AllByRecursion IsNarrow zs → AreTexts (map signed_decimal zs)
 numbers_are_texts [] narrow = tt
 numbers_are_texts (z ∷ zs) narrow = (signed_is_utf8 z narrow.0, numbers_are_texts zs narrow.1)
 

@@ -63,10 +63,10 @@ number_errs number P says some place (byte ∷ bytes) f e =
     some_not_none : {A : Type 0} (number : List ℕ → Option A) (word : List ℕ) → (n : A) × (number word ≡ Some n) → number word ≡ None → ⊥
     some_not_none number word some none = absurd (let no = sym none ∙ some.1 in cc)
 
-no_empty_number : IsNumber [] → ⊥
+pub no_empty_number : IsNumber [] → ⊥
 no_empty_number h = let some = signed_decimal_some h.0 (omega (arith, h.1)) in omega (arith, some, ap length h.2)
 
-number_says : (word : List ℕ) → IsNumber word → (z : ℤ) × (number_of word ≡ Some z)
+pub number_says : (word : List ℕ) → IsNumber word → (z : ℤ) × (number_of word ≡ Some z)
 number_says word h = (h.0, ap number_of h.2 ∙ number_of-signed_decimal h.0 h.1)
 
 number_err : (place : ℕ) (word : List ℕ) (f : ProofFault) → number_in number_of place word ≡ Err f → (IsNumber word → ⊥) × (f ≡ number_fault word place)

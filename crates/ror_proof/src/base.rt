@@ -20,20 +20,6 @@ pub struct BaseLine {
     pub next: usize,
 }
 
-impl Certificate {
-    /// The same certificate again.
-    fn copied(&self, alloc: Global) -> Result<Certificate, AllocError>
-        ensures { IfOk result (λ copy. copy ≡ self.now) }
-    {
-        match self {
-            Certificate::Solution(solution) => Ok(Certificate::Solution(solution.copied(alloc)?)),
-            Certificate::Multipliers(multipliers) => {
-                Ok(Certificate::Multipliers(multipliers.copied(alloc)?))
-            }
-        }
-    }
-}
-
 impl Verdict {
     /// The certificate of the base system, where there is a proof.
     fn base(&self) -> Option<&Certificate>

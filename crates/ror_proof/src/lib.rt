@@ -17,6 +17,7 @@
 
 mod answer;
 mod base;
+mod copies;
 mod kept;
 pub mod laws;
 pub mod names;

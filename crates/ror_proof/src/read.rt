@@ -13,11 +13,11 @@ use crate::kept::{Dropped, Kept};
 use crate::names::{PLACE_NAMES, PlaceName, VERDICT_NAMES, VerdictName};
 use crate::questions::question_at;
 use crate::words::{
-    after_word, name_at, no_more, numbers_at, numbers_before_bar, pivots_at, small_number_at,
-    the_number_at,
+    after_word, entry_at, multipliers_at, name_at, no_more, numbers_at, pivots_at, refutation_at,
+    small_number_at, the_number_at,
 };
 use ror_statement::Question;
-use ror_system::{Multipliers, Solution};
+use ror_system::Solution;
 use ror_table::Table;
 use ror_text::Items;
 use ror_text::reading::{need, refuse_if};
@@ -393,16 +393,6 @@ pub(crate) fn certificate_at(
     }
 }
 
-/// The word of multipliers, and their numbers up to the end of the line.
-#[tactic(auto, unfolding(crate::specs::Reading::refutation_at))]
-fn refutation_at(alloc: Global, place: usize, words: Words<'_>) -> Result<Multipliers, ProofFault>
-    ensures exact { Gives (λ x. x) proof_fault result (reading.refutation_at place words.entry) }
-    ensures placed { IfErr result (IsProofFaultWithin place) }
-{
-    let words = after_word(place, b"multipliers", words)?;
-    multipliers_at(alloc, place, words)
-}
-
 /// The numbers of a solution.
 #[tactic(auto, unfolding(crate::specs::Reading::solution_at))]
 fn solution_at(alloc: Global, place: usize, words: Words<'_>) -> Result<Certificate, ProofFault>
@@ -411,17 +401,6 @@ fn solution_at(alloc: Global, place: usize, words: Words<'_>) -> Result<Certific
 {
     let steps = numbers_at(alloc, place, words)?;
     Ok(Certificate::Solution(Solution { steps }))
-}
-
-/// The multipliers of the weak rows, a bar, and those of the strict rows.
-#[tactic(auto, unfolding(crate::specs::Reading::multipliers_at))]
-fn multipliers_at(alloc: Global, place: usize, words: Words<'_>) -> Result<Multipliers, ProofFault>
-    ensures exact { Gives (λ x. x) proof_fault result (reading.multipliers_at place words.entry) }
-    ensures placed { IfErr result (IsProofFaultWithin place) }
-{
-    let (weak, words) = numbers_before_bar(alloc, place, words)?;
-    let strict = numbers_at(alloc, place, words)?;
-    Ok(Multipliers { weak, strict })
 }
 
 /// A place, `path` and pivots, up to the end of the line.
@@ -482,16 +461,4 @@ fn numbered_at<'a>(
             Ok((PlaceText::ColumnSum(column), words))
         }
     }
-}
-
-/// A row and a column.
-#[tactic(auto, unfolding(crate::specs::Reading::entry_at))]
-fn entry_at<'a>(place: usize, words: Words<'a>) -> Result<(u32, u32, Words<'a>), ProofFault>
-    ensures exact { Gives (λ x. ((x.0, x.1), x.2)) proof_fault result
-        (reading.entry_at place words.entry) }
-    ensures placed { IfErr result (IsProofFaultWithin place) }
-{
-    let (row, words) = small_number_at(place, words)?;
-    let (column, words) = small_number_at(place, words)?;
-    Ok((row, column, words))
 }

@@ -4,12 +4,13 @@ ghost use Rattle.std.specs.Prelude.{◌≡◌, ◌==◌, MatchOption, IfErr, pos
 ghost use Rattle.ror_text.specs.Numbers.{number_of, small_number_of};
 ghost use Rattle.ror_text.specs.Reading.{Gives};
 ghost use Rattle.ror_proof.specs.Words as spec;
+ghost use Rattle.ror_proof.specs.Reading as reading;
 ghost use Rattle.ror_proof.specs.Reading.{proof_fault, IsProofFaultWithin};
 
 use crate::answer::Pivot;
 use crate::names::{Name, named};
 use crate::read::ProofFault;
-use ror_system::Numbers;
+use ror_system::{Multipliers, Numbers};
 use ror_text::numbers::{read_number, read_small_number};
 use ror_text::reading::{need, refuse_if};
 use ror_text::spaced::Words;
@@ -76,6 +77,18 @@ pub fn small_number_at<'a>(place: usize, words: Words<'a>) -> Result<(u32, Words
     }
 }
 
+/// A row and a column, which come first.
+#[tactic(auto, unfolding(crate::specs::Reading::entry_at))]
+pub fn entry_at<'a>(place: usize, words: Words<'a>) -> Result<(u32, u32, Words<'a>), ProofFault>
+    ensures exact { Gives (λ x. ((x.0, x.1), x.2)) proof_fault result
+        (reading.entry_at place words.entry) }
+    ensures placed { IfErr result (IsProofFaultWithin place) }
+{
+    let (row, words) = small_number_at(place, words)?;
+    let (column, words) = small_number_at(place, words)?;
+    Ok((row, column, words))
+}
+
 /// The words after this number, which has to come first; any other is a bad number.
 #[tactic(auto, unfolding(crate::specs::Words::the_number_at))]
 pub(crate) fn the_number_at<'a>(
@@ -93,11 +106,7 @@ pub(crate) fn the_number_at<'a>(
 }
 
 /// The numbers up to the end of the line.
-pub(crate) fn numbers_at(
-    alloc: Global,
-    place: usize,
-    words: Words<'_>,
-) -> Result<Numbers, ProofFault>
+pub fn numbers_at(alloc: Global, place: usize, words: Words<'_>) -> Result<Numbers, ProofFault>
     ensures exact { Gives (λ numbers. numbers) proof_fault result
         (spec.numbers_at place words.entry) }
     ensures placed { IfErr result (IsProofFaultWithin place) }
@@ -113,7 +122,7 @@ pub(crate) fn numbers_at(
 }
 
 /// The numbers before a bar, and the words after it.
-pub(crate) fn numbers_before_bar<'a>(
+fn numbers_before_bar<'a>(
     alloc: Global,
     place: usize,
     words: Words<'a>,
@@ -133,6 +142,35 @@ pub(crate) fn numbers_before_bar<'a>(
         left = rest;
     }
     Err(ProofFault::BadLine(place))
+}
+
+/// The word of multipliers, and their numbers up to the end of the line.
+#[tactic(auto, unfolding(crate::specs::Reading::refutation_at))]
+pub fn refutation_at(
+    alloc: Global,
+    place: usize,
+    words: Words<'_>,
+) -> Result<Multipliers, ProofFault>
+    ensures exact { Gives (λ x. x) proof_fault result (reading.refutation_at place words.entry) }
+    ensures placed { IfErr result (IsProofFaultWithin place) }
+{
+    let words = after_word(place, b"multipliers", words)?;
+    multipliers_at(alloc, place, words)
+}
+
+/// The multipliers of the weak rows, a bar, and those of the strict rows.
+#[tactic(auto, unfolding(crate::specs::Reading::multipliers_at))]
+pub(crate) fn multipliers_at(
+    alloc: Global,
+    place: usize,
+    words: Words<'_>,
+) -> Result<Multipliers, ProofFault>
+    ensures exact { Gives (λ x. x) proof_fault result (reading.multipliers_at place words.entry) }
+    ensures placed { IfErr result (IsProofFaultWithin place) }
+{
+    let (weak, words) = numbers_before_bar(alloc, place, words)?;
+    let strict = numbers_at(alloc, place, words)?;
+    Ok(Multipliers { weak, strict })
 }
 
 /// The pivots up to the end of the line.
@@ -156,7 +194,7 @@ pub(crate) fn pivots_at(
 }
 
 /// The number that a word says.
-fn number_in(place: usize, word: &[u8]) -> Result<i128, ProofFault>
+pub fn number_in(place: usize, word: &[u8]) -> Result<i128, ProofFault>
     ensures exact { Gives (λ number. number) proof_fault result
         (spec.number_in number_of place word.now) }
     ensures placed { IfErr result (IsProofFaultWithin place) }
@@ -192,7 +230,7 @@ fn pivot_in(place: usize, word: &[u8]) -> Result<Pivot, ProofFault>
 }
 
 /// The bytes before the first colon, and those after it.
-fn split_pivot(word: &[u8]) -> Option<(&[u8], &[u8])>
+pub fn split_pivot(word: &[u8]) -> Option<(&[u8], &[u8])>
     ensures { MatchOption result (spec.split_pivot word.now ≡ None)
         (λ x. spec.split_pivot word.now ≡ Some (x.0.now, x.1.now)) }
 {

@@ -41,7 +41,7 @@ use Rattle.ror_given.specs.Notes.{HasNoteAt, pivots_of, place_of}
 use Rattle.ror_given.specs.Answers.{IsCertificateWithin, IsProofWithin, IsVerdictWithin, IsGiven}
 use Rattle.ror_relation.proofs.NoteBounds.{note_within, well_formed, systems_formed}
 
-most_within : (bits : Bits) → most_of bits < sum_limit
+pub most_within : (bits : Bits) → most_of bits < sum_limit
 most_within B15 = lit< tt
 most_within B31 = lit< tt
 most_within B63 = lit< tt

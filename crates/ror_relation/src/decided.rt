@@ -10,7 +10,6 @@ ghost use Rattle.ror_relation.specs.DecidedLists.{IsDecidedList, statements_of};
 
 use crate::decision::{Decision, decide_system_warm};
 use crate::search::{Search, first_solvable};
-use crate::wide::copied_note;
 use ror_pivot::Bits;
 use ror_proof::{Answer, Certificate, Part, Proof, Verdict};
 use ror_rows::{question_systems, system_of};
@@ -85,7 +84,7 @@ impl DecidedList {
             }),
             Decision::TooWide(note) => Verdict::Wide {
                 system: 0,
-                note: copied_note(alloc, note)?,
+                note: note.copied(alloc)?,
             },
         };
         Ok(Answer {

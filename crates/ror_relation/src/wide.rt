@@ -42,13 +42,3 @@ fn place_text(place: Place) -> PlaceText
         Place::ColumnSum(column) => PlaceText::ColumnSum(column as u32),
     }
 }
-
-/// The same note again.
-pub(crate) fn copied_note(alloc: Global, note: &WideText) -> Result<WideText, AllocError>
-    ensures { IfOk result (λ copy. copy ≡ note.now) }
-{
-    Ok(WideText {
-        path: Items::from(Vec::from_slice(alloc, note.path.as_slice())?),
-        place: note.place,
-    })
-}

@@ -206,7 +206,7 @@ pub end_begins : (n : ℕ) → (more : List ℕ) × (end_text n ≡ codes "end "
 unfolding end_text line_text
 end_begins n = (drop 4 (end_text n), refl)
 
-some_bytes : (byte : ℕ) (bytes : List ℕ) → eqb (length (byte ∷ bytes)) 0 ≡ false
+pub some_bytes : (byte : ℕ) (bytes : List ℕ) → eqb (length (byte ∷ bytes)) 0 ≡ false
 some_bytes byte bytes = ne_eqb (length (byte ∷ bytes)) 0 (λ (e : length (byte ∷ bytes) ≡ 0). omega arith)
 
 ends_at_line : (more : List ℕ) → ends_body (codes "line " ++ more) ≡ true

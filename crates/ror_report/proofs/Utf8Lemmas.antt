@@ -21,7 +21,7 @@ use Rattle.ror_report.specs.Text.{numbered_text, body_text, block_text, header_t
 numbered_is_utf8 : (name : List ℕ) (n : ℕ) → IsUtf8 name → n < 2 ^ 32 → IsUtf8 (numbered_text name n)
 numbered_is_utf8 name n text small = line_text_is_utf8 (name ∷ decimal n ∷ []) (text, (decimal_is_utf8 n (omega (arith, small)), tt))
 
-answers_are_utf8 : (t : DecisionTable) (xs : List Answer) → IsTable t → AllByRecursion (IsPrintable t) xs → IsUtf8 (flat_map (answer_text t) xs)
+pub answers_are_utf8 : (t : DecisionTable) (xs : List Answer) → IsTable t → AllByRecursion (IsPrintable t) xs → IsUtf8 (flat_map (answer_text t) xs)
 answers_are_utf8 t [] table printable = IsUtf8-nil
 answers_are_utf8 t (x ∷ xs) table printable = IsUtf8-append (answer_text t x) (flat_map (answer_text t) xs) (answer_text_is_utf8 t x table printable.0) (answers_are_utf8 t xs table printable.1)
 

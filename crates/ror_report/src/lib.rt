@@ -21,5 +21,5 @@ mod print;
 mod read;
 
 pub use block::{Block, Body, LineFault};
-pub use print::{header, print_block, print_end};
+pub use print::{header, print_block, print_end, write_answers};
 pub use read::{begins_end, read_block, read_end, read_header};

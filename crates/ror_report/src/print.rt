@@ -77,7 +77,12 @@ fn write_repair_wide(text: &mut Vec<u8>, number: u32, note: &WideText) -> Result
     write_wide(text, 0, note)
 }
 
-fn write_answers(text: &mut Vec<u8>, table: &Table, answers: &[Answer]) -> Result<(), AllocError>
+/// The text of each answer, in order.
+pub fn write_answers(
+    text: &mut Vec<u8>,
+    table: &Table,
+    answers: &[Answer],
+) -> Result<(), AllocError>
     requires valid { AllByRecursion (HasValidQuestion table.now) answers.now }
     requires narrow { AllByRecursion HasNarrowVerdict answers.now }
     ensures { OnOk result (text.new.items

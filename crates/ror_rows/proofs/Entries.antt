@@ -14,6 +14,7 @@ use Rattle.ror_table.specs.Table.{DecisionTable, is_linear, rank, steps, width, 
 use Rattle.ror_table.proofs.RankLemmas.{rank-le-steps, offset-suc, offset-le}
 use Rattle.ror_table.proofs.BlockLemmas.{length-block, block-linear}
 use Rattle.ror_table.proofs.WeightLemmas.{has_weights-parts}
+use Rattle.ror_value.proofs.Walks.{stepwise-width}
 use Rattle.ror_rows.specs.Rows.{value_row, rank_in, scope_row, pair_row, form_row}
 
 pub length-blocks : (t : DecisionTable) (r : ℕ → ℕ) (n s : ℕ)
@@ -92,9 +93,6 @@ entry-value_row t a i k criterion low high =
     let wide = ap (width t) same in
     entry-blocks t (rank t a) (length t.criteria) 0 i (column t i k) (k - 1) criterion (omega arith) (omega arith)
     ∙ ap (λ (i : ℕ). entry (block t i (rank t a i)) (k - 1)) same
-
-stepwise-width : (t : DecisionTable) (i : ℕ) → is_linear t i ≡ false → width t i ≡ steps t i
-stepwise-width t i is = rw is refl
 
 stepwise-entry : (t : DecisionTable) (i r j : ℕ) → is_linear t i ≡ false → entry (block t i r) j ≡ entry (ones (min r (steps t i)) ++ replicate (steps t i - r) (pos 0)) j
 stepwise-entry t i r j is = rw is refl

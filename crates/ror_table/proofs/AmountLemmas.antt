@@ -13,7 +13,7 @@ use Rattle.ror_integers.specs.Gcd.{gcd, int_gcd, exact_quotient}
 use Rattle.ror_integers.specs.LowestTerms.{signed_by}
 use Rattle.ror_integers.proofs.Comparisons.{fraction_less_transitive}
 use Rattle.ror_integers.proofs.Gcd.{gcd-one_right, gcd_positive_right, gcd-dvd_left, gcd-dvd_right, absolute-exact_quotient}
-use Rattle.ror_integers.proofs.LowestTerms.{same_from_same_value, lowest_terms_exist}
+use Rattle.ror_integers.proofs.LowestTerms.{not_zero, same_from_same_value, lowest_terms_exist}
 use Rattle.ror_table.specs.declared.amount.Amount.{Amount}
 use Rattle.ror_table.specs.declared.direction.Direction.{Direction}
 use Rattle.ror_table.specs.declared.direction.Direction.TheVariants.{Max, Min}
@@ -115,9 +115,6 @@ within_test n h = ltb-true (unsigned_abs n) AMOUNT_LIMIT h
 
 test_within : (n : ℤ) → unsigned_abs n < AMOUNT_LIMIT → is_within n ≡ true
 test_within n h = lt-ltb (unsigned_abs n) AMOUNT_LIMIT h
-
-not_zero : (d : ℤ) → pos 0 <ℤ d → d ≢ pos 0
-not_zero d h e = omega (arith, ints)
 
 over_positive : (n d : ℤ) → pos 0 <ℤ d → signed_by d n ≡ n
 over_positive n (pos d) h = refl

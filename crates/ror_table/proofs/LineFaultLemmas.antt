@@ -34,7 +34,7 @@ pub refused : (f : TableFault) (b : Bool) (r : Result DecisionTable TableFault) 
 refused f true r e is = inl (refl, cc)
 refused f false r e is = inr (refl, is)
 
-true_not_false : (b : Bool) → b ≡ true → b ≡ false → ⊥
+pub true_not_false : (b : Bool) → b ≡ true → b ≡ false → ⊥
 true_not_false b t f = false≢true (sym f ∙ t)
 
 -- ---- what stands at the front of a line

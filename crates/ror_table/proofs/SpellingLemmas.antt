@@ -13,6 +13,7 @@ use Rattle.std.proofs.lemmas.List.Sums.{split_at_first, passes_at_first}
 use Rattle.std.proofs.Math.Seq.{take-append_seam, drop-append-add}
 use Rattle.std.proofs.Math.Nat.{one-le-pow, pow-le-pow_right}
 use Rattle.ror_text.specs.Numbers.{is_digits, digits_number, digits_up_to, negative, read_performance}
+use Rattle.ror_text.proofs.NumberLemmas.{mapped}
 use Rattle.ror_text.proofs.Digits.{up_to_small, is_digits_true}
 use Rattle.ror_table.specs.declared.amount.Amount.{Amount}
 use Rattle.ror_table.specs.declared.plain.Version.{Version}
@@ -114,10 +115,6 @@ up_to_found most ds n e = elim (cases_Bool (is_digits ds && leb (length ds) most
       (both.0, leb-true (length ds) most both.1, let k : digits_number ds ≡ n = cc in sym k)
   | inr fails ↦ absurd (let none = sym (cond-false _ _ _ fails) ∙ e in cc)
 ]
-
-mapped : {A B : Type 0} (f : A → B) (o : Option A) (y : B) → option_map f o ≡ Some y → (x : A) × (o ≡ Some x) × (f x ≡ y)
-mapped f None y e = absurd cc
-mapped f (Some x) y e = (x, refl, cc)
 
 -- ---- whole numbers
 first_of_digits : (c : ℕ) (cs : List ℕ) → is_digits (c ∷ cs) ≡ true → (eqb c 43 ≡ false) × (eqb c 45 ≡ false)

@@ -35,7 +35,7 @@ IsId-form word h =
       no_hash = eqb-false _ _ (not-true _ f.1);
     }
 
-visible_is_word : (word : List ℕ) → list_any is_control word ≡ false → is_word word ≡ true
+pub visible_is_word : (word : List ℕ) → list_any is_control word ≡ false → is_word word ≡ true
 visible_is_word [] h = refl
 visible_is_word (b ∷ bs) h =
     let both = or_parts (is_control b) (list_any is_control bs) h in

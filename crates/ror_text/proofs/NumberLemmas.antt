@@ -132,7 +132,7 @@ number_of-signed_decimal (negsuc n) h =
     let lead : eqb (slice_index (decimal (suc n)) 0) 48 ≡ false = ne_eqb _ _ (λ (e : slice_index (decimal (suc n)) 0 ≡ 48). omega (arith, first_decimal (suc n) (omega arith) (omega arith))) in
     cond-false _ _ _ lead ∙ (ap (option_map negative) (plain_below-decimal (2 ^ 127) (suc n) (omega arith) (omega arith)))
 
-mapped : {A B : Type 0} (f : A → B) (o : Option A) (y : B) → option_map f o ≡ Some y → (x : A) × (o ≡ Some x) × (f x ≡ y)
+pub mapped : {A B : Type 0} (f : A → B) (o : Option A) (y : B) → option_map f o ≡ Some y → (x : A) × (o ≡ Some x) × (f x ≡ y)
 mapped f None y e = absurd cc
 mapped f (Some x) y e = (x, refl, cc)
 

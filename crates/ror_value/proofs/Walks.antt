@@ -46,7 +46,7 @@ IsUpTo-fits most z narrow h = fits_signed_from_abs w128 z (smaller z most (2 ^ 1
 entry-steps_on : (t : DecisionTable) (w : List ℤ) (i k : ℕ) → k < width t i → entry (steps_on t w i) k ≡ entry w (column t i (k + 1))
 entry-steps_on t w i k l = entry-take (width t i) k (drop (offset t i) w) l ∙ get_or-drop (offset t i) w k (pos 0) ∙ ap (entry w) (omega arith)
 
-stepwise-width : (t : DecisionTable) (i : ℕ) → is_linear t i ≡ false → width t i ≡ steps t i
+pub stepwise-width : (t : DecisionTable) (i : ℕ) → is_linear t i ≡ false → width t i ≡ steps t i
 stepwise-width t i is = rw is refl
 
 pub marginal-more : (t : DecisionTable) (w : List ℤ) (i k : ℕ) → is_linear t i ≡ false → k < steps t i → marginal t w i (k + 1) ≡ marginal t w i k +ℤ entry w (column t i (k + 1))

@@ -5,7 +5,7 @@ use Rattle.ror_system.specs.System.{LinearSystem}
 use Rattle.ror_relation.specs.Decisions.{IsDecision, IsGivenVerdict}
 use Rattle.ror_relation.proofs.Concluding.{given, contradicted, base_too_wide}
 use Rattle.ror_relation.proofs.decided.DecidedList.answer.Goals as goal
-use Rattle.ror_relation.proofs.decided.DecidedList.answer.Goals.{in-Solvable+in_ok-verdict-in-Solvable, in-NotSolvable+in_ok-copied-in-NotSolvable, in-TooWide+in_ok-copied_note-in-TooWide}
+use Rattle.ror_relation.proofs.decided.DecidedList.answer.Goals.{in-Solvable+in_ok-verdict-in-Solvable, in-NotSolvable+in_ok-copied-in-NotSolvable, in-TooWide+in_ok-copied-in-TooWide}
 
 pub returns-clause-given : goal.returns-clause-given
 returns-clause-given c =
@@ -22,7 +22,7 @@ returns-clause-given c =
       | in-NotSolvable+in_ok-copied-in-NotSolvable w ↦
           let copy = w.in_ok-copied-in-NotSolvable in
           given most t list q c.match-self.verdict _ w.verdict-is (contradicted most t list q base w.in-NotSolvable.multipliers copy.field-0 w.from.result c.requires.decided.lawful c.requires.asked decided w.in-NotSolvable.is copy.ensures (w.from.ensures ∙ w.new.ensures.items))
-      | in-TooWide+in_ok-copied_note-in-TooWide w ↦
-          let copy = w.in_ok-copied_note-in-TooWide in
+      | in-TooWide+in_ok-copied-in-TooWide w ↦
+          let copy = w.in_ok-copied-in-TooWide in
           given most t list q c.match-self.verdict _ w.verdict-is (base_too_wide most t list q base w.in-TooWide.note copy.field-0 decided w.in-TooWide.is copy.ensures)
     ]
