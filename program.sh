@@ -1,88 +1,55 @@
-# What the scripts that run a program have in common: they set the folder that they stand in (top) and the program's name (name),
-# have a page of help (print_help), and take this in with the caller's words.
+# What `ror` and `ror_show` have in common: they set the folder that they stand in (top) and the program's name (name), have a page of
+# help (print_help), and take this in with the caller's words. It starts no other program where nothing is amiss, so it costs little.
 # shellcheck shell=sh
 # shellcheck disable=SC2154
-program=$top/crates/$name/out/$name
+stored=$top/programs/$name
+built=$top/crates/$name/out/$name
 
-# what proves the program, by the line in the README
-print_version() {
-  sed -n "s/^Proved with: .\(rattle-kit.*\).\$/$name, proved with \1/p" "$top/README.md"
-}
+# The program that was built here runs, where there is one and it isn't older than the stored one.
+program=$stored
+[ ! -x "$built" ] || [ "$built" -ot "$stored" ] || program=$built
 
 if [ $# = 1 ]; then
   case $1 in
     --help | -h) print_help; exit ;;
-    --version) print_version; exit ;;
+    --version)
+      kit=$(sed -n 's/^Proved with: .\(rattle-kit.*\).$/\1/p' "$top/README.md")
+      if [ "$program" = "$built" ]; then
+        echo "$name, built here (crates/$name/out/$name), proved with $kit"
+      else
+        echo "$name, stored (programs/$name), proved with $kit"
+      fi
+      exit ;;
   esac
 fi
 
-# Definitions and proofs make no difference to what the program does, and looking them over would take as long as a small run.
-is_fresh() {
-  [ -x "$program" ] && [ -z "$(find "$top"/crates/*/src "$top/crates.txt" -type f -newer "$program" -print -quit)" ]
+# says what the stored program lacks here, and what to do
+lacks() {
+  echo "$name: $1" >&2
+  exit 126
 }
 
-# the crates of this repository that a crate stands on, lowest first: those that its line in crates.txt has, and theirs
-below() {
-  awk -v name="$1" '
-    /^#/ { next }
-    { line = $0; sub(/:.*/, "", line); order[++count] = line; sub(/^[^:]*:/, "", $0); has[line] = $0 }
-    END {
-      wanted[name] = 1
-      for (i = count; i > 0; i--) if (order[i] in wanted) {
-        size = split(has[order[i]], words, " ")
-        for (j = 1; j <= size; j++) if (words[j] in has) wanted[words[j]] = 1
-      }
-      for (i = 1; i <= count; i++) if (order[i] in wanted && order[i] != name) print order[i]
-    }' "$top/crates.txt"
-}
-
-# copies these crates into the folder of work, without the edits that the gate tries
-copy_crates() {
-  mkdir "$work/.git" "$work/crates" || return
-  cp "$top/HANDLES" "$work" || return
-  for crate in "$@"; do
-    mkdir "$work/crates/$crate" || return
-    sed -n "/^$crate:/p" "$top/crates.txt" >>"$work/crates.txt" || return
-    for part in src specs proofs data args stdin stdout status; do
-      [ ! -e "$top/crates/$crate/$part" ] || cp -R "$top/crates/$crate/$part" "$work/crates/$crate" || return
-    done
+# The stored program is for x86-64 Linux with glibc 2.34 or later, and processors from 2009 on. From that glibc on libc.so.6 is a file
+# and no link; where it is a link, a call without words tells whether it will do.
+look_over() {
+  [ -e "$stored" ] || lacks "programs/$name is missing: restore it (git checkout programs), or make it by ./build, which needs the kit"
+  [ -x "$stored" ] || lacks "programs/$name may not be run: this folder is on a file system that runs nothing, or the file lost its mode; copy the folder elsewhere, or chmod +x programs/$name"
+  [ -e /lib64/ld-linux-x86-64.so.2 ] || case $(uname -s -m) in
+    'Linux x86_64') lacks "the program needs glibc 2.34 or later, and there is no glibc here: run it on such a Linux (Debian 12, Ubuntu 22.04, Fedora 35 or later), in a container for instance" ;;
+    *) lacks "the program is for Linux on x86-64, and this is $(uname -s -m): run it on such a machine, or in a container for linux/amd64" ;;
+  esac
+  for libc in /lib/x86_64-linux-gnu/libc.so.6 /lib64/libc.so.6; do
+    [ ! -h "$libc" ] || { "$stored" >/dev/null 2>&1; [ $? = 2 ]; } ||
+      lacks "the program needs glibc 2.34 or later, and the one here is older: run it on Debian 12, Ubuntu 22.04, Fedora 35 or later, in a container for instance"
   done
-}
-
-# says of how many crates each one that is proved is which
-show_progress() {
-  done=0
-  while IFS= read -r line; do
-    case $line in
-      'rt: '*' NOT PROVED'*) echo "$name: ${line#rt: }" >&2 ;;
-      'rt: '*' proved' | 'rt: '*' is kept: '*)
-        line=${line#rt: }
-        done=$((done + 1))
-        echo "$name: ${line%% *} is proved, $done of $1" >&2 ;;
+  while read -r key colon flags; do
+    case $key in
+      flags)
+        case " $flags " in *' sse4_2 '*) ;; *) lacks "the program needs a processor from 2009 or later (SSE4.2), and this one is older: run it on another machine" ;; esac
+        break ;;
     esac
-  done
+  done </proc/cpuinfo
 }
 
-# Proves the program and the crates below it on a copy, as many side by side as there are processors and memory, and takes the
-# program from there. It counts as made when the copy was.
-build() {
-  work=$(mktemp -d) || return
-  trap 'rm -rf "$work"' EXIT
-  trap 'exit 2' HUP INT TERM
-  # shellcheck disable=SC2046
-  set -- $(below "$name") "$name"
-  copy_crates "$@" || return
-  mkdir -p "$top/crates/$name/out" || return
-  (cd "$work" && rt ci 2>&1) | tee "$top/crates/$name/out/build.log" | show_progress $#
-  made=$work/crates/$name/out/$name
-  [ ! -x "$made" ] || { cp "$made" "$program" && touch -r "$work/crates.txt" "$program"; }
-  rm -rf "$work"
-}
-
-if ! is_fresh; then
-  command -v rt >/dev/null || { echo "$name: the program isn't built, and rt, the kit's command, isn't on the path" >&2; exit 2; }
-  echo "$name: the program is proved and built first: from nothing about an hour on four processors" >&2
-  build
-  is_fresh || { echo "$name: it could not be built; see crates/$name/out/build.log" >&2; exit 2; }
-fi
+[ "$program" = "$built" ] || look_over
 exec "$program" "$@"
