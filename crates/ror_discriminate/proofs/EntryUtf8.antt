@@ -1,5 +1,5 @@
 -- The text of an entry is UTF-8.
-use Rattle.std.proofs.Common.{ℕ, suc, List, [], ◌∷◌, ◌++◌, map, refl, arith, ℤ, pos, negsuc}
+use Rattle.std.proofs.Common.{ℕ, List, [], ◌∷◌, ◌++◌, map, refl, arith, ℤ}
 use Rattle.std.specs.Prelude.{codes}
 use Rattle.std.specs.Fmt.{decimal, signed_decimal}
 use Rattle.std.specs.List.{AllByRecursion}
@@ -15,7 +15,7 @@ use Rattle.ror_pivot.specs.declared.optimum.ClimbPlace.{ClimbPlace}
 use Rattle.ror_pivot.specs.declared.optimum.ClimbPlace.TheVariants as climbs
 use Rattle.ror_pivot.specs.declared.optimum.Optimum.{Optimum}
 use Rattle.ror_proof.specs.Text.{solution_words, multipliers_words, AreNarrow}
-use Rattle.ror_proof.proofs.Utf8Lemmas.{ascii_is_utf8, line_text_is_utf8, decimal_is_utf8}
+use Rattle.ror_proof.proofs.Utf8Lemmas.{ascii_is_utf8, line_text_is_utf8, decimal_is_utf8, signed_is_utf8, numbers_are_texts}
 use Rattle.ror_discriminate.specs.declared.entry.Entry.{Entry}
 use Rattle.ror_discriminate.specs.declared.entry.EntryBody.{EntryBody}
 use Rattle.ror_discriminate.specs.declared.entry.EntryBody.TheVariants as bodies
@@ -30,14 +30,6 @@ AreTexts ws = AllByRecursion IsUtf8 ws
 
 small_is_utf8 : (n : ℕ) → IsSmall n → IsUtf8 (decimal n)
 small_is_utf8 n small = decimal_is_utf8 n (omega (arith, small))
-
-signed_is_utf8 : (z : ℤ) → IsNarrow z → IsUtf8 (signed_decimal z)
-signed_is_utf8 (pos n) narrow = decimal_is_utf8 n (omega (arith, narrow))
-signed_is_utf8 (negsuc n) narrow = IsUtf8-append (45 ∷ []) (decimal (suc n)) (ascii_is_utf8 (45 ∷ []) refl) (decimal_is_utf8 (suc n) (omega (arith, narrow)))
-
-numbers_are_texts : (zs : List ℤ) → AllByRecursion IsNarrow zs → AreTexts (map signed_decimal zs)
-numbers_are_texts [] narrow = tt
-numbers_are_texts (z ∷ zs) narrow = (signed_is_utf8 z narrow.0, numbers_are_texts zs narrow.1)
 
 multipliers_are_texts : (m : Multipliers) → AreNarrow m → AreTexts (multipliers_words m.weak m.strict)
 multipliers_are_texts m narrow =

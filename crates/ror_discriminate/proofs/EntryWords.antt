@@ -1,10 +1,10 @@
 -- The first faulty word of a line of an entry: what each step of the reader says of it.
-use Rattle.std.proofs.Common.{◌≡◌, ℕ, List, [], ◌∷◌, ◌++◌, length, map, drop, Option, Some, None, Result, Ok, Err, refl, sym, ap, subst, ◌∙◌, arith, inl, inr, ℤ}
+use Rattle.std.proofs.Common.{◌≡◌, ℕ, List, [], ◌∷◌, ◌++◌, length, map, drop, Option, Some, None, Result, Ok, Err, refl, sym, ap, subst, ◌∙◌, inl, inr, ℤ}
 use Rattle.std.specs.Prelude.{codes}
 use Rattle.ror_text.specs.Numbers.{number_of}
-use Rattle.ror_text.specs.Reading.{◌>>=◌, need}
-use Rattle.ror_text.proofs.NumberLemmas.{number_of-signed_decimal, number_of-sound, signed_decimal_some}
-use Rattle.ror_text.proofs.ReadingLemmas.{bind_ok, bind_err, need_ok}
+use Rattle.ror_text.specs.Reading.{◌>>=◌}
+use Rattle.ror_text.proofs.NumberLemmas.{number_of-sound}
+use Rattle.ror_text.proofs.ReadingLemmas.{bind_ok, bind_err}
 use Rattle.ror_system.specs.declared.accept.Multipliers.{Multipliers}
 use Rattle.ror_system.specs.declared.accept.Solution.{Solution}
 use Rattle.ror_pivot.specs.declared.note.Place.{Place}
@@ -21,8 +21,8 @@ use Rattle.ror_proof.specs.Reading.{entry_at, refutation_at}
 use Rattle.ror_proof.specs.Words.{after_word, name_at, no_more, number_in, small_number_at, numbers_at, pivot_in}
 use Rattle.ror_proof.specs.Expected.{Expected, IsNumber, IsFirstFaultyWord, AllStand, MayStand, fault_of_word, all_of, expected_numbers, expected_path, expected_place, expected_numbered, expected_note}
 use Rattle.ror_proof.specs.Expected.Expected.{the_word, one_of, a_small_number, a_number, a_pivot, the_end}
-use Rattle.ror_proof.proofs.WordFaults.{Steps, Ends, SaysOne, no_fault, nothing_read, then_steps, then_ends, made_steps, made_ends, all_ends, word_then_ends, end_ends, number_errs, pivot_one, refutation_ends}
-use Rattle.ror_proof.proofs.QuestionFaults.{small_number_steps, name_steps}
+use Rattle.ror_proof.proofs.WordFaults.{Steps, Ends, SaysOne, no_fault, nothing_read, no_empty_number, number_says, then_ends, made_steps, made_ends, all_ends, word_then_ends, end_ends, number_errs, pivot_one, refutation_ends}
+use Rattle.ror_proof.proofs.QuestionFaults.{small_number_steps, name_steps, name_is, no_name, entry_steps}
 use Rattle.ror_proof.proofs.WordLemmas.{done, ok_is, number_sound}
 use Rattle.ror_discriminate.specs.declared.entry.EntryBody.{EntryBody}
 use Rattle.ror_discriminate.specs.declared.entry.EntryBody.TheVariants as bodies
@@ -36,12 +36,6 @@ use Rattle.ror_discriminate.proofs.EntryLines.{base_made, climb_made}
 use Rattle.ror_discriminate.specs.Reading.{number_at, step_in, steps_at, path_at, numbered_at, place_at, climbed_at, climb_place_at, noted_at, note_of, margin_words, solution_line_words, none_words, contradiction_words, wide_words}
 
 -- ---- a number
-
-no_empty_number : IsNumber [] → ⊥
-no_empty_number h = let some = signed_decimal_some h.0 (omega (arith, h.1)) in omega (arith, some, ap length h.2)
-
-number_says : (word : List ℕ) → IsNumber word → (z : ℤ) × (number_of word ≡ Some z)
-number_says word h = (h.0, ap number_of h.2 ∙ number_of-signed_decimal h.0 h.1)
 
 number_one : (t : DecisionTable) (place : ℕ) → SaysOne t place (number_in number_of place) a_number
 number_one t place = record {
@@ -154,18 +148,6 @@ path_ends t place words = behind t place (codes "path") (λ more. steps_at place
 
 -- ---- the numbers of a place
 
-abbrev two : ℕ → ℕ → ℕ × ℕ
-two m n = (m, n)
-
-abbrev two_made : ℕ → ℕ × List (List ℕ) → Result ((ℕ × ℕ) × List (List ℕ)) ProofFault
-two_made m n = Ok (two m n.0, n.1)
-
-entry_steps : (t : DecisionTable) (place : ℕ) (words : List (List ℕ)) → Steps t place (entry_at place words) (a_small_number ∷ a_small_number ∷ []) words
-unfolding entry_at
-entry_steps t place words =
-    then_steps t place (small_number_at place words) (λ row. small_number_at place row.1 >>= λ column. two_made row.0 column) (a_small_number ∷ []) (a_small_number ∷ []) words (small_number_steps t place words)
-    (λ row e. made_steps t place (small_number_at place row.1) (λ (column : ℕ). two row.0 column) (a_small_number ∷ []) row.1 (small_number_steps t place row.1))
-
 numbered_steps : (t : DecisionTable) (place : ℕ) (name : PlaceName) (words : List (List ℕ)) → Steps t place (numbered_at place name words) (expected_place name) words
 numbered_steps t place named.Start words = made_steps t place (entry_at place words) (λ (x : ℕ × ℕ). places.Start x.0 x.1) (a_small_number ∷ a_small_number ∷ []) words (entry_steps t place words)
 numbered_steps t place named.Step words = made_steps t place (entry_at place words) (λ (x : ℕ × ℕ). places.Step x.0 x.1) (a_small_number ∷ a_small_number ∷ []) words (entry_steps t place words)
@@ -183,18 +165,6 @@ climbed_steps t place climbing.Scale words = made_steps t place (small_number_at
 climbed_steps t place climbing.ColumnSum words = made_steps t place (small_number_at place words) (λ (x : ℕ). climbs.ColumnSum x) (a_small_number ∷ []) words (small_number_steps t place words)
 
 -- ---- a word that is one of several
-
--- the name is that of the first word
-name_is : {N : Type 0} (word_of : N → List ℕ) (names : List N) (place : ℕ) (word : List ℕ) (words : List (List ℕ)) (x : N × List (List ℕ)) → name_at word_of names place (word ∷ words) ≡ Ok x → (name_of word_of names word ≡ Some x.0) × (words ≡ x.1)
-unfolding name_at
-name_is word_of names place word words x e =
-    let a = bind_ok (need (BadLine place) (name_of word_of names word)) (λ name. done (name, words)) x e in
-    let is = ok_is (a.0, words) x a.2 in
-    (need_ok (BadLine place) (name_of word_of names word) a.0 a.1 ∙ ap (λ y. Some y.0) is, ap (λ y. y.1) is)
-
-no_name : {N : Type 0} (word_of : N → List ℕ) (names : List N) (place : ℕ) (x : N × List (List ℕ)) → name_at word_of names place [] ≡ Ok x → ⊥
-unfolding name_at
-no_name word_of names place x e = absurd cc
 
 some_is : {N : Type 0} (x y : N) → Some x ≡ Some y → x ≡ y
 some_is x y e = cc

@@ -1,9 +1,9 @@
 -- The first line and the line of a desk as texts, both ways, and of which fault another line is refused.
-use Rattle.std.proofs.Common.{◌≡◌, ℕ, ◌+◌, ◌≤◌, Bool, true, false, not, eqb, ltb, ◌||◌, ◌&&◌, List, [], ◌∷◌, ◌++◌, length, drop, Result, Ok, Err, refl, sym, ap, subst, ◌∙◌, arith, inl, inr}
+use Rattle.std.proofs.Common.{◌≡◌, ℕ, ◌+◌, true, false, not, eqb, ◌&&◌, List, [], ◌∷◌, ◌++◌, length, drop, Result, Ok, Err, refl, sym, ap, subst, ◌∙◌, arith, inl, inr}
 use Rattle.std.specs.Prelude.{codes, nat_eq, nat_le}
 use Rattle.std.specs.List.{list_any, starts_with}
 use Rattle.std.specs.Str.{bytes_eq, is_utf8, IsUtf8}
-use Rattle.std.proofs.lemmas.Bool.{cases_Bool, cond-true, cond-false, and_from, and_parts, ne_eqb, not-true, not-false, not_from_false, or_from, ltb-false}
+use Rattle.std.proofs.lemmas.Bool.{cases_Bool, cond-true, cond-false, and_from, and_parts, ne_eqb, not-true, not-false, or_parts}
 use Rattle.std.proofs.lemmas.Bool.Decides.{Decides-eqb}
 use Rattle.std.proofs.lemmas.Str.{IsUtf8-nil, IsUtf8-from_is_utf8, is_utf8-from_IsUtf8}
 use Rattle.std.proofs.lemmas.Slice.Eq.{starts_is}
@@ -12,6 +12,7 @@ use Rattle.ror_text.specs.Lines.{is_control, has_control}
 use Rattle.ror_text.specs.Reading.{◌>>=◌, refuse, need}
 use Rattle.ror_text.specs.SpacedLines.{is_word, are_words}
 use Rattle.ror_text.proofs.CursorLemmas.{Spans, line_spans}
+use Rattle.ror_text.proofs.IdLemmas.{visible_is_word}
 use Rattle.ror_text.proofs.ReadingLemmas.{bind_ok, bind_err, refuse_ok, refuse_err, need_err}
 use Rattle.ror_session.specs.declared.limits.TheConstants.{MOST_DESK_NAME_BYTES}
 use Rattle.ror_proof.specs.declared.read.ProofFault.{ProofFault}
@@ -75,17 +76,6 @@ unfolding header_text
 header_is_utf8 = line_text_is_utf8 (codes "ror-discriminate" ∷ codes "1" ∷ []) (ascii_is_utf8 (codes "ror-discriminate") refl, (ascii_is_utf8 (codes "1") refl, tt))
 
 -- ---- names
-
-or_parts : (x y : Bool) → (x || y) ≡ false → (x ≡ false) × (y ≡ false)
-or_parts true y h = absurd cc
-or_parts false y h = (refl, h)
-
-visible_is_word : (word : List ℕ) → list_any is_control word ≡ false → is_word word ≡ true
-visible_is_word [] h = refl
-visible_is_word (b ∷ bs) h =
-    let both = or_parts (is_control b) (list_any is_control bs) h in
-    let large : 0x21 ≤ b = ltb-false _ _ (or_parts (ltb b 0x21) (eqb b 0x7F) both.0).0 in
-    and_from _ _ (not_from_false _ (or_from _ _ (ne_eqb b 32 (λ (e : b ≡ 32). omega arith)) (ne_eqb b 10 (λ (e : b ≡ 10). omega arith)))) (visible_is_word bs both.1)
 
 name_is_word : (name : List ℕ) → is_desk_name name ≡ true → is_word name ≡ true
 name_is_word name is =

@@ -5,6 +5,7 @@ use Rattle.std.proofs.lemmas.Bool.{cases_lt}
 use Rattle.ror_integers.specs.Vectors.{entry, dot, dots, total, column, scaled_row, weighted, NoneNegative}
 use Rattle.ror_integers.proofs.Ring.{sums, product-zero}
 use Rattle.ror_integers.proofs.Solver.{ring3, ◌⊗◌}
+use Rattle.ror_integers.proofs.Motzkin.{NoneNegative-dots}
 use Rattle.ror_integers.proofs.Order.{mul_le, cancel_le}
 use Rattle.ror_integers.proofs.Dots.{dot-append, dot-scaled_row_left}
 use Rattle.ror_integers.proofs.Rows.{dot-weighted, dots-append, entry-weighted, entry-scaled_row, entry_past, length-dots, dot-column_past}
@@ -17,10 +18,6 @@ use Rattle.ror_discriminate.proofs.Leasts.{weighed_at_least}
 pub NoneNegative-tops : (tops : List ℤ) → AllByRecursion (λ top. pos 1 ≤ℤ top) tops → NoneNegative tops
 NoneNegative-tops [] all = tt
 NoneNegative-tops (top ∷ tops) all = let l = all.0 in (omega (arith, sums), NoneNegative-tops tops all.1)
-
-NoneNegative-dots : (rows : List (List ℤ)) (x : List ℤ) → AllByRecursion (λ row. pos 0 ≤ℤ dot row x) rows → NoneNegative (dots rows x)
-NoneNegative-dots [] x all = tt
-NoneNegative-dots (row ∷ rows) x all = (all.0, NoneNegative-dots rows x all.1)
 
 -- the weighed rows of a solution come to its least value at least, times the sum of the strict multipliers
 rows_at_least : (s : LinearSystem) (weak strict v : List ℤ) → length weak ≡ length s.weak → length strict ≡ length s.strict → NoneNegative (weak ++ strict) → entry strict 0 ≡ pos 0 → Solves s v

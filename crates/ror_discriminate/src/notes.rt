@@ -2,9 +2,7 @@
 
 ghost use Rattle.std.specs.Prelude.{IfErr};
 ghost use Rattle.ror_text.specs.Reading.{Gives};
-ghost use Rattle.ror_proof.specs.Reading as certificates;
 ghost use Rattle.ror_proof.specs.Reading.{proof_fault, IsProofFaultWithin};
-ghost use Rattle.ror_proof.specs.Words as spec;
 ghost use Rattle.ror_discriminate.specs.Reading as reading;
 ghost use Rattle.ror_discriminate.specs.Reading.{noted_at};
 
@@ -14,7 +12,7 @@ use crate::words::path_at;
 use ror_pivot::{ClimbNote, ClimbPlace, Place, WideNote};
 use ror_proof::ProofFault;
 use ror_proof::names::{PLACE_NAMES, PlaceName};
-use ror_proof::words::{name_at, small_number_at};
+use ror_proof::words::{entry_at, name_at, small_number_at};
 use ror_text::Items;
 use ror_text::spaced::Words;
 use std::alloc::Global;
@@ -94,24 +92,24 @@ fn numbered_at<'a>(
 {
     match name {
         PlaceName::Start => {
-            let (row, column, words) = two_at(place, words)?;
-            Ok((Place::Start(row, column), words))
+            let (row, column, words) = entry_at(place, words)?;
+            Ok((Place::Start(row as usize, column as usize), words))
         }
         PlaceName::Step => {
-            let (row, column, words) = two_at(place, words)?;
-            Ok((Place::Step(row, column), words))
+            let (row, column, words) = entry_at(place, words)?;
+            Ok((Place::Step(row as usize, column as usize), words))
         }
         PlaceName::Denominator => {
-            let (row, words) = one_at(place, words)?;
-            Ok((Place::Denominator(row), words))
+            let (row, words) = small_number_at(place, words)?;
+            Ok((Place::Denominator(row as usize), words))
         }
         PlaceName::RowSum => {
-            let (row, words) = one_at(place, words)?;
-            Ok((Place::RowSum(row), words))
+            let (row, words) = small_number_at(place, words)?;
+            Ok((Place::RowSum(row as usize), words))
         }
         PlaceName::ColumnSum => {
-            let (column, words) = one_at(place, words)?;
-            Ok((Place::ColumnSum(column), words))
+            let (column, words) = small_number_at(place, words)?;
+            Ok((Place::ColumnSum(column as usize), words))
         }
     }
 }
@@ -139,51 +137,29 @@ fn climbed_at<'a>(
 {
     match name {
         ClimbName::Start => {
-            let (row, column, words) = two_at(place, words)?;
-            Ok((ClimbPlace::Start(row, column), words))
+            let (row, column, words) = entry_at(place, words)?;
+            Ok((ClimbPlace::Start(row as usize, column as usize), words))
         }
         ClimbName::Step => {
-            let (row, column, words) = two_at(place, words)?;
-            Ok((ClimbPlace::Step(row, column), words))
+            let (row, column, words) = entry_at(place, words)?;
+            Ok((ClimbPlace::Step(row as usize, column as usize), words))
         }
         ClimbName::Denominator => {
-            let (row, words) = one_at(place, words)?;
-            Ok((ClimbPlace::Denominator(row), words))
+            let (row, words) = small_number_at(place, words)?;
+            Ok((ClimbPlace::Denominator(row as usize), words))
         }
         ClimbName::RowSum => {
-            let (row, words) = one_at(place, words)?;
-            Ok((ClimbPlace::RowSum(row), words))
+            let (row, words) = small_number_at(place, words)?;
+            Ok((ClimbPlace::RowSum(row as usize), words))
         }
         ClimbName::Total => Ok((ClimbPlace::Total, words)),
         ClimbName::Scale => {
-            let (column, words) = one_at(place, words)?;
-            Ok((ClimbPlace::Scale(column), words))
+            let (column, words) = small_number_at(place, words)?;
+            Ok((ClimbPlace::Scale(column as usize), words))
         }
         ClimbName::ColumnSum => {
-            let (column, words) = one_at(place, words)?;
-            Ok((ClimbPlace::ColumnSum(column), words))
+            let (column, words) = small_number_at(place, words)?;
+            Ok((ClimbPlace::ColumnSum(column as usize), words))
         }
     }
-}
-
-/// The row and the column that come first.
-#[tactic(auto, unfolding(ror_proof::specs::Reading::entry_at))]
-fn two_at<'a>(place: usize, words: Words<'a>) -> Result<(usize, usize, Words<'a>), ProofFault>
-    ensures exact { Gives (λ x. ((x.0, x.1), x.2)) proof_fault result
-        (certificates.entry_at place words.entry) }
-    ensures placed { IfErr result (IsProofFaultWithin place) }
-{
-    let (row, words) = one_at(place, words)?;
-    let (column, words) = one_at(place, words)?;
-    Ok((row, column, words))
-}
-
-/// The row or the column that comes first.
-fn one_at<'a>(place: usize, words: Words<'a>) -> Result<(usize, Words<'a>), ProofFault>
-    ensures exact { Gives (λ x. (x.0, x.1)) proof_fault result
-        (spec.small_number_at place words.entry) }
-    ensures placed { IfErr result (IsProofFaultWithin place) }
-{
-    let (number, words) = small_number_at(place, words)?;
-    Ok((number as usize, words))
 }
