@@ -1,11 +1,7 @@
-//! Tests of the crates of numbers and systems, by their public calls: ror_word, ror_fraction, ror_chain, ror_statement,
-//! ror_system, ror_pivot and ror_warm.
+//! Tests of the crates of numbers and systems, by calls that no command makes or of which none shows what comes of them:
+//! ror_word, ror_fraction, ror_statement, ror_system, ror_pivot and ror_warm.
 #![tactic(auto)]
 
-#[cfg(test)]
-mod chain;
-#[cfg(test)]
-mod climb;
 #[cfg(test)]
 mod fraction;
 #[cfg(test)]
@@ -16,8 +12,6 @@ mod numbers;
 mod pivot;
 #[cfg(test)]
 mod statement;
-#[cfg(test)]
-mod system;
 #[cfg(test)]
 mod warm;
 #[cfg(test)]

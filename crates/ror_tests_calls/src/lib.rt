@@ -1,0 +1,24 @@
+//! Tests of public calls that no command of the programs makes, and of two at a width that none takes. What the commands reach
+//! is shown by the cases, which go through the built programs.
+#![tactic(auto)]
+
+#[cfg(test)]
+mod check;
+#[cfg(test)]
+mod decide;
+#[cfg(test)]
+mod group;
+#[cfg(test)]
+mod lawful;
+#[cfg(test)]
+mod made;
+#[cfg(test)]
+mod optimal;
+#[cfg(test)]
+mod print;
+#[cfg(test)]
+mod reason;
+#[cfg(test)]
+mod repair;
+#[cfg(test)]
+mod span;

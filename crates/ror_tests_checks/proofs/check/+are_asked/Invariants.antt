@@ -1,5 +1,0 @@
-use Rattle.std.proofs.Common.{length}
-use Rattle.ror_tests_checks.proofs.check.+are_asked.Given as goal
-
-abbrev pub decreases-are_asked : goal.decreases-are_asked
-decreases-are_asked l = length l.answers.now
