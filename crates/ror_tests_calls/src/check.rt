@@ -83,6 +83,8 @@ fn statements_are_met_by_what_they_say(rt: HostRuntime) -> Result<(), Fail> {
     let function = ValueFunction::new(rt.alloc(), &table, &[0, 1 << 126, 0, 0])?;
     let stronger = [Statement::Stronger(AB, BA, Scope::Whole)];
     assert!(rt; is_met(&table, &function, &stronger));
-    assert!(rt; !is_met(&table, &function, &[Statement::AtLeast(2, 0)]));
+    let at_least = [Statement::AtLeast(2, 0)];
+    assert!(rt; are_valid(&table, &at_least));
+    assert!(rt; !is_met(&table, &function, &at_least));
     Ok(())
 }
