@@ -1,8 +1,8 @@
 -- The line that names a pair and the line of a group's words, both ways, and how they begin.
-use Rattle.std.proofs.Common.{◌≡◌, ℕ, ◌<◌, ◌+◌, true, false, eqb, List, [], ◌∷◌, ◌++◌, length, drop, Some, Ok, refl, ap, subst, ◌∙◌, arith, inl, inr}
+use Rattle.std.proofs.Common.{◌≡◌, ℕ, ◌<◌, ◌+◌, true, false, eqb, List, [], ◌∷◌, ◌++◌, length, drop, Some, Ok, refl, ap, subst, ◌∙◌, inl, inr}
 use Rattle.std.specs.Prelude.{codes}
 use Rattle.std.specs.List.{flat_map}
-use Rattle.std.proofs.lemmas.Bool.{cases_Bool, and_from, ne_eqb, eqb-true}
+use Rattle.std.proofs.lemmas.Bool.{cases_Bool, and_from, eqb-true}
 use Rattle.ror_text.specs.Cursor.{Cursor, line_words}
 use Rattle.ror_text.specs.Reading.{◌>>=◌}
 use Rattle.ror_text.specs.SpacedLines.{is_word, are_words, line_text}
@@ -17,7 +17,7 @@ use Rattle.ror_proof.specs.Text.{answer_text}
 use Rattle.ror_proof.specs.Reading.{begins_part}
 use Rattle.ror_proof.specs.Words.{after_word, name_at, no_more}
 use Rattle.ror_proof.proofs.WordLemmas.{after_word_again, after_word_sound, no_more_sound, name_again, name_sound, done, ok_is}
-use Rattle.ror_report.proofs.LineForms.{line_reads_back, line_is_read}
+use Rattle.ror_report.proofs.LineForms.{line_reads_back, line_is_read, some_bytes}
 use Rattle.ror_group.specs.declared.entry.Entry.{Entry}
 use Rattle.ror_group.specs.declared.quartet.Quartet.{Quartet}
 use Rattle.ror_group.specs.declared.quartet.Word4.{Word4}
@@ -164,9 +164,6 @@ entry_begins t x =
 group_begins : (q : Quartet) → (more : List ℕ) × (group_text q ≡ codes "group " ++ more)
 unfolding line_text
 group_begins q = (drop 6 (group_text q), refl)
-
-some_bytes : (byte : ℕ) (bytes : List ℕ) → eqb (length (byte ∷ bytes)) 0 ≡ false
-some_bytes byte bytes = ne_eqb (length (byte ∷ bytes)) 0 (λ (e : length (byte ∷ bytes) ≡ 0). omega arith)
 
 ends_at_begun : (more : List ℕ) → ends_answers (codes "group " ++ more) ≡ true
 ends_at_begun more = rw (some_bytes 103 (codes "roup " ++ more)) refl

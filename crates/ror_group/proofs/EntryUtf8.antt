@@ -1,24 +1,20 @@
 -- The text of an entry is UTF-8.
-use Rattle.std.proofs.Common.{ℕ, ◌<◌, List, [], ◌∷◌, ◌++◌, length, refl}
+use Rattle.std.proofs.Common.{ℕ, ◌<◌, [], ◌∷◌, ◌++◌, length, refl}
 use Rattle.std.specs.Prelude.{codes}
-use Rattle.std.specs.List.{AllByRecursion, flat_map}
+use Rattle.std.specs.List.{flat_map}
 use Rattle.std.specs.Str.{IsUtf8}
-use Rattle.std.proofs.lemmas.Str.{IsUtf8-append, IsUtf8-nil}
+use Rattle.std.proofs.lemmas.Str.{IsUtf8-append}
 use Rattle.ror_text.proofs.IdLemmas.{IsId-form}
 use Rattle.ror_table.specs.Table.{DecisionTable, IsTable, id_of}
 use Rattle.ror_table.proofs.NameLemmas.{id_of_is_id}
-use Rattle.ror_proof.specs.declared.answer.Answer.{Answer}
-use Rattle.ror_proof.specs.Text.{answer_text, IsPrintable}
-use Rattle.ror_proof.proofs.Utf8Lemmas.{ascii_is_utf8, line_text_is_utf8, answer_text_is_utf8}
+use Rattle.ror_proof.specs.Text.{answer_text}
+use Rattle.ror_proof.proofs.Utf8Lemmas.{ascii_is_utf8, line_text_is_utf8}
+use Rattle.ror_report.proofs.Utf8Lemmas.{answers_are_utf8}
 use Rattle.ror_group.specs.declared.entry.Entry.{Entry}
 use Rattle.ror_group.specs.declared.quartet.Quartet.{Quartet}
 use Rattle.ror_group.specs.declared.quartet.Word4.{Word4}
 use Rattle.ror_group.specs.declared.quartet.Word4.TheVariants as words
 use Rattle.ror_group.specs.Text.{group_word, pair_text, group_text, entry_text, IsPrintableEntry}
-
-answers_are_utf8 : (t : DecisionTable) (xs : List Answer) → IsTable t → AllByRecursion (IsPrintable t) xs → IsUtf8 (flat_map (answer_text t) xs)
-answers_are_utf8 t [] table printable = IsUtf8-nil
-answers_are_utf8 t (x ∷ xs) table printable = IsUtf8-append (answer_text t x) (flat_map (answer_text t) xs) (answer_text_is_utf8 t x table printable.0) (answers_are_utf8 t xs table printable.1)
 
 word_is_utf8 : (word : Word4) → IsUtf8 (group_word word)
 word_is_utf8 words.Yes = ascii_is_utf8 (group_word words.Yes) refl

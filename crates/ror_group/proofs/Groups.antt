@@ -1,7 +1,7 @@
 -- The words that are combined from true answers are the group's.
-use Rattle.std.proofs.Common.{◌≡◌, ℕ, Bool, true, false, ◌||◌, List, [], ◌∷◌, refl, sym, subst, inl, inr}
+use Rattle.std.proofs.Common.{◌≡◌, ℕ, Bool, true, false, List, [], ◌∷◌, refl, sym, subst, inl, inr}
 use Rattle.std.specs.List.{AllByRecursion}
-use Rattle.std.proofs.lemmas.Bool.{cases_Bool, cond-true, cond-false}
+use Rattle.std.proofs.lemmas.Bool.{cases_Bool, cond-true, cond-false, or_parts}
 use Rattle.ror_statement.specs.declared.statement.Statement.{Statement}
 use Rattle.ror_statement.specs.declared.question.Question.{Question}
 use Rattle.ror_statement.specs.declared.question.Question.TheVariants.{Necessary, Possible}
@@ -65,10 +65,6 @@ possible_along t a b (list ∷ lists) (x ∷ []) h = absurd h.1
 possible_along t a b (list ∷ lists) (x ∷ y ∷ xs) h = (h.1.0, possible_along t a b lists xs h.1.1)
 
 -- ---- contradictions
-
-or_parts : (x y : Bool) → (x || y) ≡ false → (x ≡ false) × (y ≡ false)
-or_parts true y h = absurd cc
-or_parts false y h = (refl, h)
 
 contradicts : (t : DecisionTable) (list : List Statement) (q : Question) (v : Verdict) → says words.Contradiction v ≡ true → IsWideOrTrue t list q v → IsContradictory t list
 contradicts t list q (verdicts.Yes proof) h true_verdict = absurd cc

@@ -1,9 +1,9 @@
 -- Heads as texts, both ways, and the lines of desks read one after the other.
-use Rattle.std.proofs.Common.{◌≡◌, ℕ, zero, inl, inr, suc, ◌+◌, ◌<◌, ◌≤◌, ◌^◌, Bool, true, false, not, eqb, ltb, ◌||◌, ◌&&◌, List, [], ◌∷◌, ◌++◌, length, drop, get_or, Result, Ok, Err, refl, sym, ap, subst, ◌∙◌, append_assoc, arith, length-append, drop-cons}
+use Rattle.std.proofs.Common.{◌≡◌, ℕ, zero, inl, inr, suc, ◌+◌, ◌<◌, ◌≤◌, ◌^◌, true, false, not, eqb, ◌&&◌, List, [], ◌∷◌, ◌++◌, length, drop, get_or, Result, Ok, Err, refl, sym, ap, subst, ◌∙◌, append_assoc, arith, length-append, drop-cons}
 use Rattle.std.specs.Prelude.{codes, nat_eq, nat_le, IfSome}
 use Rattle.std.specs.List.{flat_map, list_any, starts_with, AllByRecursion}
 use Rattle.std.specs.Str.{IsUtf8, bytes_eq, is_utf8}
-use Rattle.std.proofs.lemmas.Bool.{and_from, and_parts, ne_eqb, eqb-true, not-true, not-false, not_from_false, or_from, ltb-false, cases_Bool, cond-true, cond-false}
+use Rattle.std.proofs.lemmas.Bool.{and_from, and_parts, ne_eqb, eqb-true, not-true, not-false, or_parts, cases_Bool, cond-true, cond-false}
 use Rattle.std.proofs.lemmas.Bool.Decides.{Decides-eqb}
 use Rattle.std.proofs.lemmas.List.{drop_all}
 use Rattle.std.proofs.lemmas.Str.{IsUtf8-nil, is_utf8-from_IsUtf8}
@@ -13,6 +13,7 @@ use Rattle.ror_text.specs.Lines.{is_control, has_control}
 use Rattle.ror_text.specs.Reading.{◌>>=◌, refuse}
 use Rattle.ror_text.specs.SpacedLines.{is_word, are_words}
 use Rattle.ror_text.proofs.CursorLemmas.{Spans, spans_then, line_again, line_spans}
+use Rattle.ror_text.proofs.IdLemmas.{visible_is_word}
 use Rattle.ror_text.proofs.ListLemmas.{bytes_same}
 use Rattle.ror_text.proofs.ReadingLemmas.{bind_ok, refuse_ok, gives_exit}
 use Rattle.ror_session.specs.declared.limits.TheConstants.{MOST_DESK_NAME_BYTES}
@@ -54,17 +55,6 @@ unfolding desks_at
 desks_end names i c whole past so_far = sym so_far ∙ ap (λ (ns : List (List ℕ)). desks_at ns c) (drop_all i names past)
 
 -- ---- names
-
-or_parts : (x y : Bool) → (x || y) ≡ false → (x ≡ false) × (y ≡ false)
-or_parts true y h = absurd cc
-or_parts false y h = (refl, h)
-
-visible_is_word : (word : List ℕ) → list_any is_control word ≡ false → is_word word ≡ true
-visible_is_word [] h = refl
-visible_is_word (b ∷ bs) h =
-    let both = or_parts (is_control b) (list_any is_control bs) h in
-    let large : 0x21 ≤ b = ltb-false _ _ (or_parts (ltb b 0x21) (eqb b 0x7F) both.0).0 in
-    and_from _ _ (not_from_false _ (or_from _ _ (ne_eqb b 32 (λ (e : b ≡ 32). omega arith)) (ne_eqb b 10 (λ (e : b ≡ 10). omega arith)))) (visible_is_word bs both.1)
 
 name_is_word : (name : List ℕ) → is_desk_name name ≡ true → is_word name ≡ true
 name_is_word name is =

@@ -1,6 +1,6 @@
 -- Which words are wide, by the answers that they go by.
-use Rattle.std.proofs.Common.{if◌then◌else◌, inl, inr, ◌≡◌, ◌≢◌, Bool, true, false, ◌||◌, List, [], ◌∷◌, refl, sym, subst, ◌∙◌}
-use Rattle.std.proofs.lemmas.Bool.{cases_Bool, cond-true, cond-false}
+use Rattle.std.proofs.Common.{if◌then◌else◌, inl, inr, ◌≡◌, ◌≢◌, Bool, true, false, List, [], ◌∷◌, refl, sym, subst, ◌∙◌}
+use Rattle.std.proofs.lemmas.Bool.{cases_Bool, cond-true, cond-false, or_parts}
 use Rattle.ror_proof.specs.declared.answer.Answer.{Answer}
 use Rattle.ror_group.specs.declared.quartet.Word4.{Word4}
 use Rattle.ror_group.specs.declared.quartet.Word4.TheVariants as words
@@ -58,10 +58,6 @@ words_are_wide xs = elim (cases_Bool (one_says words.Contradiction xs)) [
     possible_for_some = by_answers xs (on_possible xs) (for_some (on_possible xs)) is (some_wide (on_possible xs));
   })
 ]
-
-or_parts : (x y : Bool) → (x || y) ≡ false → (x ≡ false) × (y ≡ false)
-or_parts true y h = absurd cc
-or_parts false y h = (refl, h)
 
 none_of_these : (first : Bool) (xs : List Answer) → one_says words.Wide xs ≡ false → one_says words.Wide (every_second first xs) ≡ false
 none_of_these true [] none = refl

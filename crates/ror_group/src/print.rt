@@ -1,16 +1,15 @@
 //! The printer of an entry's text.
 
 ghost use Rattle.std.specs.Prelude.{◌≡◌, ◌<◌, ◌++◌, length, IfOk, OnOk};
-ghost use Rattle.std.specs.List.{flat_map, AllByRecursion};
+ghost use Rattle.std.specs.List.{AllByRecursion};
 ghost use Rattle.ror_table.specs.Table.{id_of};
-ghost use Rattle.ror_proof.specs.Text.{answer_text};
 ghost use Rattle.ror_report.specs.Printing.{HasValidQuestion, HasNarrowVerdict};
 ghost use Rattle.ror_group.specs.Text.{entry_text, group_text, pair_text};
 
 use crate::entry::Entry;
 use crate::quartet::Quartet;
 use ror_proof::names::Name;
-use ror_proof::{Answer, write_answer};
+use ror_report::write_answers;
 use ror_table::Table;
 use std::alloc::{AllocError, Global};
 
@@ -72,17 +71,5 @@ fn write_quartet(text: &mut Vec<u8>, quartet: &Quartet) -> Result<(), AllocError
     text.push(b' ')?;
     text.extend_from_slice(quartet.possible_for_some.word())?;
     text.push(b'\n')?;
-    Ok(())
-}
-
-fn write_answers(text: &mut Vec<u8>, table: &Table, answers: &[Answer]) -> Result<(), AllocError>
-    requires valid { AllByRecursion (HasValidQuestion table.now) answers.now }
-    requires narrow { AllByRecursion HasNarrowVerdict answers.now }
-    ensures { OnOk result (text.new.items
-        ≡ text.old.items ++ flat_map (answer_text table.now) answers.now) }
-{
-    'answers: for answer in answers {
-        write_answer(text, table, answer)?;
-    }
     Ok(())
 }

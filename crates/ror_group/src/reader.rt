@@ -10,7 +10,7 @@ ghost use Rattle.ror_group.specs.Known.{IsKnownIn};
 
 use crate::entry::Entry;
 use crate::read::{ends_answers, pair_line, quartet_line};
-use ror_proof::{Answer, BaseLine, Certificate, Proof, ProofFault, Verdict, read_answer_after};
+use ror_proof::{Answer, BaseLine, Proof, ProofFault, Verdict, read_answer_after};
 use ror_table::Table;
 use ror_text::Items;
 use std::alloc::{AllocError, Global};
@@ -196,25 +196,13 @@ fn without_parts(alloc: Global, answer: &Answer) -> Result<Option<Answer>, Alloc
         Verdict::Wide { .. } => return Ok(None),
     };
     let verdict = Verdict::Yes(Proof {
-        base: copied(alloc, base)?,
+        base: base.copied(alloc)?,
         parts: Items::from(Vec::new(alloc)),
     });
     Ok(Some(Answer {
         question: answer.question,
         verdict,
     }))
-}
-
-/// The same certificate again.
-fn copied(alloc: Global, certificate: &Certificate) -> Result<Certificate, AllocError>
-    ensures { IfOk result (λ copy. copy ≡ certificate.now) }
-{
-    match certificate {
-        Certificate::Solution(solution) => Ok(Certificate::Solution(solution.copied(alloc)?)),
-        Certificate::Multipliers(multipliers) => {
-            Ok(Certificate::Multipliers(multipliers.copied(alloc)?))
-        }
-    }
 }
 
 /// Reads the entry whose text begins at a place, and says where it ends: after the line of its words, whatever follows.
