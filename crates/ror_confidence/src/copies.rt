@@ -1,101 +1,42 @@
-//! Answers again.
+//! Copies of answers at levels and of borders.
 
-ghost use Rattle.std.specs.Prelude.{◌≡◌, ◌++◌, take, IfOk};
+ghost use Rattle.std.specs.Prelude.{◌≡◌, IfOk};
 
 use crate::border::Border;
 use crate::span::LevelAnswer;
-use ror_proof::{Answer, Certificate, Part, Proof, Verdict, WideText};
-use ror_text::Items;
+use ror_proof::Answer;
 use std::alloc::{AllocError, Global};
 
-/// The same answer at its level.
-pub(crate) fn copied_level_answer(alloc: Global, x: &LevelAnswer) -> Result<LevelAnswer, AllocError>
-    ensures { IfOk result (λ copy. copy ≡ x.now) }
-{
-    Ok(LevelAnswer {
-        level: x.level,
-        answer: copied_answer(alloc, &x.answer)?,
-    })
+impl LevelAnswer {
+    /// The same answer at its level.
+    pub(crate) fn copied(&self, alloc: Global) -> Result<LevelAnswer, AllocError>
+        ensures { IfOk result (λ copy. copy ≡ self.now) }
+    {
+        Ok(LevelAnswer {
+            level: self.level,
+            answer: self.answer.copied(alloc)?,
+        })
+    }
 }
 
-/// The same border.
-pub(crate) fn copied_border(alloc: Global, border: &Border) -> Result<Border, AllocError>
-    ensures { IfOk result (λ copy. copy ≡ border.now) }
-{
-    Ok(Border {
-        level: border.level,
-        below: copied_if_some(alloc, &border.below)?,
-        from: copied_if_some(alloc, &border.from)?,
-    })
+impl Border {
+    /// The same border.
+    pub(crate) fn copied(&self, alloc: Global) -> Result<Border, AllocError>
+        ensures { IfOk result (λ copy. copy ≡ self.now) }
+    {
+        Ok(Border {
+            level: self.level,
+            below: copied_if_some(alloc, &self.below)?,
+            from: copied_if_some(alloc, &self.from)?,
+        })
+    }
 }
 
 fn copied_if_some(alloc: Global, x: &Option<Answer>) -> Result<Option<Answer>, AllocError>
     ensures { IfOk result (λ copy. copy ≡ x.now) }
 {
     match x {
-        Some(answer) => Ok(Some(copied_answer(alloc, answer)?)),
+        Some(answer) => Ok(Some(answer.copied(alloc)?)),
         None => Ok(None),
     }
-}
-
-fn copied_answer(alloc: Global, x: &Answer) -> Result<Answer, AllocError>
-    ensures { IfOk result (λ copy. copy ≡ x.now) }
-{
-    let verdict = match &x.verdict {
-        Verdict::Yes(proof) => Verdict::Yes(copied_proof(alloc, proof)?),
-        Verdict::No(proof) => Verdict::No(copied_proof(alloc, proof)?),
-        Verdict::Contradiction(proof) => Verdict::Contradiction(copied_proof(alloc, proof)?),
-        Verdict::Wide { system, note } => Verdict::Wide {
-            system: *system,
-            note: copied_note(alloc, note)?,
-        },
-    };
-    Ok(Answer {
-        question: x.question,
-        verdict,
-    })
-}
-
-fn copied_proof(alloc: Global, proof: &Proof) -> Result<Proof, AllocError>
-    ensures { IfOk result (λ copy. copy ≡ proof.now) }
-{
-    let base = copied(alloc, &proof.base)?;
-    let parts = copied_parts(alloc, proof.parts.as_slice())?;
-    Ok(Proof {
-        base,
-        parts: Items::from(parts),
-    })
-}
-
-fn copied_parts(alloc: Global, parts: &[Part]) -> Result<Vec<Part>, AllocError>
-    ensures { IfOk result (λ copies. copies.items ≡ parts.now) }
-{
-    let mut copies = Vec::new(alloc);
-    'parts: for part in parts {
-        copies.push(Part {
-            at: part.at,
-            body: copied(alloc, &part.body)?,
-        })?;
-    }
-    Ok(copies)
-}
-
-fn copied(alloc: Global, certificate: &Certificate) -> Result<Certificate, AllocError>
-    ensures { IfOk result (λ copy. copy ≡ certificate.now) }
-{
-    match certificate {
-        Certificate::Solution(solution) => Ok(Certificate::Solution(solution.copied(alloc)?)),
-        Certificate::Multipliers(multipliers) => {
-            Ok(Certificate::Multipliers(multipliers.copied(alloc)?))
-        }
-    }
-}
-
-fn copied_note(alloc: Global, note: &WideText) -> Result<WideText, AllocError>
-    ensures { IfOk result (λ copy. copy ≡ note.now) }
-{
-    Ok(WideText {
-        path: Items::from(Vec::from_slice(alloc, note.path.as_slice())?),
-        place: note.place,
-    })
 }

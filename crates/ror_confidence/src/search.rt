@@ -11,7 +11,6 @@ ghost use Rattle.ror_confidence.specs.Finding.{HasNoWideQuestions, IsDueSpanFaul
 ghost use Rattle.ror_confidence.specs.Searching.{IsBase, IsOpenBase, IsSearchOf, answers_at, answers_of};
 
 use crate::border::{Border, find_border};
-use crate::copies::{copied_border, copied_level_answer};
 use crate::decider::Decider;
 use crate::fault::SpanFault;
 use crate::levels::{Levels, level_lists};
@@ -184,8 +183,8 @@ fn copied_base(alloc: Global, base: &Base) -> Result<Border, SpanFault>
     ensures open { IfErr result (IsOpenBase base.now) }
 {
     match base {
-        Base::Found(border) => Ok(copied_border(alloc, border)?),
-        Base::Open(x) => Err(SpanFault::Wide(copied_level_answer(alloc, x)?)),
+        Base::Found(border) => Ok(border.copied(alloc)?),
+        Base::Open(x) => Err(SpanFault::Wide(x.copied(alloc)?)),
     }
 }
 

@@ -23,7 +23,6 @@
 //! stated as 3 besides, each answer is Contradiction, and has the reduct of 2 and 3.
 
 mod check;
-mod copies;
 mod fault;
 pub mod laws;
 mod part;

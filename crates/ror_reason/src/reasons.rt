@@ -12,7 +12,6 @@ ghost use Rattle.ror_reason.specs.Reducts.{Concludes};
 ghost use Rattle.ror_reason.specs.Reasons.{IsReason, IsReasonOf, IsReasonWithin};
 ghost use Rattle.ror_reason.specs.SearchSteps.{decided_by};
 
-use crate::copies::copied_answer;
 use crate::part::rests_on_part;
 use crate::reducts::Reason;
 use crate::search::found;
@@ -91,7 +90,7 @@ pub fn reduct_of(
         };
         found(alloc, engine, &sought)
     } else {
-        let copy = copied_answer(alloc, answer)?;
+        let copy = answer.copied(alloc)?;
         Ok(decided(copy, conclusion))
     }
 }

@@ -5,7 +5,6 @@ ghost use Rattle.std.specs.List.{list_any};
 ghost use Rattle.ror_check.specs.Proof.{is_wide};
 ghost use Rattle.ror_reason.specs.SearchSteps.{IsSought, IsPart, AreOthers, AreOthersBefore, IsFound};
 
-use crate::copies::copied_answer;
 use crate::part::{concludes, numbers_of};
 use crate::reducts::{Reason, Reduct};
 use crate::sought::{Part, Sought, Without, decide_part, try_without};
@@ -68,7 +67,7 @@ fn whole(alloc: Global, sought: &Sought) -> Result<Part, AllocError>
     ensures { IfOk result (IsPart sought.now) }
 {
     let numbers = numbers_of(alloc, sought.list)?;
-    let answer = copied_answer(alloc, sought.answer)?;
+    let answer = sought.answer.copied(alloc)?;
     Ok(Part { numbers, answer })
 }
 
