@@ -11,6 +11,8 @@ use Rattle.ror_value.specs.Meaning.{Answers, IsConsistent, IsContradictory}
 use Rattle.ror_confidence.specs.declared.fault.LevelsFault.{LevelsFault}
 use Rattle.ror_confidence.specs.declared.fault.SpanCheckFault.{SpanCheckFault}
 use Rattle.ror_confidence.specs.declared.levels.Levels.{Levels}
+use Rattle.ror_confidence.specs.declared.levels.TheConstants.{MOST_LEVELS}
+use Rattle.ror_confidence.specs.declared.read.TheConstants.{MOST_LEVELS_BYTES}
 use Rattle.ror_confidence.specs.declared.span.Span.{Span}
 use Rattle.ror_confidence.specs.Levels.{level_lists}
 use Rattle.ror_confidence.specs.Spans.{HoldsAllOf, AreLevelLists, IsSpan}
@@ -63,3 +65,7 @@ LevelsAreTheGrammar = (standing : List Numbered) (bytes : List ℕ) (levels : Le
 abbrev pub LevelsFaultsAreFirst : Type 0
 LevelsFaultsAreFirst = (standing : List Numbered) (bytes : List ℕ) (fault : LevelsFault)
     → (levels_of standing bytes ≡ Err fault) ↔ IsFirstLevelsFault standing bytes fault
+
+-- what the limits of levels are
+abbrev pub LimitsAre : Type 0
+LimitsAre = (MOST_LEVELS ≡ 9) × (MOST_LEVELS_BYTES ≡ 1048576)

@@ -1,6 +1,6 @@
 //! Each function here states one law, for all tables, statements, levels and spans, and does nothing.
 
-ghost use Rattle.ror_confidence.specs.Laws.{LevelsAreNested, LevelsAreTheGrammar, LevelsFaultsAreFirst, ListsAreNested, OneSpan, ProvedSpanPassesEachTest, ProvedSpansAreTrue};
+ghost use Rattle.ror_confidence.specs.Laws.{LevelsAreNested, LevelsAreTheGrammar, LevelsFaultsAreFirst, LimitsAre, ListsAreNested, OneSpan, ProvedSpanPassesEachTest, ProvedSpansAreTrue};
 
 /// What more statements leave: where they are not contradictory fewer are not; a necessary preference stays, and a possible one
 /// was there before.
@@ -36,4 +36,9 @@ pub fn levels_are_the_grammar()
 /// The fault that is given is the first that the file has, and each first fault is given.
 pub fn the_first_levels_fault_is_given()
     ensures { LevelsFaultsAreFirst }
+{}
+
+/// There are at most 9 levels, and a file of levels has at most 1,048,576 bytes.
+pub fn limits()
+    ensures { LimitsAre }
 {}
