@@ -28,8 +28,8 @@ use Rattle.ror_confidence.specs.declared.span.Span.{Span}
 use Rattle.ror_confidence.specs.Levels.{list_of_level}
 use Rattle.ror_confidence.specs.Spans.{AreLevelLists}
 use Rattle.ror_confidence.specs.Proof.{concludes, conclusion_below, conclusion_from, due_below, due_from, is_in_range, IsProvedDue, IsProvedSpan, IsSpanWithin}
-use Rattle.ror_confidence.specs.Finding.{HasNoWideQuestions, IsConsistentAt, IsWideAtLevel, HasNoWideNote}
-use Rattle.ror_confidence.specs.Searching.{answers_at, answers_of, HasTwoSides, IsBelow, IsBorder, IsFoundAt, IsFrom, IsHigh, IsLow, IsNarrowIfSome, IsSearched, IsWideBorder, IsWideEnd, IsWideFrom}
+use Rattle.ror_confidence.specs.Finding.{HasNoWideQuestions, IsConsistentAt, IsFoundAt, IsWideAtLevel, HasNoWideNote}
+use Rattle.ror_confidence.specs.Searching.{answers_at, answers_of, HasTwoSides, IsBelow, IsBorder, IsFrom, IsHigh, IsLow, IsNarrowIfSome, IsSearched, IsWideBorder, IsWideEnd, IsWideFrom}
 use Rattle.ror_confidence.proofs.Nested.{consistent-fewer}
 
 -- ---- what an answer that is given says
@@ -298,6 +298,10 @@ wide_verdict (verdicts.No proof) is = absurd cc
 wide_verdict (verdicts.Contradiction proof) is = absurd cc
 wide_verdict (verdicts.Wide system note) is = tt
 
+-- the question on both sides of the level is that of the answer
+below_answer : (most : ℕ) (t : DecisionTable) (lists : List (List Statement)) (q : Question) (end : ℕ) (x : LevelAnswer) → IsWideFrom most t lists q end x → 1 < x.level → (y : Answer) × IsFoundAt most t lists x.answer.question (conclusion_below (kind_of x.answer.question)) (x.level - 1) y
+below_answer most t lists q end x wide over = subst (λ (r : Question). (y : Answer) × IsFoundAt most t lists r (conclusion_below (kind_of r)) (x.level - 1) y) (sym wide.given.allowed.question) (wide.below over)
+
 pub base_wide : (most : ℕ) (t : DecisionTable) (lists : List (List Statement)) (a b : ℕ) (x : LevelAnswer) → AreLevelLists t lists → IsWideFrom most t lists Consistent (length lists + 1) x → IsWideAtLevel most t lists a b x
 base_wide most t lists a b x levels wide =
     let under = wide.to_end in
@@ -307,6 +311,7 @@ base_wide most t lists a b x levels wide =
       to_last = omega (arith, under);
       reached = before_by t lists x.level levels (omega (arith, under)) (λ over. let y = wide.below over in (found_true most t lists Consistent conclusions.Yes (x.level - 1) y.0 y.1).0);
       asked = inl same;
+      below = below_answer most t lists Consistent (length lists + 1) x wide;
       given = subst (λ (q : Question). IsGiven most t (list_of_level lists x.level) q x.answer) (sym same) wide.given;
       wide = wide_verdict x.answer.verdict wide.wide;
     }
@@ -322,6 +327,7 @@ pair_wide most t lists a b q border x levels is wide pair =
       to_last = omega (arith, under, last);
       reached = λ i first less. all i first (omega (arith, less, under));
       asked = inr (by pair same, all x.level wide.from_first under);
+      below = below_answer most t lists q border.level x wide;
       given = subst (λ (r : Question). IsGiven most t (list_of_level lists x.level) r x.answer) (sym same) wide.given;
       wide = wide_verdict x.answer.verdict wide.wide;
     }

@@ -3,7 +3,6 @@ use Rattle.std.specs.Prelude.{◌≡◌, ◌⊎◌, ℕ, ◌+◌, ◌-◌, ◌<�
 use Rattle.ror_statement.specs.declared.statement.Statement.{Statement}
 use Rattle.ror_statement.specs.declared.question.Question.{Question}
 use Rattle.ror_statement.specs.declared.question.Question.TheVariants.{Consistent}
-use Rattle.ror_statement.specs.declared.question.Conclusion.{Conclusion}
 use Rattle.ror_statement.specs.Questions.{kind_of}
 use Rattle.ror_table.specs.Table.{DecisionTable}
 use Rattle.ror_proof.specs.declared.answer.Answer.{Answer}
@@ -18,13 +17,8 @@ use Rattle.ror_confidence.specs.declared.search.LevelSearch.{LevelSearch}
 use Rattle.ror_confidence.specs.declared.span.LevelAnswer.{LevelAnswer}
 use Rattle.ror_confidence.specs.Levels.{list_of_level}
 use Rattle.ror_confidence.specs.Spans.{AreLevelLists}
+use Rattle.ror_confidence.specs.Finding.{IsFoundAt}
 use Rattle.ror_confidence.specs.Proof.{concludes, conclusion_from, conclusion_below}
-
--- the answer may be given over the statements of the level, and has this conclusion
-pub record IsFoundAt (most : ℕ) (t : DecisionTable) (lists : List (List Statement)) (q : Question)
-    (c : Conclusion) (level : ℕ) (x : Answer) : Type 0 where
-  pub given : IsGiven most t (list_of_level lists level) q x
-  pub conclusion : concludes c x.verdict ≡ true
 
 -- at each level before the end a question has one of two conclusions, or is too wide
 abbrev pub HasTwoSides : ℕ → DecisionTable → List (List Statement) → Question → ℕ → Type 0
