@@ -29,7 +29,7 @@ use Rattle.ror_confidence.specs.Levels.{list_of_level}
 use Rattle.ror_confidence.specs.Spans.{AreLevelLists}
 use Rattle.ror_confidence.specs.Proof.{concludes, conclusion_below, conclusion_from, due_below, due_from, is_in_range, IsProvedDue, IsProvedSpan, IsSpanWithin}
 use Rattle.ror_confidence.specs.Finding.{HasNoWideQuestions, IsConsistentAt, IsFoundAt, IsWideAtLevel, HasNoWideNote}
-use Rattle.ror_confidence.specs.Searching.{answers_at, answers_of, HasTwoSides, IsBelow, IsBorder, IsFrom, IsHigh, IsLow, IsNarrowIfSome, IsSearched, IsWideBorder, IsWideEnd, IsWideFrom}
+use Rattle.ror_confidence.specs.Searching.{answers_at, answers_of, HasSearched, HasTwoSides, is_above, is_open, IsBelow, IsBorder, IsDecidedAt, IsFrom, IsHigh, IsLow, IsNarrowIfSome, IsSearched, IsWideBorder, IsWideEnd, IsWideFrom}
 use Rattle.ror_confidence.proofs.Nested.{consistent-fewer}
 
 -- ---- what an answer that is given says
@@ -95,7 +95,7 @@ below_consistent most t lists level None first over = absurd (omega (arith, firs
 below_consistent most t lists level (Some x) found over = (found_true most t lists Consistent conclusions.Yes (level - 1) x found.1).0
 
 consistent_before : (most : ℕ) (t : DecisionTable) (lists : List (List Statement)) (border : Border) → AreLevelLists t lists → IsBorder most t lists Consistent (length lists + 1) border → AreConsistentBefore t lists border.level
-consistent_before most t lists border levels is = before_by t lists border.level levels is.to_end (below_consistent most t lists border.level border.below is.below)
+consistent_before most t lists border levels is = before_by t lists border.level levels is.to_end (below_consistent most t lists border.level is.one_below is.below)
 
 pub necessary_sides : (most : ℕ) (t : DecisionTable) (lists : List (List Statement)) (a b : ℕ) (border : Border) → AreLevelLists t lists → IsBorder most t lists Consistent (length lists + 1) border → HasTwoSides most t lists (Necessary a b) border.level
 necessary_sides most t lists a b border levels is = two_sides_necessary most t lists a b border.level (consistent_before most t lists border levels is)
@@ -132,6 +132,32 @@ searched_below most t lists q end low high level below from x sides s over under
       high_side = s.high_side;
     }
 
+pub has_above : (most : ℕ) (t : DecisionTable) (lists : List (List Statement)) (q : Question) (end low high level : ℕ) (below from answers : List LevelAnswer) → HasSearched most t lists q end low high below from → low < level → level < high → IsDecidedAt most t (list_of_level lists level) q level answers → is_above (kind_of q) answers ≡ true → HasSearched most t lists q end low level below answers
+has_above most t lists q end low high level below from answers had over under decided is = record {
+  one_below = had.one_below;
+  one_from = Some decided.answer;
+  is_below = had.is_below;
+  is_from = decided.is_alone;
+  searched = searched_above most t lists q end low high level had.one_below had.one_from decided.answer had.searched over under decided.given (subst (λ (xs : List LevelAnswer). is_above (kind_of q) xs ≡ true) decided.is_alone is);
+}
+
+pub has_below : (most : ℕ) (t : DecisionTable) (lists : List (List Statement)) (q : Question) (end low high level : ℕ) (below from answers : List LevelAnswer) → HasTwoSides most t lists q end → HasSearched most t lists q end low high below from → low < level → level < high → IsDecidedAt most t (list_of_level lists level) q level answers → is_above (kind_of q) answers ≡ false → HasSearched most t lists q end level high answers from
+has_below most t lists q end low high level below from answers sides had over under decided is = record {
+  one_below = Some decided.answer;
+  one_from = had.one_from;
+  is_below = decided.is_alone;
+  is_from = had.is_from;
+  searched = searched_below most t lists q end low high level had.one_below had.one_from decided.answer sides had.searched over under decided.given (subst (λ (xs : List LevelAnswer). is_above (kind_of q) xs ≡ false) decided.is_alone is);
+}
+
+-- there is one answer at most
+pub few_from : (most : ℕ) (t : DecisionTable) (lists : List (List Statement)) (q : Question) (end low high : ℕ) (below from : List LevelAnswer) → HasSearched most t lists q end low high below from → length from ≤ 1
+few_from most t lists q end low high below from had = subst (λ (xs : List LevelAnswer). length xs ≤ 1) (sym had.is_from) (few had.one_from)
+  where
+    few : (o : Option Answer) → length (answers_at high o) ≤ 1
+    few None = omega arith
+    few (Some x) = omega arith
+
 below_end : (most : ℕ) (t : DecisionTable) (lists : List (List Statement)) (q : Question) (low high : ℕ) (o : Option Answer) → high ≡ low + 1 → IsLow most t lists q low o → IsBelow most t lists q high o
 below_end most t lists q low high None is first = omega (arith, is, first)
 below_end most t lists q low high (Some x) is found =
@@ -147,15 +173,25 @@ from_end most t lists q end high (Some x) narrow found = (found.0, record { give
     by (inl wide) = absurd cc
     by (inr is) = is
 
-pub searched_end : (most : ℕ) (t : DecisionTable) (lists : List (List Statement)) (q : Question) (end low high : ℕ) (below from : Option Answer) (border : Border) → IsSearched most t lists q end low high below from → high ≤ low + 1 → IsNarrowIfSome from → border ≡ record { level = high; below = below; from = from } → IsBorder most t lists q end border
-searched_end most t lists q end low high below from border s close narrow is =
+narrow_some : (level : ℕ) (o : Option Answer) → is_open (answers_at level o) ≡ false → IsNarrowIfSome o
+narrow_some level None is = tt
+narrow_some level (Some x) is = is
+
+pub searched_end : (most : ℕ) (t : DecisionTable) (lists : List (List Statement)) (q : Question) (end low high : ℕ) (below from : List LevelAnswer) (border : Border) → HasSearched most t lists q end low high below from → high ≤ low + 1 → is_open from ≡ false → border ≡ record { level = high; below = below; from = from } → IsBorder most t lists q end border
+searched_end most t lists q end low high below from border had close narrow is =
+    let s = had.searched in
     let apart = s.apart in
     let next : high ≡ low + 1 = omega (arith, apart, close) in
+    let before : low ≡ high - 1 = omega (arith, next) in
     let here : IsBorder most t lists q end (record { level = high; below = below; from = from }) = record {
       from_first = omega (arith, next);
       to_end = s.to_end;
-      below = below_end most t lists q low high below next s.low_side;
-      from = from_end most t lists q end high from narrow s.high_side;
+      one_below = had.one_below;
+      one_from = had.one_from;
+      is_below = subst (λ (l : ℕ). below ≡ answers_at l had.one_below) before had.is_below;
+      is_from = had.is_from;
+      below = below_end most t lists q low high had.one_below next s.low_side;
+      from = from_end most t lists q end high had.one_from (narrow_some high had.one_from (subst (λ (xs : List LevelAnswer). is_open xs ≡ false) had.is_from narrow)) s.high_side;
     } in
     subst (IsBorder most t lists q end) (sym is) here
 
@@ -178,11 +214,16 @@ searched_wide most t lists q end low high below from x s close is wide =
       wide = wide;
     }
 
-pub searched_fault : (most : ℕ) (t : DecisionTable) (lists : List (List Statement)) (q : Question) (end low high : ℕ) (below from : Option Answer) (e : SpanFault) → IsSearched most t lists q end low high below from → high ≤ low + 1 → IsWideEnd high from e → IsWideBorder most t lists q end e
-searched_fault most t lists q end low high below from (faults.Wide x) s close is =
-    let here = searched_wide most t lists q end low high below from x.answer s close is.0 is.2 in
-    subst (λ (l : ℕ). IsWideFrom most t lists q end (record { level = l; answer = x.answer })) (sym is.1) here
-searched_fault most t lists q end low high below from faults.Memory s close is = absurd is
+one_at : (level : ℕ) (o : Option Answer) (x : LevelAnswer) → answers_at level o ≡ x ∷ [] → (x ≡ record { level = level; answer = x.answer }) × (o ≡ Some x.answer)
+one_at level None x is = absurd cc
+one_at level (Some y) x is = (cc, cc)
+
+pub searched_fault : (most : ℕ) (t : DecisionTable) (lists : List (List Statement)) (q : Question) (end low high : ℕ) (below from : List LevelAnswer) (e : SpanFault) → HasSearched most t lists q end low high below from → high ≤ low + 1 → IsWideEnd from e → IsWideBorder most t lists q end e
+searched_fault most t lists q end low high below from (faults.Wide x) had close is =
+    let one = one_at high had.one_from x (sym had.is_from ∙ is.0) in
+    let here = searched_wide most t lists q end low high had.one_below had.one_from x.answer had.searched close one.1 is.1 in
+    subst (IsWideFrom most t lists q end) (sym one.0) here
+searched_fault most t lists q end low high below from faults.Memory had close is = absurd is
 
 -- ---- the span of three borders
 
@@ -209,6 +250,12 @@ dues_below most t lists q level None is = elim (cases_Bool (nat_lt 1 level)) [
 ]
 dues_below most t lists q level (Some x) found = rw (lt-ltb 1 level found.0) (found_due most t lists q (conclusion_below (kind_of q)) (level - 1) x found.1, tt)
 
+border_from : (most : ℕ) (t : DecisionTable) (lists : List (List Statement)) (q : Question) (end : ℕ) (border : Border) → IsBorder most t lists q end border → AllZip (IsProvedDue t lists) (due_from q border.level end) border.from
+border_from most t lists q end border is = subst (AllZip (IsProvedDue t lists) (due_from q border.level end)) (sym is.is_from) (dues_from most t lists q end border.level is.one_from is.from)
+
+border_below : (most : ℕ) (t : DecisionTable) (lists : List (List Statement)) (q : Question) (end : ℕ) (border : Border) → IsBorder most t lists q end border → AllZip (IsProvedDue t lists) (due_below q border.level) border.below
+border_below most t lists q end border is = subst (AllZip (IsProvedDue t lists) (due_below q border.level)) (sym is.is_below) (dues_below most t lists q border.level is.one_below is.below)
+
 range_true : (n c k p : ℕ) → 1 ≤ c → c ≤ n + 1 → 1 ≤ k → k ≤ c → p < c → is_in_range n c k p ≡ true
 range_true n c k p first last from upto under = rw (le-leb 1 c first, le-leb c (n + 1) last, le-leb 1 k from, le-leb k c upto, lt-ltb p c under) refl
 
@@ -227,24 +274,24 @@ borders_prove most t lists a b c k p span x y z is =
     let first = z.from_first in
     let upto = z.to_end in
     let next : p.level - 1 + 1 ≡ p.level = omega (arith, first) in
-    let f1 = dues_from most t lists Consistent (n + 1) c.level c.from x.from in
-    let b1 = dues_below most t lists Consistent c.level c.below x.below in
-    let f2 = dues_from most t lists (Necessary a b) c.level k.level k.from y.from in
-    let b2 = dues_below most t lists (Necessary a b) k.level k.below y.below in
-    let b3 = dues_below most t lists (Possible a b) p.level p.below z.below in
-    let f3 = dues_from most t lists (Possible a b) c.level p.level p.from z.from in
+    let f1 = border_from most t lists Consistent (n + 1) c x in
+    let b1 = border_below most t lists Consistent (n + 1) c x in
+    let f2 = border_from most t lists (Necessary a b) c.level k y in
+    let b2 = border_below most t lists (Necessary a b) c.level k y in
+    let b3 = border_below most t lists (Possible a b) c.level p z in
+    let f3 = border_from most t lists (Possible a b) c.level p z in
     let d6 = due_from (Possible a b) p.level c.level in
     let d5 = due_below (Possible a b) p.level in
     let d4 = due_below (Necessary a b) k.level in
     let d3 = due_from (Necessary a b) k.level c.level in
     let d2 = due_below Consistent c.level in
     let d1 = due_from Consistent c.level (n + 1) in
-    let e6 = answers_at p.level p.from in
-    let e5 = answers_at (p.level - 1) p.below in
-    let e4 = answers_at (k.level - 1) k.below in
-    let e3 = answers_at k.level k.from in
-    let e2 = answers_at (c.level - 1) c.below in
-    let e1 = answers_at c.level c.from in
+    let e6 = p.from in
+    let e5 = p.below in
+    let e4 = k.below in
+    let e3 = k.from in
+    let e2 = c.below in
+    let e1 = c.from in
     let all = zip-append R (d1 ++ d2 ++ d3 ++ d4 ++ d5) d6 (e1 ++ e2 ++ e3 ++ e4 ++ e5) e6
     (zip-append R (d1 ++ d2 ++ d3 ++ d4) d5 (e1 ++ e2 ++ e3 ++ e4) e5
     (zip-append R (d1 ++ d2 ++ d3) d4 (e1 ++ e2 ++ e3) e4
@@ -269,25 +316,31 @@ narrow_below : (most : ℕ) (t : DecisionTable) (lists : List (List Statement)) 
 narrow_below most t lists q level None is = tt
 narrow_below most t lists q level (Some x) found = (found.1.given.narrow, tt)
 
+border_narrow_from : (most : ℕ) (t : DecisionTable) (lists : List (List Statement)) (q : Question) (end : ℕ) (border : Border) → IsBorder most t lists q end border → AllByRecursion (IsNarrowAnswer most) border.from
+border_narrow_from most t lists q end border is = subst (AllByRecursion (IsNarrowAnswer most)) (sym is.is_from) (narrow_from most t lists q end border.level is.one_from is.from)
+
+border_narrow_below : (most : ℕ) (t : DecisionTable) (lists : List (List Statement)) (q : Question) (end : ℕ) (border : Border) → IsBorder most t lists q end border → AllByRecursion (IsNarrowAnswer most) border.below
+border_narrow_below most t lists q end border is = subst (AllByRecursion (IsNarrowAnswer most)) (sym is.is_below) (narrow_below most t lists q border.level is.one_below is.below)
+
 pub borders_narrow : (most : ℕ) (t : DecisionTable) (lists : List (List Statement)) (a b : ℕ) (c k p : Border) (span : Span) → IsBorder most t lists Consistent (length lists + 1) c → IsBorder most t lists (Necessary a b) c.level k → IsBorder most t lists (Possible a b) c.level p → span ≡ record { contradictory = c.level; necessary = k.level; possible = p.level - 1; proof = answers_of c k p } → IsSpanWithin most span
 borders_narrow most t lists a b c k p span x y z is =
     let P = IsNarrowAnswer most in
-    let e6 = answers_at p.level p.from in
-    let e5 = answers_at (p.level - 1) p.below in
-    let e4 = answers_at (k.level - 1) k.below in
-    let e3 = answers_at k.level k.from in
-    let e2 = answers_at (c.level - 1) c.below in
-    let e1 = answers_at c.level c.from in
+    let e6 = p.from in
+    let e5 = p.below in
+    let e4 = k.below in
+    let e3 = k.from in
+    let e2 = c.below in
+    let e1 = c.from in
     let here : IsSpanWithin most (span_by c k p) =
     all-append P (e1 ++ e2 ++ e3 ++ e4 ++ e5) e6
     (all-append P (e1 ++ e2 ++ e3 ++ e4) e5
     (all-append P (e1 ++ e2 ++ e3) e4
     (all-append P (e1 ++ e2) e3
-    (all-append P e1 e2 (narrow_from most t lists Consistent (length lists + 1) c.level c.from x.from) (narrow_below most t lists Consistent c.level c.below x.below))
-    (narrow_from most t lists (Necessary a b) c.level k.level k.from y.from))
-    (narrow_below most t lists (Necessary a b) k.level k.below y.below))
-    (narrow_below most t lists (Possible a b) p.level p.below z.below))
-    (narrow_from most t lists (Possible a b) c.level p.level p.from z.from) in
+    (all-append P e1 e2 (border_narrow_from most t lists Consistent (length lists + 1) c x) (border_narrow_below most t lists Consistent (length lists + 1) c x))
+    (border_narrow_from most t lists (Necessary a b) c.level k y))
+    (border_narrow_below most t lists (Necessary a b) c.level k y))
+    (border_narrow_below most t lists (Possible a b) c.level p z))
+    (border_narrow_from most t lists (Possible a b) c.level p z) in
     subst (IsSpanWithin most) (sym is) here
 
 -- ---- what is too wide
@@ -368,10 +421,10 @@ none_wide most t lists a b x wide none =
 
 -- ---- what is answered
 
-pub border_found : (most : ℕ) (t : DecisionTable) (lists : List (List Statement)) (q : Question) (end low high : ℕ) (below from : Option Answer) (r : Result Border SpanFault) → IsSearched most t lists q end low high below from → high ≤ low + 1 → IfOk r (λ border. border ≡ record { level = high; below = below; from = from }) → IfOk r (λ border. IsNarrowIfSome from) → IfOk r (IsBorder most t lists q end)
+pub border_found : (most : ℕ) (t : DecisionTable) (lists : List (List Statement)) (q : Question) (end low high : ℕ) (below from : List LevelAnswer) (r : Result Border SpanFault) → HasSearched most t lists q end low high below from → high ≤ low + 1 → IfOk r (λ border. border ≡ record { level = high; below = below; from = from }) → IfOk r (λ border. is_open from ≡ false) → IfOk r (IsBorder most t lists q end)
 border_found most t lists q end low high below from (Ok border) s close is narrow = searched_end most t lists q end low high below from border s close narrow is
 border_found most t lists q end low high below from (Err e) s close is narrow = tt
 
-pub border_open : (most : ℕ) (t : DecisionTable) (lists : List (List Statement)) (q : Question) (end low high : ℕ) (below from : Option Answer) (r : Result Border SpanFault) → IsSearched most t lists q end low high below from → high ≤ low + 1 → IfErr r (IsWideEnd high from) → IfErr r (IsWideBorder most t lists q end)
+pub border_open : (most : ℕ) (t : DecisionTable) (lists : List (List Statement)) (q : Question) (end low high : ℕ) (below from : List LevelAnswer) (r : Result Border SpanFault) → HasSearched most t lists q end low high below from → high ≤ low + 1 → IfErr r (IsWideEnd from) → IfErr r (IsWideBorder most t lists q end)
 border_open most t lists q end low high below from (Ok border) s close is = tt
 border_open most t lists q end low high below from (Err e) s close is = searched_fault most t lists q end low high below from e s close is

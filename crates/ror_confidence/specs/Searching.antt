@@ -1,8 +1,9 @@
 -- What the search for the border of a question keeps, and what it finds.
-use Rattle.std.specs.Prelude.{◌≡◌, ◌⊎◌, ℕ, ◌+◌, ◌-◌, ◌<◌, ◌≤◌, ◌^◌, true, false, List, [], ◌∷◌, ◌++◌, length, Option, Some, None, MatchOption}
+use Rattle.std.specs.Prelude.{◌≡◌, ◌⊎◌, ℕ, ◌+◌, ◌-◌, ◌<◌, ◌≤◌, ◌^◌, Bool, true, false, ◌||◌, List, [], ◌∷◌, ◌++◌, length, Option, Some, None, MatchOption}
 use Rattle.ror_statement.specs.declared.statement.Statement.{Statement}
 use Rattle.ror_statement.specs.declared.question.Question.{Question}
 use Rattle.ror_statement.specs.declared.question.Question.TheVariants.{Consistent}
+use Rattle.ror_statement.specs.declared.question.QuestionKind.{QuestionKind}
 use Rattle.ror_statement.specs.Questions.{kind_of}
 use Rattle.ror_table.specs.Table.{DecisionTable}
 use Rattle.ror_proof.specs.declared.answer.Answer.{Answer}
@@ -37,13 +38,22 @@ abbrev pub IsFrom : ℕ → DecisionTable → List (List Statement) → Question
 IsFrom most t lists q end level from = MatchOption from (level ≡ end)
     (λ x. (level < end) × IsFoundAt most t lists q (conclusion_from (kind_of q)) level x)
 
+-- the answer at a level alone, if there is one
+abbrev pub answers_at : ℕ → Option Answer → List LevelAnswer
+answers_at level None = []
+answers_at level (Some x) = record { level = level; answer = x } ∷ []
+
 -- the border of the question among the levels before the end
 pub record IsBorder (most : ℕ) (t : DecisionTable) (lists : List (List Statement)) (q : Question)
     (end : ℕ) (border : Border) : Type 0 where
   pub from_first : 1 ≤ border.level
   pub to_end : border.level ≤ end
-  pub below : IsBelow most t lists q border.level border.below
-  pub from : IsFrom most t lists q end border.level border.from
+  pub one_below : Option Answer
+  pub one_from : Option Answer
+  pub is_below : border.below ≡ answers_at (border.level - 1) one_below
+  pub is_from : border.from ≡ answers_at border.level one_from
+  pub below : IsBelow most t lists q border.level one_below
+  pub from : IsFrom most t lists q end border.level one_from
 
 -- the question is too wide at this level, and has its conclusion below the border at the level before
 pub record IsWideFrom (most : ℕ) (t : DecisionTable) (lists : List (List Statement)) (q : Question)
@@ -79,29 +89,46 @@ pub record IsSearched (most : ℕ) (t : DecisionTable) (lists : List (List State
   pub low_side : IsLow most t lists q low below
   pub high_side : IsHigh most t lists q end high from
 
+-- the same of the answers with their levels
+pub record HasSearched (most : ℕ) (t : DecisionTable) (lists : List (List Statement)) (q : Question)
+    (end low high : ℕ) (below from : List LevelAnswer) : Type 0 where
+  pub one_below : Option Answer
+  pub one_from : Option Answer
+  pub is_below : below ≡ answers_at low one_below
+  pub is_from : from ≡ answers_at high one_from
+  pub searched : IsSearched most t lists q end low high one_below one_from
+
+-- the answer may be given at the width over the list of the level, and stands alone
+pub record IsDecidedAt (most : ℕ) (t : DecisionTable) (list : List Statement) (q : Question)
+    (level : ℕ) (answers : List LevelAnswer) : Type 0 where
+  pub answer : Answer
+  pub is_alone : answers ≡ answers_at level (Some answer)
+  pub given : IsGiven most t list q answer
+
+-- its level is taken to be above the border
+abbrev pub is_above : QuestionKind → List LevelAnswer → Bool
+is_above kind [] = false
+is_above kind (x ∷ xs) = is_wide x.answer.verdict || concludes (conclusion_from kind) x.answer.verdict
+
+-- it is too wide
+abbrev pub is_open : List LevelAnswer → Bool
+is_open [] = false
+is_open (x ∷ xs) = is_wide x.answer.verdict
+
 -- there is no answer, or one that is not too wide
 abbrev pub IsNarrowIfSome : Option Answer → Type 0
 IsNarrowIfSome None = Unit {0}
 IsNarrowIfSome (Some x) = is_wide x.verdict ≡ false
 
--- the answer from the level on is the one that is too wide
-abbrev pub IsWideEnd : ℕ → Option Answer → SpanFault → Type 0
-IsWideEnd level from (faults.Wide x) =
-    (from ≡ Some x.answer) × (x.level ≡ level) × (is_wide x.answer.verdict ≡ true)
-IsWideEnd level from faults.Memory = ⊥
+-- the answer is the one that is too wide
+abbrev pub IsWideEnd : List LevelAnswer → SpanFault → Type 0
+IsWideEnd from (faults.Wide x) = (from ≡ x ∷ []) × (is_wide x.answer.verdict ≡ true)
+IsWideEnd from faults.Memory = ⊥
 
--- ---- the answers at a border
+-- ---- the answers of a span, in order
 
-abbrev pub answers_at : ℕ → Option Answer → List LevelAnswer
-answers_at level None = []
-answers_at level (Some x) = record { level = level; answer = x } ∷ []
-
--- those of a span, in order
 abbrev pub answers_of : Border → Border → Border → List LevelAnswer
-answers_of c k p =
-    answers_at c.level c.from ++ answers_at (c.level - 1) c.below
-    ++ answers_at k.level k.from ++ answers_at (k.level - 1) k.below
-    ++ answers_at (p.level - 1) p.below ++ answers_at p.level p.from
+answers_of c k p = c.from ++ c.below ++ k.from ++ k.below ++ p.below ++ p.from
 
 -- ---- what is kept from pair to pair
 

@@ -4,7 +4,7 @@ ghost use Rattle.std.specs.Prelude.{◌≡◌, IfOk};
 
 use crate::border::Border;
 use crate::span::LevelAnswer;
-use ror_proof::Answer;
+use ror_text::Items;
 use std::alloc::{AllocError, Global};
 
 impl LevelAnswer {
@@ -26,17 +26,18 @@ impl Border {
     {
         Ok(Border {
             level: self.level,
-            below: copied_if_some(alloc, &self.below)?,
-            from: copied_if_some(alloc, &self.from)?,
+            below: Items::from(copied_each(alloc, self.below.as_slice())?),
+            from: Items::from(copied_each(alloc, self.from.as_slice())?),
         })
     }
 }
 
-fn copied_if_some(alloc: Global, x: &Option<Answer>) -> Result<Option<Answer>, AllocError>
-    ensures { IfOk result (λ copy. copy ≡ x.now) }
+fn copied_each(alloc: Global, answers: &[LevelAnswer]) -> Result<Vec<LevelAnswer>, AllocError>
+    ensures { IfOk result (λ copies. copies.items ≡ answers.now) }
 {
-    match x {
-        Some(answer) => Ok(Some(answer.copied(alloc)?)),
-        None => Ok(None),
+    let mut copies = Vec::new(alloc);
+    'answers: for x in answers {
+        copies.push(x.copied(alloc)?)?;
     }
+    Ok(copies)
 }

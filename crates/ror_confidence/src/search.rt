@@ -8,7 +8,7 @@ ghost use Rattle.ror_confidence.specs.Levels.{AreLevelsOf, level_lists};
 ghost use Rattle.ror_confidence.specs.Spans.{AreLevelLists, IsSpan};
 ghost use Rattle.ror_confidence.specs.Proof.{IsProvedSpan, IsSpanWithin};
 ghost use Rattle.ror_confidence.specs.Finding.{HasNoWideQuestions, IsDueSpanFault};
-ghost use Rattle.ror_confidence.specs.Searching.{IsBase, IsOpenBase, IsSearchOf, answers_at, answers_of};
+ghost use Rattle.ror_confidence.specs.Searching.{IsBase, IsOpenBase, IsSearchOf, answers_of};
 
 use crate::border::{Border, find_border};
 use crate::decider::Decider;
@@ -16,7 +16,6 @@ use crate::fault::SpanFault;
 use crate::levels::{Levels, level_lists};
 use crate::span::{LevelAnswer, Span};
 use ror_pivot::Bits;
-use ror_proof::Answer;
 use ror_statement::{Numbered, Question, Statement};
 use ror_table::Table;
 use ror_text::Items;
@@ -188,18 +187,12 @@ fn copied_base(alloc: Global, base: &Base) -> Result<Border, SpanFault>
     }
 }
 
-/// Adds the answer at a level, if there is one.
-fn push_answer(
-    proof: &mut Vec<LevelAnswer>,
-    level: u32,
-    answer: Option<Answer>,
-) -> Result<(), AllocError>
-    ensures { OnOk result (proof.new.items ≡ proof.old.items ++ answers_at level answer) }
+/// Adds the answers.
+fn push_answers(proof: &mut Vec<LevelAnswer>, answers: Items<LevelAnswer>) -> Result<(), AllocError>
+    ensures { OnOk result (proof.new.items ≡ proof.old.items ++ answers) }
 {
-    if let Some(answer) = answer {
-        proof.push(LevelAnswer { level, answer })?;
-    }
-    Ok(())
+    let mut answers = answers.into_vec();
+    proof.append(&mut answers)
 }
 
 /// The span with these borders.
@@ -209,9 +202,7 @@ fn span_of(
     necessary: Border,
     possible: Border,
 ) -> Result<Span, AllocError>
-    requires contradictory { 1 ≤ contradictory.level }
-    requires necessary { 1 ≤ necessary.level }
-    requires possible { 1 ≤ possible.level }
+    requires { 1 ≤ possible.level }
     ensures { IfOk result (λ span. span ≡ record {
       contradictory = contradictory.level;
       necessary = necessary.level;
@@ -221,12 +212,12 @@ fn span_of(
 {
     let (end, first, next) = (contradictory.level, necessary.level, possible.level);
     let mut proof = Vec::new(alloc);
-    push_answer(&mut proof, end, contradictory.from)?;
-    push_answer(&mut proof, end - 1, contradictory.below)?;
-    push_answer(&mut proof, first, necessary.from)?;
-    push_answer(&mut proof, first - 1, necessary.below)?;
-    push_answer(&mut proof, next - 1, possible.below)?;
-    push_answer(&mut proof, next, possible.from)?;
+    push_answers(&mut proof, contradictory.from)?;
+    push_answers(&mut proof, contradictory.below)?;
+    push_answers(&mut proof, necessary.from)?;
+    push_answers(&mut proof, necessary.below)?;
+    push_answers(&mut proof, possible.below)?;
+    push_answers(&mut proof, possible.from)?;
     Ok(Span {
         contradictory: end,
         necessary: first,
