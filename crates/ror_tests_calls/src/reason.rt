@@ -33,7 +33,7 @@ enum Found {
 }
 
 /// What is found on 15 bits.
-fn found(
+fn find(
     alloc: Global,
     table: &Table,
     list: &[Numbered],
@@ -50,7 +50,7 @@ fn found(
 }
 
 /// What is found on 15 bits of an answer that was decided on 127.
-fn found_of_known(
+fn find_known(
     alloc: Global,
     table: &Table,
     list: &[Numbered],
@@ -95,7 +95,7 @@ fn what_is_too_wide_to_decide_is_kept(rt: HostRuntime) -> Result<(), Fail> {
         said(6, Statement::Prefer(1, 3)),
         said(7, Statement::AtLeast(4, 0)),
     ];
-    let narrow = found(rt.alloc(), &table, &list, &Question::Consistent)?;
+    let narrow = find(rt.alloc(), &table, &list, &Question::Consistent)?;
     assert!(rt; narrow == Found::Wide);
     Ok(())
 }
@@ -110,8 +110,8 @@ fn what_is_known_has_a_reduct_where_the_list_is_too_wide(rt: HostRuntime) -> Res
         said(6, Statement::Prefer(1, 3)),
     ];
     let question = Question::Necessary(0, 2);
-    let narrow = found(rt.alloc(), &table, &list, &question)?;
-    let known = found_of_known(rt.alloc(), &table, &list, &question)?;
+    let narrow = find(rt.alloc(), &table, &list, &question)?;
+    let known = find_known(rt.alloc(), &table, &list, &question)?;
     assert!(rt; narrow == Found::WhollyWide);
     assert!(rt; known == Found::One(5));
     Ok(())
