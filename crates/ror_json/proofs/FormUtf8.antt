@@ -1,13 +1,12 @@
 -- The text of a form is UTF-8.
-use Rattle.std.proofs.Common.{◌≡◌, ℕ, suc, ◌<◌, ◌≤◌, ◌^◌, List, [], ◌∷◌, ◌++◌, map, Bool, true, false, codes, refl, arith, ℤ, pos, negsuc}
-use Rattle.std.specs.Fmt.{decimal, signed_decimal}
+use Rattle.std.proofs.Common.{ℕ, suc, ◌<◌, ◌^◌, List, [], ◌∷◌, ◌++◌, Bool, true, false, codes, refl, arith, ℤ, pos, negsuc}
+use Rattle.std.specs.Fmt.{decimal}
 use Rattle.std.specs.List.{AllByRecursion}
 use Rattle.std.specs.Str.{IsUtf8}
 use Rattle.std.proofs.lemmas.Str.{IsUtf8-append, IsUtf8-nil}
 use Rattle.json.specs.Print.{quoted}
 use Rattle.json.proofs.Printed.Utf8.{IsUtf8-quoted, IsUtf8-boolean}
 use Rattle.serde_json.specs.Data.{Data, null, boolean, number, string, array, object, Items, no_items, item, Members, no_members, member, put}
-use Rattle.serde_json.specs.View.{items_of}
 use Rattle.serde_json.specs.Written.{number_text, compact_text, items_text, members_text, comma_if}
 use Rattle.ror_system.specs.System.{IsNarrow}
 use Rattle.ror_system.specs.declared.accept.Multipliers.{Multipliers}
@@ -26,7 +25,7 @@ use Rattle.ror_proof.specs.declared.kept.Dropped.{Dropped}
 use Rattle.ror_proof.specs.declared.kept.Kept.{Kept}
 use Rattle.ror_proof.specs.declared.names.VerdictName.{VerdictName}
 use Rattle.ror_proof.specs.declared.names.VerdictName.TheVariants as said
-use Rattle.ror_proof.specs.Names.{place_name, verdict_word}
+use Rattle.ror_proof.specs.Names.{place_name}
 use Rattle.ror_proof.specs.Text.{place_numbers, AreNarrow, IsNarrowCertificate, IsPrintable, IsPrintableDropped, IsPrintableNote, IsPrintablePart, IsPrintablePivot, IsPrintableProof, IsPrintableVerdict}
 use Rattle.ror_report.specs.declared.block.Block.{Block}
 use Rattle.ror_report.specs.declared.block.Body.{Body}
@@ -34,7 +33,7 @@ use Rattle.ror_report.specs.declared.block.Body.TheVariants as bodies
 use Rattle.ror_json.specs.declared.keys.BodyKey.{BodyKey}
 use Rattle.ror_json.specs.declared.keys.BodyKey.TheVariants as keys
 use Rattle.ror_json.specs.Names.{body_key, key_word}
-use Rattle.ror_json.specs.Form.{count_form, number_form, list_form, multipliers_form, certificate_members, certificate_form, part_form, pivot_form, place_form, wide_form, question_text, proved_form, unsettled_form, verdict_form, answer_form, dropped_form, kept_form, repair_wide_form, body_form, block_form, report_form, IsFormedKept, IsFormedBody, IsFormedBlock}
+use Rattle.ror_json.specs.Form.{count_form, number_form, list_form, multipliers_form, certificate_members, part_form, pivot_form, place_form, wide_form, question_text, proved_form, verdict_form, answer_form, dropped_form, kept_form, repair_wide_form, body_form, block_form, report_form, IsFormedKept, IsFormedBody, IsFormedBlock}
 use Rattle.ror_proof.proofs.Utf8Lemmas.{ascii_is_utf8, decimal_is_utf8}
 use Rattle.ror_json.proofs.WordTexts.{verdict_is_utf8, place_is_utf8, fault_is_utf8, key_is_utf8}
 use Rattle.ror_json.proofs.QuestionTexts.{question_text_is_utf8}

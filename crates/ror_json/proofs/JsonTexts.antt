@@ -1,5 +1,5 @@
 -- Bytes are read as a report exactly where they are JSON of its form, and their fault is that of the JSON or of its shape.
-use Rattle.std.proofs.Common.{◌≡◌, ℕ, zero, suc, ◌+◌, ◌<◌, ◌≤◌, Bool, true, false, cond, List, [], ◌∷◌, length, Option, Some, None, Result, Ok, Err, IsUtf8, refl, sym, ap, subst, ◌∙◌, arith, inl, inr}
+use Rattle.std.proofs.Common.{◌≡◌, ℕ, ◌≤◌, Bool, true, false, cond, List, [], ◌∷◌, length, Option, Some, None, Result, Ok, Err, IsUtf8, refl, sym, ap, subst, ◌∙◌, inl, inr}
 use Rattle.std.specs.Prelude.{◌↔◌, ◌⊎◌, IfOk, IfSome}
 use Rattle.std.specs.List.{AllByRecursion}
 use Rattle.std.specs.Str.{is_utf8}
@@ -8,7 +8,6 @@ use Rattle.std.proofs.lemmas.Str.{IsUtf8-append, IsUtf8-from_is_utf8, is_utf8-fr
 use Rattle.serde_json.specs.Data.{Data}
 use Rattle.serde_json.specs.Read.{read}
 use Rattle.serde_json.specs.Written.{compact_text, has_float}
-use Rattle.ror_text.specs.Reading.{◌>>=◌, need}
 use Rattle.ror_text.proofs.ReadingLemmas.{bind_ok, bind_err, need_ok, need_err}
 use Rattle.ror_table.specs.Table.{DecisionTable, IsTable}
 use Rattle.ror_report.specs.declared.block.Block.{Block}
@@ -18,7 +17,6 @@ use Rattle.ror_json.specs.declared.fault.TextFault.{TextFault}
 use Rattle.ror_json.specs.declared.fault.TextFault.TheVariants.{BadJson, BadShape, Memory}
 use Rattle.ror_json.specs.Form.{report_form, IsFormedBlock}
 use Rattle.ror_json.specs.Reading.{json_fault, report_of}
-use Rattle.ror_json.specs.Shapes.{IsReportForm, IsBadShape}
 use Rattle.ror_json.specs.Texts.{IsJsonOf, IsJsonReport, IsBadJsonShape, json_text, json_line, value_of, in_text, report_of_text}
 use Rattle.ror_json.proofs.ReportLaws.{one_report, read_is_form, fault_iff_bad}
 use Rattle.ror_json.proofs.FormTexts.{no_float, text_is_read, line_is_read}

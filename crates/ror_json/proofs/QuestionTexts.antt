@@ -13,70 +13,29 @@ use Rattle.std.proofs.lemmas.List.Splits.{slice_split-cons_yes, length-slice_spl
 use Rattle.ror_text.specs.Cursor.{Cursor, cursor_at, line_words}
 use Rattle.ror_text.specs.Lines.{is_line_end}
 use Rattle.ror_text.specs.Reading.{◌>>=◌, refuse}
-use Rattle.ror_text.specs.SpacedLines.{spaced_words, join_words, is_word, are_words, line_text}
-use Rattle.ror_text.proofs.IdLemmas.{is_word-id}
+use Rattle.ror_text.specs.SpacedLines.{spaced_words, join_words, are_words, line_text}
 use Rattle.ror_text.proofs.LineLemmas.{split_cases}
-use Rattle.ror_text.proofs.NumberLemmas.{is_word-decimal}
 use Rattle.ror_text.proofs.ReadingLemmas.{bind_ok, refuse_ok}
 use Rattle.ror_text.proofs.SpacedLemmas.{join_words-spaced_words, join_words_is_one_line, split_line-append}
-use Rattle.ror_statement.specs.declared.comparison.Scope.{Scope}
-use Rattle.ror_statement.specs.declared.comparison.Scope.TheVariants.{Whole, One}
-use Rattle.ror_statement.specs.declared.comparison.Pair.{Pair}
-use Rattle.ror_statement.specs.declared.comparison.Form.{Form}
-use Rattle.ror_statement.specs.declared.comparison.Form.TheVariants.{Value, Strength}
 use Rattle.ror_statement.specs.declared.question.Question.{Question}
-use Rattle.ror_statement.specs.declared.question.Property.{Property}
-use Rattle.ror_statement.specs.declared.question.Property.TheVariants.{Compatible, AtLeast, InClass}
-use Rattle.ror_statement.specs.Names.{NamesWithin, PairWithin, ScopeWithin}
 use Rattle.ror_statement.specs.Questions.{property_of}
-use Rattle.ror_table.specs.Table.{DecisionTable, IsTable, id_of, criterion_id_of}
-use Rattle.ror_table.proofs.NameLemmas.{id_of_is_id, criterion_id_of_is_id}
+use Rattle.ror_table.specs.Table.{DecisionTable, IsTable}
 use Rattle.ror_proof.specs.declared.answer.Answer.{Answer}
 use Rattle.ror_proof.specs.declared.answer.PlaceText.TheVariants.{RowSum}
 use Rattle.ror_proof.specs.declared.answer.Verdict.{Verdict}
 use Rattle.ror_proof.specs.declared.answer.Verdict.TheVariants as verdicts
-use Rattle.ror_proof.specs.declared.names.QuestionName.{QuestionName}
-use Rattle.ror_proof.specs.declared.names.QuestionName.TheVariants as asking
 use Rattle.ror_proof.specs.declared.read.ProofFault.{ProofFault}
 use Rattle.ror_proof.specs.Names.{question_name, question_word, verdict_word}
 use Rattle.ror_proof.specs.Printing.{spaced}
 use Rattle.ror_proof.specs.Reading.{answer_at, answer_line, answer_words, verdict_at}
-use Rattle.ror_proof.specs.Text.{pair_words, scope_words, form_words, property_words, question_words, answer_text, HasWords, IsNamed, IsPrintable}
-use Rattle.ror_proof.proofs.AnswerLemmas.{ended_sound, head_words_sound, answer_reads_back}
+use Rattle.ror_proof.specs.Text.{property_words, question_words, answer_text, IsNamed, IsPrintable}
+use Rattle.ror_proof.proofs.AnswerLemmas.{ended_sound, head_words_sound, name_is_word, property_are_words, answer_reads_back}
 use Rattle.ror_proof.proofs.Utf8Lemmas.{ascii_is_utf8, answer_text_is_utf8}
 use Rattle.ror_json.specs.declared.fault.Misfit.TheVariants as misfits
 use Rattle.ror_json.specs.Form.{question_text}
 use Rattle.ror_json.specs.Reading.{asked, asked_text, is_one_line, question_of}
 
 -- ---- the words of a question have no space and no line feed
-
-id_is_word : (t : DecisionTable) (a : ℕ) → IsTable t → a < length t.alternatives → is_word (id_of t a) ≡ true
-id_is_word t a table within = is_word-id (id_of t a) (id_of_is_id t a table within)
-
-pair_are_words : (t : DecisionTable) (p : Pair) → IsTable t → PairWithin (length t.alternatives) p → are_words (pair_words t p) ≡ true
-pair_are_words t p table within = rw (id_is_word t p.first table within.0, id_is_word t p.second table within.1) refl
-
-scope_are_words : (t : DecisionTable) (s : Scope) → IsTable t → ScopeWithin (length t.criteria) s → are_words (scope_words t s) ≡ true
-scope_are_words t Whole table within = refl
-scope_are_words t (One i) table within = rw (is_word-id (criterion_id_of t i) (criterion_id_of_is_id t i table within)) refl
-
-form_are_words : (t : DecisionTable) (form : Form) → IsTable t → NamesWithin (length t.alternatives) (length t.criteria) form → are_words (form_words t form) ≡ true
-form_are_words t (Value a b) table within = pair_are_words t (record { first = a; second = b }) table within
-form_are_words t (Strength p q s) table within =
-    list_all-append is_word (pair_words t p) (pair_words t q ++ scope_words t s)
-    ∙ and_from _ _ (pair_are_words t p table within.0) (list_all-append is_word (pair_words t q) (scope_words t s) ∙ and_from _ _ (pair_are_words t q table within.1) (scope_are_words t s table within.2))
-
-property_are_words : (t : DecisionTable) (p : Property) → IsTable t → HasWords t p → are_words (property_words t p) ≡ true
-property_are_words t Compatible table named = refl
-property_are_words t (AtLeast form) table named = form_are_words t form table named
-property_are_words t (InClass a h) table named = rw (id_is_word t a table named.0, is_word-decimal h (omega (arith, named.1))) refl
-
-name_is_word : (name : QuestionName) → is_word (question_word name) ≡ true
-name_is_word asking.Consistent = refl
-name_is_word asking.Necessary = refl
-name_is_word asking.Possible = refl
-name_is_word asking.PossibleClass = refl
-name_is_word asking.NecessaryClass = refl
 
 question_are_words : (t : DecisionTable) (q : Question) → IsTable t → IsNamed t q → are_words (question_words t q) ≡ true
 question_are_words t q table named = and_from _ _ (name_is_word (question_name q)) (property_are_words t (property_of q) table named)
