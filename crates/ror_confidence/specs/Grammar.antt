@@ -1,5 +1,5 @@
 -- The grammar of a file of levels, and its first fault.
-use Rattle.std.specs.Prelude.{◌≡◌, ℕ, ◌+◌, ◌<◌, ◌≤◌, true, false, nat_eq, List, [], ◌∷◌, ◌++◌, length, map, codes, Some}
+use Rattle.std.specs.Prelude.{◌≡◌, ℕ, ◌+◌, ◌<◌, ◌≤◌, true, nat_eq, List, [], ◌∷◌, ◌++◌, length, map, codes, Some}
 use Rattle.std.specs.List.{AllZip}
 use Rattle.std.specs.Set.{is_member}
 use Rattle.std.specs.Str.{IsUtf8}
