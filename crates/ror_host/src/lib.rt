@@ -1,6 +1,7 @@
-//! The host's side of a program: its files and its streams.
+//! The host's side of a program: its files, its streams and the words of its command line.
 //!
-//! [`FileShelf`] has the host's files as a shelf, and [`StreamSink`] a stream as a sink. What they hold is told to no proof.
+//! [`FileShelf`] has the host's files as a shelf, [`StreamSink`] a stream as a sink, and [`given_words`] gives the words behind the
+//! program's name. What they hold is told to no proof.
 //!
 //! ```text
 //! FileShelf       of a name without a file      Err(Failed), and one fault is counted
@@ -10,6 +11,8 @@
 
 mod files;
 mod streams;
+mod words;
 
 pub use files::FileShelf;
 pub use streams::StreamSink;
+pub use words::{WordsFault, given_words};
