@@ -1,7 +1,8 @@
 -- The desks that a session begins with, and the report of the blocks of its lines.
-use Rattle.std.proofs.Common.{◌≡◌, ℕ, ◌≤◌, List, [], ◌∷◌, ◌++◌, length, refl, sym, ap, subst, arith}
+use Rattle.std.proofs.Common.{◌≡◌, ℕ, ◌≤◌, false, List, [], ◌∷◌, ◌++◌, length, refl, sym, ap, subst, arith}
 use Rattle.std.specs.Prelude.{zero, suc, replicate}
-use Rattle.std.specs.List.{AllByRecursion, flat_map}
+use Rattle.std.specs.List.{AllByRecursion, flat_map, list_any}
+use Rattle.ror_text.specs.Lines.{is_control}
 use Rattle.ror_statement.specs.declared.statement.Statement.{Statement}
 use Rattle.ror_table.specs.Table.{DecisionTable}
 use Rattle.ror_value.specs.declared.input.Input.{Input}
@@ -11,6 +12,7 @@ use Rattle.ror_history.proofs.HistoryLemmas.{with_numbers_from-statements}
 use Rattle.ror_history.proofs.TurnLemmas.{next_number-first}
 use Rattle.ror_session.specs.declared.limits.TheConstants.{MOST_LINES}
 use Rattle.ror_session.specs.declared.session.Line.{Line}
+use Rattle.ror_session.specs.Grammar.{IsClean}
 use Rattle.ror_report.specs.declared.block.Block.{Block}
 use Rattle.ror_report.specs.Text.{block_text, header_text, end_text}
 use Rattle.ror_bench.specs.Allowed.{given_at}
@@ -46,6 +48,11 @@ numbers_left i (suc n) lines lawful few =
     let next = next_number-first i.opening in
     let statements = lawful.few in
     (omega (arith, next, statements, few), numbers_left i n lines lawful few)
+
+-- a desk's name has no control byte
+pub clean_control : (name : List ℕ) → IsClean name → list_any is_control name ≡ false
+clean_control [] clean = refl
+clean_control (b ∷ bs) clean = let here = clean.0 in let rest = clean_control bs clean.1 in grind (arith, here, rest)
 
 -- the text of a report of blocks
 abbrev pub text_of : Workbench → List Line → List Block → List ℕ

@@ -1,5 +1,5 @@
 -- Fetching a file and reading its bytes.
-use Rattle.std.proofs.Common.{◌≡◌, ℕ, ◌+◌, ◌<◌, ◌≤◌, ◌⊎◌, List, length, Option, Some, None, Result, Ok, Err, refl, sym, inl, inr, ◌∙◌, subst, arith}
+use Rattle.std.proofs.Common.{◌≡◌, ℕ, ◌+◌, ◌<◌, ◌≤◌, ◌⊎◌, List, length, Option, Some, None, Result, Ok, Err, refl, sym, inr, ◌∙◌, subst, arith}
 use Rattle.std.specs.Prelude.{replicate}
 use Rattle.std.proofs.lemmas.List.{length-replicate}
 use Rattle.std.specs.declared.vec.Vec.{Vec}
@@ -8,11 +8,12 @@ use Rattle.ror_io.specs.Counts.{Rose, DidNotRise, next_count}
 use Rattle.ror_io.specs.Fetching.{OnFailed, UnlessFailed}
 use Rattle.ror_io.specs.declared.shelf.ShelfFault.{ShelfFault}
 use Rattle.ror_io.specs.declared.shelf.ShelfFault.TheVariants as shelf_faults
+use Rattle.ror_bench.specs.declared.report.TheConstants.{MOST_REPORT_BYTES}
 use Rattle.ror_frame.specs.declared.stop.Refusal.{Refusal}
 use Rattle.ror_frame.specs.declared.stop.Stop.{Stop}
 use Rattle.ror_frame.specs.declared.stop.Stop.TheVariants as stops
 use Rattle.ror_frame.specs.States.{ShelfState}
-use Rattle.ror_frame.specs.Stops.{FilePlace, counted, stop_at_shelf, place_of, HidesNone}
+use Rattle.ror_frame.specs.Stops.{FilePlace, counted, last, stop_at_shelf, place_of, HidesNone}
 use Rattle.ror_frame.specs.Courses.{Fetched, IsFetch, IsWhole, IsTooLong, ReadAs}
 use Rattle.ror_frame.specs.declared.stop.Refusal.TheVariants as refusals
 use Rattle.ror_frame.specs.Inputs.{ReadsSession, RefusesSession, ReadsSuited, RefusesSuited}
@@ -102,6 +103,17 @@ read_there {A} {Y} name place most Refused Reads Refuses a b got result fetch re
     by (Err stops.ReadFault) reads = absurd reads
     by (Err stops.WriteFault) reads = absurd reads
     by (Err stops.Memory) reads = fetch.fetched.0
+
+-- ---- a report that was fetched whole
+
+-- has no more bytes than one may have
+pub short_report : {Y : Type 0} (name bytes : List ℕ) (Refused : List ℕ → Refusal → Type 0) (a b : ShelfState) (got : Vec ℕ Y) → bytes ≡ got.items → IsFetch name last (IsWhole MOST_REPORT_BYTES) Refused a b (Ok got) → length bytes ≤ MOST_REPORT_BYTES
+short_report name bytes Refused a b got same fetch = subst (λ (read : List ℕ). length read ≤ MOST_REPORT_BYTES) (sym (same ∙ fetch.fetched.3.0)) fetch.fetched.3.1
+
+-- and was judged by them
+pub judged_report : {A Y : Type 0} (name bytes : List ℕ) (Refused : List ℕ → Refusal → Type 0) (Reads : List ℕ → A → Type 0) (Refuses : List ℕ → Refusal → Type 0) (a b : ShelfState) (got : Vec ℕ Y) (result : Result A Stop) → bytes ≡ got.items → IsFetch name last (IsWhole MOST_REPORT_BYTES) Refused a b (Ok got) → ReadAs last Reads Refuses bytes result → IsFetch name last Reads Refuses a b result
+judged_report name bytes Refused Reads Refuses a b got result same fetch reads =
+    read_there name last MOST_REPORT_BYTES Refused Reads Refuses a b got result fetch (subst (λ (read : List ℕ). ReadAs last Reads Refuses read result) same reads)
 
 -- ---- a session that was read
 

@@ -10,6 +10,7 @@ use Rattle.ror_confidence.specs.declared.fault.LevelsFault.{LevelsFault}
 use Rattle.ror_confidence.specs.declared.fault.LevelsFault.TheVariants as levels_faults
 use Rattle.ror_bench.specs.declared.report.ReportError.{ReportError}
 use Rattle.ror_bench.specs.declared.report.ReportError.TheVariants as report_errors
+use Rattle.ror_bench.specs.declared.report.Reason.TheVariants as reasons
 use Rattle.ror_bench.specs.Reports.{IsFreeOfMemory}
 use Rattle.ror_frame.specs.declared.status.Status.{Status}
 use Rattle.ror_frame.specs.declared.status.Status.TheVariants as statuses
@@ -67,6 +68,10 @@ HidesNone (refusals.Rejected rejection) = IsFreeOfMemory rejection.reason
 HidesNone (refusals.Uncertified rejection) = IsFreeOfMemory rejection.reason
 HidesNone (refusals.BadLevels fault) = fault ≢ levels_faults.Memory
 HidesNone _ = Unit {0}
+
+-- the refusal of a report of too many bytes
+abbrev pub too_long_report : Refusal
+too_long_report = refusals.Rejected (record { block = 0; reason = reasons.TooLong })
 
 abbrev pub refused_status : Refusal → Status
 refused_status (refusals.BadTable fault) = statuses.BadTable fault

@@ -4,12 +4,13 @@ ghost use Rattle.std.specs.Prelude.{IfOk};
 ghost use Rattle.ror_value.specs.Over.{IsLawfulIn};
 ghost use Rattle.ror_session.specs.Sound.{IsSound};
 ghost use Rattle.ror_frame.specs.States.{shelf_state};
-ghost use Rattle.ror_frame.specs.Stops.{counted, place_of, HidesNone};
+ghost use Rattle.ror_frame.specs.Stops.{counted, last, place_of, too_long_report, HidesNone};
 ghost use Rattle.ror_frame.specs.Courses.{IsFetch, IsWhole, IsTooLong, ReadAs};
 ghost use Rattle.ror_closing.specs.Closing.{AreSuited, IsFirstUnsuited};
 ghost use Rattle.ror_frame.specs.Inputs.{ReadsTable, RefusesTable, ReadsSession, RefusesSession, ReadsSuited, RefusesSuited};
 
 use crate::stop::{Refusal, Stop};
+use ror_bench::{MOST_REPORT_BYTES, Reason, Rejection};
 use ror_closing::first_unsuited;
 use ror_io::{Fetched, Shelf};
 use ror_session::{Session, SessionFault, read_session};
@@ -41,6 +42,23 @@ pub fn fetch_whole<F: Shelf>(
         Fetched::Whole(bytes) => Ok(bytes),
         Fetched::Longer => Err(Stop::At(too_long)),
     }
+}
+
+/// Fetches a report whole. One of more bytes than a report may have is rejected.
+///
+/// # Errors
+///
+/// Besides, the shelf's faults are.
+pub fn fetch_report<F: Shelf>(alloc: Global, name: &str, shelf: &mut F) -> Result<Vec<u8>, Stop>
+    ensures { IsFetch name.now last (IsWhole MOST_REPORT_BYTES) (IsTooLong MOST_REPORT_BYTES too_long_report)
+        (shelf_state (F.told shelf.old) (F.faults shelf.old) (F.fetch_count shelf.old))
+        (shelf_state (F.told shelf.new) (F.faults shelf.new) (F.fetch_count shelf.new)) result }
+{
+    let too_long = Refusal::Rejected(Rejection {
+        block: 0,
+        reason: Reason::TooLong,
+    });
+    fetch_whole(alloc, name, MOST_REPORT_BYTES, too_long, shelf)
 }
 
 /// Fetches and reads the table, and the statements that come with it.

@@ -19,7 +19,7 @@ mod stop;
 mod texts;
 
 pub use closed::closed_desks;
-pub use files::{fetch_session, fetch_suited, fetch_table, fetch_whole};
+pub use files::{fetch_report, fetch_session, fetch_suited, fetch_table, fetch_whole};
 pub use status::Status;
 pub use stop::{Refusal, Stop};
 pub use texts::{conclude, write_accepted, write_status};
