@@ -1,5 +1,5 @@
 -- The check of entries: what each step of it leaves, and the errors that its faults are.
-use Rattle.std.proofs.Common.{inl, inr, ◌≡◌, ◌≢◌, ℕ, ◌+◌, ◌<◌, true, false, List, [], ◌∷◌, drop, Ok, Err, refl, sym, ap, ◌∙◌, subst, arith}
+use Rattle.std.proofs.Common.{inl, inr, ◌≡◌, ◌≢◌, ℕ, ◌+◌, ◌<◌, true, false, List, drop, Ok, Err, refl, subst, arith}
 use Rattle.std.specs.Prelude.{IfSome}
 use Rattle.ror_text.specs.Cursor.{cursor_at}
 use Rattle.ror_proof.specs.declared.read.ProofFault.{ProofFault}
@@ -15,11 +15,13 @@ use Rattle.ror_bench.specs.declared.report.ReportError.{ReportError}
 use Rattle.ror_bench.specs.declared.report.ReportError.TheVariants as errors
 use Rattle.ror_bench.specs.Reports.{IfRejected}
 use Rattle.ror_bench.specs.Steps.{with_passed, misread_error}
+use Rattle.ror_bench.proofs.ReportProofs.{same_accepted, both_ways, rejects_by}
 use Rattle.ror_entries.specs.declared.check.EntryFault.{EntryFault}
 use Rattle.ror_entries.specs.declared.check.EntryFault.TheVariants as faults
 use Rattle.ror_entries.specs.Kind.{Kind, IsKind, IsSameKind}
-use Rattle.ror_entries.specs.Reports.{EachAt, IsProvedEntries, IsAcceptedEntries, RejectsNext, RejectsEnd, IsRejectedFrom, IsRejectedEntries, end_misread, ends_early, entry_misread, refused, one_too_many, at_entry, at_end, later}
+use Rattle.ror_entries.specs.Reports.{IsProvedEntries, IsAcceptedEntries, RejectsNext, RejectsEnd, IsRejectedFrom, IsRejectedEntries, end_misread, ends_early, entry_misread, refused, one_too_many, at_entry, at_end, later}
 use Rattle.ror_entries.specs.Steps.{IfRefused, IsNextEntry, IsEarlyEnd, IsLateEntry, IsRest, refused_error}
+use Rattle.ror_entries.proofs.EachLemmas.{proved_is_accepted}
 use Rattle.ror_entries.proofs.SameLemmas.{rejects_next_same, rejects_end_same}
 use Rattle.ror_entries.proofs.RestLemmas.{rest_with, no_rest, proved_all, rejected_not_proved}
 
@@ -30,20 +32,8 @@ pub record IsWay {E : Type 0} (kind : Kind E) (bytes : List ℕ) (start place fr
   pub completes : (x : Accepted) → IsRest kind place (drop from bytes) x → IsProvedEntries kind (drop start bytes) (record { answers = accepted.answers + x.answers; wide = accepted.wide + x.wide })
   pub rejects : (rejection : Rejection) → IsRejectedFrom kind bytes rejection place from → IsRejectedEntries kind bytes start rejection
 
-same_accepted : (x y : Accepted) → x.answers ≡ y.answers → x.wide ≡ y.wide → x ≡ y
-same_accepted x y a w = ap (λ n. record { answers = n; wide = x.wide }) a ∙ ap (λ n. record { answers = y.answers; wide = n }) w
-
 from_nothing : (x : Accepted) → x ≡ record { answers = 0 + x.answers; wide = 0 + x.wide }
 from_nothing x = same_accepted x (record { answers = 0 + x.answers; wide = 0 + x.wide }) (omega arith) (omega arith)
-
-abbrev numbers_of : ℕ → ℕ → Accepted
-numbers_of answers wide = record { answers = answers; wide = wide }
-
-both_ways : (a x : Accepted) (p q : Passed) → q ≡ p → numbers_of (a.answers + (x.answers + p.answers)) (a.wide + (x.wide + p.wide)) ≡ numbers_of ((a.answers + q.answers) + x.answers) ((a.wide + q.wide) + x.wide)
-both_ways a x p q e =
-    let answers : p.answers ≡ q.answers = ap (λ (y : Passed). y.answers) (sym e) in
-    let wide : p.wide ≡ q.wide = ap (λ (y : Passed). y.wide) (sym e) in
-    same_accepted (numbers_of (a.answers + (x.answers + p.answers)) (a.wide + (x.wide + p.wide))) (numbers_of ((a.answers + q.answers) + x.answers) ((a.wide + q.wide) + x.wide)) (omega arith) (omega arith)
 
 module _ {E : Type 0} (kind : Kind E) (lawful : IsKind kind) where
   pub way_begins : (bytes : List ℕ) (start : ℕ) → IsWay kind bytes start 0 start (record { answers = 0; wide = 0 })
@@ -62,17 +52,9 @@ module _ {E : Type 0} (kind : Kind E) (lawful : IsKind kind) where
         rejects = λ rejection rest. way.rejects rejection (later place from next.entry after within next.no_end next.read next.proved rest);
       }
 
-  -- all proved entries are true
-  each_true : (place : ℕ) (es : List E) → EachAt kind.IsProved place es → EachAt kind.IsTrue place es
-  each_true place [] proved = tt
-  each_true place (e ∷ es) proved = (lawful.proved_is_true place e proved.0, each_true (place + 1) es proved.1)
-
-  pub proved_accepted : (bytes : List ℕ) (accepted : Accepted) → IsProvedEntries kind bytes accepted → IsAcceptedEntries kind bytes accepted
-  proved_accepted bytes accepted report = record { proved = report; entries_true = each_true 0 report.entries report.proved }
-
   pub way_ends : (bytes : List ℕ) (start place from : ℕ) (accepted : Accepted) → place ≡ kind.count → IsWay kind bytes start place from accepted → drop from bytes ≡ end_text kind.count → IsAcceptedEntries kind (drop start bytes) accepted
   way_ends bytes start place from accepted over way text =
-      proved_accepted (drop start bytes) accepted (subst (IsProvedEntries kind (drop start bytes)) (same_accepted (record { answers = accepted.answers + 0; wide = accepted.wide + 0 }) accepted (omega arith) (omega arith)) (way.completes (record { answers = 0; wide = 0 }) (no_rest kind lawful place (drop from bytes) over text)))
+      proved_is_accepted kind lawful (drop start bytes) accepted (subst (IsProvedEntries kind (drop start bytes)) (same_accepted (record { answers = accepted.answers + 0; wide = accepted.wide + 0 }) accepted (omega arith) (omega arith)) (way.completes (record { answers = 0; wide = 0 }) (no_rest kind lawful place (drop from bytes) over text)))
 
   -- what is read is an entry that has a text
   pub read_printable : (bytes : List ℕ) (from : ℕ) (e : E) (after : ℕ) → kind.reads (cursor_at bytes from) ≡ Ok (e, cursor_at bytes after) → kind.IsPrintable e
@@ -83,10 +65,6 @@ module _ {E : Type 0} (kind : Kind E) (lawful : IsKind kind) where
   none_proved bytes start errors.Memory rejects ne x report = ne refl
 
 -- ---- the errors of a check
-
-pub rejects_by : (P Q : Rejection → Type 0) (e : ReportError) → ((rejection : Rejection) → P rejection → Q rejection) → IfRejected P e → IfRejected Q e
-rejects_by P Q (errors.Rejected rejection) by h = by rejection h
-rejects_by P Q errors.Memory by h = tt
 
 abbrev AtBlock : ℕ → (Reason → Type 0) → Rejection → Type 0
 AtBlock block P rejection = (rejection.block ≡ block) × P rejection.reason

@@ -1,5 +1,5 @@
 -- Reports with a first line: one count, one first fault, and what was written of them.
-use Rattle.std.proofs.Common.{◌≡◌, ℕ, ◌+◌, ◌≤◌, ◌<◌, Bool, true, false, List, [], ◌∷◌, ◌++◌, length, drop, Option, Result, Ok, Err, refl, sym, ap, ◌∙◌, subst, length-append, arith}
+use Rattle.std.proofs.Common.{◌≡◌, ℕ, ◌+◌, ◌≤◌, Bool, true, false, List, [], ◌∷◌, ◌++◌, length, drop, Option, Result, Ok, Err, refl, sym, ap, ◌∙◌, subst, length-append, arith}
 use Rattle.std.specs.Prelude.{nat_eq}
 use Rattle.std.specs.List.{starts_with}
 use Rattle.std.specs.Str.{IsUtf8, is_utf8}
@@ -15,12 +15,14 @@ use Rattle.ror_bench.specs.declared.report.Reason.TheVariants as reasons
 use Rattle.ror_bench.specs.declared.report.ReportError.{ReportError}
 use Rattle.ror_bench.specs.declared.report.ReportError.TheVariants as errors
 use Rattle.ror_bench.specs.Reports.{IfRejected}
+use Rattle.ror_bench.proofs.UniqueLemmas.{true_not_false}
 use Rattle.ror_entries.specs.declared.write.EntriesStop.{EntriesStop}
 use Rattle.ror_entries.specs.declared.write.EntriesStop.TheVariants as stops
 use Rattle.ror_entries.specs.Kind.{Kind, IsKind, HasOneReason}
-use Rattle.ror_entries.specs.Reports.{EachAt, accepted_of, IsProvedEntries, IsAcceptedEntries, IsRejectedEntries}
-use Rattle.ror_entries.specs.Writing.{IsWholeText, IsBegunText, some_entries, WritesEntries}
-use Rattle.ror_entries.specs.Headed.{BehindHead, IsProvedHeaded, IsAcceptedHeaded, IsRejectedHeaded, not_utf8, other_head, in_entries, WritesHeaded}
+use Rattle.ror_entries.specs.Reports.{IsProvedEntries, IsAcceptedEntries, IsRejectedEntries}
+use Rattle.ror_entries.specs.Writing.{IsBegunText, some_entries, WritesEntries}
+use Rattle.ror_entries.specs.Headed.{IsProvedHeaded, IsAcceptedHeaded, IsRejectedHeaded, not_utf8, other_head, in_entries, WritesHeaded}
+use Rattle.ror_entries.proofs.EachLemmas.{proved_is_accepted}
 use Rattle.ror_entries.proofs.RestLemmas.{rejected_not_proved}
 use Rattle.ror_entries.proofs.SpellingLemmas.{one_count, one_rejection, entries_are_utf8}
 
@@ -45,9 +47,6 @@ head_within head bytes starts =
     let long = ap length (started head bytes starts) in
     omega (arith, long, length-append head (drop (length head) bytes))
 
-one_of_both : {b : Bool} → b ≡ true → b ≡ false → ⊥
-one_of_both e f = absurd (let both = sym e ∙ f in cc)
-
 -- ---- what is proved, and what is rejected
 
 module _ {E : Type 0} (head : List ℕ) (kind : Kind E) (lawful : IsKind kind) (head_utf8 : IsUtf8 head) (bytes : List ℕ) where
@@ -67,7 +66,7 @@ module _ {E : Type 0} (head : List ℕ) (kind : Kind E) (lawful : IsKind kind) (
   -- what is rejected is not proved
   pub rejected_headed_not_proved : (r : Rejection) (x : Accepted) → IsRejectedHeaded head kind bytes r → IsProvedHeaded head kind bytes x → ⊥
   rejected_headed_not_proved r x (not_utf8 bad is) p = bad (proved_utf8 x p)
-  rejected_headed_not_proved r x (other_head utf8 other is) p = one_of_both (starts head bytes p.0 p.1) other
+  rejected_headed_not_proved r x (other_head utf8 other is) p = true_not_false _ (starts head bytes p.0 p.1) other
   rejected_headed_not_proved r x (in_entries utf8 begins rejects) p =
       rejected_not_proved kind lawful bytes (length head) r x rejects (subst (λ (l : List ℕ). IsProvedEntries kind l x) (sym (behind head bytes p.0 p.1)) p.2)
 
@@ -78,21 +77,13 @@ module _ {E : Type 0} (head : List ℕ) (kind : Kind E) (lawful : IsKind kind) (
   one_headed_rejection reasons q r (not_utf8 bad is) (in_entries utf8 begins rejects) = absurd (bad utf8)
   one_headed_rejection reasons q r (other_head utf8 other is) (not_utf8 bad and) = absurd (bad utf8)
   one_headed_rejection reasons q r (other_head utf8 other is) (other_head text another and) = is ∙ sym and
-  one_headed_rejection reasons q r (other_head utf8 other is) (in_entries text begins rejects) = absurd (one_of_both begins other)
+  one_headed_rejection reasons q r (other_head utf8 other is) (in_entries text begins rejects) = absurd (true_not_false _ begins other)
   one_headed_rejection reasons q r (in_entries utf8 begins rejects) (not_utf8 bad and) = absurd (bad utf8)
-  one_headed_rejection reasons q r (in_entries utf8 begins rejects) (other_head text other and) = absurd (one_of_both begins other)
+  one_headed_rejection reasons q r (in_entries utf8 begins rejects) (other_head text other and) = absurd (true_not_false _ begins other)
   one_headed_rejection reasons q r (in_entries utf8 begins rejects) (in_entries text begins_too fails) =
       one_rejection kind lawful reasons bytes (length head) q r rejects fails
 
 -- what is proved is accepted
-pub each_by : {E : Type 0} (P Q : ℕ → E → Type 0) → ((place : ℕ) (x : E) → P place x → Q place x) → (place : ℕ) (xs : List E) → EachAt P place xs → EachAt Q place xs
-each_by P Q by place [] each = tt
-each_by P Q by place (x ∷ xs) each = (by place x each.0, each_by P Q by (place + 1) xs each.1)
-
-pub proved_is_accepted : {E : Type 0} (kind : Kind E) → IsKind kind → (body : List ℕ) (x : Accepted) → IsProvedEntries kind body x → IsAcceptedEntries kind body x
-proved_is_accepted kind lawful body x proved =
-    record { proved = proved; entries_true = each_by kind.IsProved kind.IsTrue lawful.proved_is_true 0 proved.entries proved.proved }
-
 pub headed_is_accepted : {E : Type 0} (head : List ℕ) (kind : Kind E) → IsKind kind → (bytes : List ℕ) (x : Accepted) → IsProvedHeaded head kind bytes x → IsAcceptedHeaded head kind bytes x
 headed_is_accepted head kind lawful bytes x p = (p.0, p.1, proved_is_accepted kind lawful p.0 x p.2)
 
@@ -129,7 +120,7 @@ module _ {E : Type 0} (head : List ℕ) (kind : Kind E) (Given : ℕ → E → T
 
 module _ {E : Type 0} (head : List ℕ) (kind : Kind E) (bytes : List ℕ) where
   pub no_text : is_utf8 bytes ≡ false → IfRejected (IsRejectedHeaded head kind bytes) (errors.Rejected (record { block = 0; reason = reasons.NotUtf8 }))
-  no_text off = not_utf8 (λ utf8. one_of_both (is_utf8-from_IsUtf8 bytes utf8) off) refl
+  no_text off = not_utf8 (λ utf8. true_not_false _ (is_utf8-from_IsUtf8 bytes utf8) off) refl
 
   pub other_line : is_utf8 bytes ≡ true → starts_with nat_eq bytes head ≡ false → IfRejected (IsRejectedHeaded head kind bytes) (errors.Rejected (record { block = 0; reason = reasons.BadLine 1 }))
   other_line text other = other_head (IsUtf8-from_is_utf8 bytes text) other refl

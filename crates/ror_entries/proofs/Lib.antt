@@ -1,3 +1,4 @@
+pub mod EachLemmas
 pub mod SameLemmas
 pub mod RestLemmas
 pub mod CheckLemmas

@@ -1,25 +1,21 @@
 -- What is left of a report behind an entry, and that what is rejected is not proved.
-use Rattle.std.proofs.Common.{◌≡◌, ℕ, ◌+◌, ◌<◌, ◌^◌, true, List, [], ◌∷◌, ◌++◌, length, drop, Result, Ok, refl, sym, ap, ◌∙◌, subst, append_assoc, arith}
+use Rattle.std.proofs.Common.{◌≡◌, ℕ, ◌+◌, ◌<◌, true, List, [], ◌∷◌, ◌++◌, length, drop, Result, Ok, refl, sym, ap, ◌∙◌, subst, append_assoc, arith}
 use Rattle.std.specs.List.{AllByRecursion, flat_map}
 use Rattle.ror_text.specs.Cursor.{Cursor, cursor_at}
 use Rattle.ror_proof.specs.declared.read.ProofFault.{ProofFault}
 use Rattle.ror_report.specs.Reading.{begins_end, end_at}
 use Rattle.ror_report.specs.Text.{end_text}
-use Rattle.ror_report.proofs.ReportLemmas.{end_is_text, end_reads_back}
-use Rattle.ror_report.proofs.LineForms.{end_begins}
+use Rattle.ror_report.proofs.ReportLemmas.{end_is_text}
 use Rattle.ror_bench.specs.declared.report.Accepted.{Accepted}
 use Rattle.ror_bench.specs.declared.report.Rejection.{Rejection}
 use Rattle.ror_bench.specs.declared.report.Reason.{Reason}
 use Rattle.ror_bench.specs.Steps.{with_passed}
-use Rattle.ror_bench.proofs.ReportProofs.{sums}
+use Rattle.ror_bench.proofs.ReportProofs.{sums, same_accepted, end_begins_end, end_read}
 use Rattle.ror_entries.specs.Kind.{Kind, IsKind}
 use Rattle.ror_entries.specs.Reports.{EachAt, accepted_of, IsProvedEntries, RejectsNext, RejectsEnd, IsRejectedFrom, IsRejectedEntries, end_misread, ends_early, entry_misread, refused, miscounted, one_too_many, at_entry, at_end, later}
 use Rattle.ror_entries.specs.Steps.{IsRest}
 
 -- ---- numbers
-
-same_accepted : (x y : Accepted) → x.answers ≡ y.answers → x.wide ≡ y.wide → x ≡ y
-same_accepted x y a w = ap (λ n. record { answers = n; wide = x.wide }) a ∙ ap (λ n. record { answers = y.answers; wide = n }) w
 
 -- the numbers of an entry and of those after it
 accepted_more : {E : Type 0} (kind : Kind E) (e : E) (es : List E) (x : Accepted) → x ≡ accepted_of kind es → with_passed x (kind.passed e) ≡ accepted_of kind (e ∷ es)
@@ -30,14 +26,6 @@ accepted_more kind e es x is =
     (let s = sums (λ x. (kind.passed x).wide) e es in omega (arith, s))
 
 -- ---- the last line
-
-end_begins_end : (bytes : List ℕ) (n : ℕ) → bytes ≡ end_text n → begins_end bytes ≡ true
-end_begins_end bytes n e =
-    let x = end_begins n in
-    ap begins_end (e ∙ x.1)
-
-end_read : (bytes : List ℕ) (from n : ℕ) → n < 2 ^ 32 → drop from bytes ≡ end_text n → end_at (cursor_at bytes from) ≡ Ok n
-end_read bytes from n small text = ap (λ (r : List ℕ). end_at (record { place = from; rest = r })) text ∙ end_reads_back from n small
 
 pub last_read : (bytes : List ℕ) (from n : ℕ) → end_at (cursor_at bytes from) ≡ Ok n → drop from bytes ≡ end_text n
 last_read bytes from n read = (end_is_text (cursor_at bytes from) n read).0

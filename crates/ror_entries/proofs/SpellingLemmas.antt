@@ -1,5 +1,5 @@
 -- Entries have one text, which is UTF-8, and one first fault.
-use Rattle.std.proofs.Common.{◌≡◌, ℕ, ◌+◌, Bool, true, false, List, [], ◌∷◌, ◌++◌, length, drop, Result, Ok, Err, refl, sym, ap, ◌∙◌, subst, append_assoc, arith}
+use Rattle.std.proofs.Common.{◌≡◌, ℕ, ◌+◌, true, false, List, [], ◌∷◌, ◌++◌, length, drop, Result, Ok, Err, refl, sym, ap, ◌∙◌, subst, append_assoc, arith}
 use Rattle.std.specs.List.{AllByRecursion, flat_map}
 use Rattle.std.specs.Str.{IsUtf8}
 use Rattle.std.proofs.lemmas.Str.{IsUtf8-append, IsUtf8-nil}
@@ -11,6 +11,7 @@ use Rattle.ror_report.proofs.Utf8Lemmas.{end_text_is_utf8}
 use Rattle.ror_bench.specs.declared.report.Rejection.{Rejection}
 use Rattle.ror_bench.specs.declared.report.Reason.{Reason}
 use Rattle.ror_bench.specs.Reports.{misread_reason}
+use Rattle.ror_bench.proofs.UniqueLemmas.{true_not_false}
 use Rattle.ror_entries.specs.Kind.{Kind, IsKind, HasOneReason}
 use Rattle.ror_entries.specs.Laws.{EntriesHaveOneText, HasOneCount, HasOneRejection, EntriesAreUtf8}
 use Rattle.ror_entries.specs.Reports.{accepted_of, RejectsNext, RejectsEnd, IsRejectedFrom, end_misread, ends_early, entry_misread, refused, miscounted, one_too_many, at_entry, at_end, later}
@@ -25,9 +26,6 @@ same_err r a b e f = (let both = sym e ∙ f in cc)
 ok_is_no_err : {A F : Type 0} (r : Result A F) (a : A) (b : F) → r ≡ Ok a → r ≡ Err b → ⊥
 ok_is_no_err r a b e f = absurd (let both = sym e ∙ f in cc)
 
-yes_is_no_no : {b : Bool} → b ≡ true → b ≡ false → ⊥
-yes_is_no_no e f = absurd (let both = sym e ∙ f in cc)
-
 begins_as_end : (n : ℕ) → begins_end (end_text n) ≡ true
 begins_as_end n = let x = end_begins n in ap begins_end x.1
 
@@ -40,7 +38,7 @@ module _ {E : Type 0} (kind : Kind E) (lawful : IsKind kind) where
       (lawful.read_iff_text (record { place = 0; rest = kind.text x ++ rest }) x (record { place = 0 + length (kind.text x); rest = rest })).1 (record { text = refl; place = refl; printable = printable; follows = follows })
 
   no_entry_at_end : (n : ℕ) (x : E) (rest : List ℕ) → kind.IsPrintable x → end_text n ≡ kind.text x ++ rest → ⊥
-  no_entry_at_end n x rest printable e = yes_is_no_no (begins_as_end n) (ap begins_end e ∙ lawful.begins_no_end x rest printable)
+  no_entry_at_end n x rest printable e = true_not_false _ (begins_as_end n) (ap begins_end e ∙ lawful.begins_no_end x rest printable)
 
   same_entries : (m n : ℕ) (xs ys : List E) → AllByRecursion kind.IsPrintable xs → AllByRecursion kind.IsPrintable ys → flat_map kind.text xs ++ end_text m ≡ flat_map kind.text ys ++ end_text n → xs ≡ ys
   same_entries m n [] [] px py e = refl
@@ -79,18 +77,18 @@ module _ {E : Type 0} (kind : Kind E) (lawful : IsKind kind) where
   one_next : HasOneReason kind → (bytes : List ℕ) (place from : ℕ) (one other : Reason) → RejectsNext kind bytes place from one → RejectsNext kind bytes place from other → one ≡ other
   one_next reasons bytes place from one other (end_misread f b r is) (end_misread f' b' r' is') = is ∙ ap (misread_reason bytes) (same_err (end_at (cursor_at bytes from)) f f' r r') ∙ sym is'
   one_next reasons bytes place from one other (end_misread f b r is) (ends_early n b' r' is') = absurd (ok_is_no_err (end_at (cursor_at bytes from)) n f r' r)
-  one_next reasons bytes place from one other (end_misread f b r is) (entry_misread f' b' r' is') = absurd (yes_is_no_no b b')
-  one_next reasons bytes place from one other (end_misread f b r is) (refused x a b' r' is') = absurd (yes_is_no_no b b')
+  one_next reasons bytes place from one other (end_misread f b r is) (entry_misread f' b' r' is') = absurd (true_not_false _ b b')
+  one_next reasons bytes place from one other (end_misread f b r is) (refused x a b' r' is') = absurd (true_not_false _ b b')
   one_next reasons bytes place from one other (ends_early n b r is) (end_misread f' b' r' is') = absurd (ok_is_no_err (end_at (cursor_at bytes from)) n f' r r')
   one_next reasons bytes place from one other (ends_early n b r is) (ends_early n' b' r' is') = is ∙ sym is'
-  one_next reasons bytes place from one other (ends_early n b r is) (entry_misread f' b' r' is') = absurd (yes_is_no_no b b')
-  one_next reasons bytes place from one other (ends_early n b r is) (refused x a b' r' is') = absurd (yes_is_no_no b b')
-  one_next reasons bytes place from one other (entry_misread f b r is) (end_misread f' b' r' is') = absurd (yes_is_no_no b' b)
-  one_next reasons bytes place from one other (entry_misread f b r is) (ends_early n b' r' is') = absurd (yes_is_no_no b' b)
+  one_next reasons bytes place from one other (ends_early n b r is) (entry_misread f' b' r' is') = absurd (true_not_false _ b b')
+  one_next reasons bytes place from one other (ends_early n b r is) (refused x a b' r' is') = absurd (true_not_false _ b b')
+  one_next reasons bytes place from one other (entry_misread f b r is) (end_misread f' b' r' is') = absurd (true_not_false _ b' b)
+  one_next reasons bytes place from one other (entry_misread f b r is) (ends_early n b' r' is') = absurd (true_not_false _ b' b)
   one_next reasons bytes place from one other (entry_misread f b r is) (entry_misread f' b' r' is') = is ∙ ap (misread_reason bytes) (same_err (kind.reads (cursor_at bytes from)) f f' r r') ∙ sym is'
   one_next reasons bytes place from one other (entry_misread f b r is) (refused x a b' r' is') = absurd (ok_is_no_err (kind.reads (cursor_at bytes from)) (x, cursor_at bytes a) f r' r)
-  one_next reasons bytes place from one other (refused x a b r is) (end_misread f' b' r' is') = absurd (yes_is_no_no b' b)
-  one_next reasons bytes place from one other (refused x a b r is) (ends_early n b' r' is') = absurd (yes_is_no_no b' b)
+  one_next reasons bytes place from one other (refused x a b r is) (end_misread f' b' r' is') = absurd (true_not_false _ b' b)
+  one_next reasons bytes place from one other (refused x a b r is) (ends_early n b' r' is') = absurd (true_not_false _ b' b)
   one_next reasons bytes place from one other (refused x a b r is) (entry_misread f' b' r' is') = absurd (ok_is_no_err (kind.reads (cursor_at bytes from)) (x, cursor_at bytes a) f' r r')
   one_next reasons bytes place from one other (refused x a b r is) (refused x' a' b' r' is') =
       let both = same_ok (kind.reads (cursor_at bytes from)) (x, cursor_at bytes a) (x', cursor_at bytes a') r r' in
@@ -99,25 +97,25 @@ module _ {E : Type 0} (kind : Kind E) (lawful : IsKind kind) where
   one_end : (bytes : List ℕ) (from : ℕ) (one other : Reason) → RejectsEnd kind bytes from one → RejectsEnd kind bytes from other → one ≡ other
   one_end bytes from one other (end_misread f b r is) (end_misread f' b' r' is') = is ∙ ap (misread_reason bytes) (same_err (end_at (cursor_at bytes from)) f f' r r') ∙ sym is'
   one_end bytes from one other (end_misread f b r is) (miscounted n b' r' ne is') = absurd (ok_is_no_err (end_at (cursor_at bytes from)) n f r' r)
-  one_end bytes from one other (end_misread f b r is) (entry_misread f' b' r' is') = absurd (yes_is_no_no b b')
-  one_end bytes from one other (end_misread f b r is) (one_too_many x a b' r' is') = absurd (yes_is_no_no b b')
+  one_end bytes from one other (end_misread f b r is) (entry_misread f' b' r' is') = absurd (true_not_false _ b b')
+  one_end bytes from one other (end_misread f b r is) (one_too_many x a b' r' is') = absurd (true_not_false _ b b')
   one_end bytes from one other (miscounted n b r ne is) (end_misread f' b' r' is') = absurd (ok_is_no_err (end_at (cursor_at bytes from)) n f' r r')
   one_end bytes from one other (miscounted n b r ne is) (miscounted n' b' r' ne' is') = is ∙ sym is'
-  one_end bytes from one other (miscounted n b r ne is) (entry_misread f' b' r' is') = absurd (yes_is_no_no b b')
-  one_end bytes from one other (miscounted n b r ne is) (one_too_many x a b' r' is') = absurd (yes_is_no_no b b')
-  one_end bytes from one other (entry_misread f b r is) (end_misread f' b' r' is') = absurd (yes_is_no_no b' b)
-  one_end bytes from one other (entry_misread f b r is) (miscounted n b' r' ne is') = absurd (yes_is_no_no b' b)
+  one_end bytes from one other (miscounted n b r ne is) (entry_misread f' b' r' is') = absurd (true_not_false _ b b')
+  one_end bytes from one other (miscounted n b r ne is) (one_too_many x a b' r' is') = absurd (true_not_false _ b b')
+  one_end bytes from one other (entry_misread f b r is) (end_misread f' b' r' is') = absurd (true_not_false _ b' b)
+  one_end bytes from one other (entry_misread f b r is) (miscounted n b' r' ne is') = absurd (true_not_false _ b' b)
   one_end bytes from one other (entry_misread f b r is) (entry_misread f' b' r' is') = is ∙ ap (misread_reason bytes) (same_err (kind.reads (cursor_at bytes from)) f f' r r') ∙ sym is'
   one_end bytes from one other (entry_misread f b r is) (one_too_many x a b' r' is') = absurd (ok_is_no_err (kind.reads (cursor_at bytes from)) (x, cursor_at bytes a) f r' r)
-  one_end bytes from one other (one_too_many x a b r is) (end_misread f' b' r' is') = absurd (yes_is_no_no b' b)
-  one_end bytes from one other (one_too_many x a b r is) (miscounted n b' r' ne is') = absurd (yes_is_no_no b' b)
+  one_end bytes from one other (one_too_many x a b r is) (end_misread f' b' r' is') = absurd (true_not_false _ b' b)
+  one_end bytes from one other (one_too_many x a b r is) (miscounted n b' r' ne is') = absurd (true_not_false _ b' b)
   one_end bytes from one other (one_too_many x a b r is) (entry_misread f' b' r' is') = absurd (ok_is_no_err (kind.reads (cursor_at bytes from)) (x, cursor_at bytes a) f' r r')
   one_end bytes from one other (one_too_many x a b r is) (one_too_many x' a' b' r' is') = is ∙ sym is'
 
   -- an entry that is read and proved is not rejected
   proved_is_next : (bytes : List ℕ) (place from : ℕ) (x : E) (after : ℕ) (reason : Reason) → begins_end (drop from bytes) ≡ false → kind.reads (cursor_at bytes from) ≡ Ok (x, cursor_at bytes after) → kind.IsProved place x → RejectsNext kind bytes place from reason → ⊥
-  proved_is_next bytes place from x after reason none read proved (end_misread f b r is) = yes_is_no_no b none
-  proved_is_next bytes place from x after reason none read proved (ends_early n b r is) = yes_is_no_no b none
+  proved_is_next bytes place from x after reason none read proved (end_misread f b r is) = true_not_false _ b none
+  proved_is_next bytes place from x after reason none read proved (ends_early n b r is) = true_not_false _ b none
   proved_is_next bytes place from x after reason none read proved (entry_misread f b r is) = ok_is_no_err (kind.reads (cursor_at bytes from)) (x, cursor_at bytes after) f read r
   proved_is_next bytes place from x after reason none read proved (refused y a b r refuses) =
       let both = same_ok (kind.reads (cursor_at bytes from)) (x, cursor_at bytes after) (y, cursor_at bytes a) read r in

@@ -13,6 +13,8 @@ use Rattle.ror_entries.specs.Kind.{Kind}
 use Rattle.ror_entries.specs.Laws.{GivenAreProved}
 use Rattle.ror_entries.specs.Reports.{EachAt, accepted_of}
 use Rattle.ror_entries.specs.Writing.{IsFirstText, IsWholeText, some_entries, all_entries, WritesEntries, MakesEntries, WritesText}
+use Rattle.ror_bench.proofs.WideLemmas.{some_of_either}
+use Rattle.ror_entries.proofs.EachLemmas.{each_by}
 use Rattle.ror_entries.specs.declared.write.EntriesStop.{EntriesStop}
 use Rattle.ror_entries.specs.declared.write.EntriesStop.TheVariants as stops
 
@@ -22,9 +24,6 @@ each_more P place [] x all one = (subst (λ n. P n x) (omega arith) one, tt)
 each_more P place (y ∷ ys) x all one =
     let here : place + length (y ∷ ys) ≡ (place + 1) + length ys = omega arith in
     (all.0, each_more P (place + 1) ys x all.1 (subst (λ n. P n x) here one))
-
-some_of_either : (m n : ℕ) → nat_lt 0 (m + n) ≡ (nat_lt 0 m || nat_lt 0 n)
-some_of_either m n = grind arith
 
 -- whether anything is too wide, with one more entry
 wide_more : {E : Type 0} (kind : Kind E) (xs : List E) (x : E) → nat_lt 0 (accepted_of kind (xs ++ x ∷ [])).wide ≡ (nat_lt 0 (accepted_of kind xs).wide || nat_lt 0 (kind.passed x).wide)
@@ -139,16 +138,12 @@ module _ {E : Type 0} (kind : Kind E) (Given : ℕ → E → Type 0) where
 
   -- ---- what is written is proved
 
-  each_proved : ((place : ℕ) (x : E) → Given place x → kind.IsProved place x) → (place : ℕ) (xs : List E) → EachAt Given place xs → EachAt kind.IsProved place xs
-  each_proved by place [] all = tt
-  each_proved by place (x ∷ xs) all = (by place x all.0, each_proved by (place + 1) xs all.1)
-
   pub given_are_proved : GivenAreProved kind Given
   given_are_proved by text xs whole = record {
     entries = xs;
     all_due = whole.all_due;
     text = whole.text_is;
     printable = whole.made.printable;
-    proved = each_proved by 0 xs whole.made.given;
+    proved = each_by Given kind.IsProved by 0 xs whole.made.given;
     counted = refl;
   }
