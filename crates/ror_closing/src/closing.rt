@@ -78,8 +78,9 @@ pub fn closing_lists(
     Ok(lists)
 }
 
-/// What stands at a desk after all lines, those that ask passed over, with its numbers: what may stand over the bench's table. No
-/// line repairs. The bench has a number left for each line at each desk, and its table stays. Its one error is want of memory.
+/// What stands at a desk after all lines, those that ask passed over, with its numbers: what may stand over the bench's table. That
+/// is one list where the lines are suited, which the caller sees to: what a line that repairs leaves goes by a width. The bench has a
+/// number left for each line at each desk, and its table stays. Its one error is want of memory.
 pub fn closing_standing(
     alloc: Global,
     bench: &mut Bench,

@@ -1,17 +1,15 @@
-use Rattle.std.proofs.Common.{arith, Bool, IsTrue, true, false, ◌≡◌, ◌∙◌, sym, subst}
+use Rattle.std.proofs.Common.{arith, true, false, subst}
 use Rattle.std.proofs.lemmas.List.{take_all}
+use Rattle.ror_bench.proofs.UniqueLemmas.{true_not_false}
 use Rattle.ror_closing.specs.Closing.{AreSuited}
 use Rattle.ror_closing.proofs.ClosingLemmas.{suited_more, first_here}
 use Rattle.ror_closing.proofs.closing.first_unsuited.Goals as goal
-
-isnt : {b : Bool} → IsTrue b → b ≡ false → ⊥
-isnt t f = absurd (let no : false ≡ true = sym f ∙ t in cc)
 
 pub loop-line-init : goal.loop-line-init
 loop-line-init c = tt
 
 pub loop-line-preserved : goal.loop-line-preserved
-loop-line-preserved c = suited_more c.args.lines.now c.loop-line.line-index c.line-item.result c.loop-line-test.true c.line-item.is c.loop-line.invariant (λ is. isnt (c.is_unsuited.ensures.1 is) c.if-is_unsuited.false)
+loop-line-preserved c = suited_more c.args.lines.now c.loop-line.line-index c.line-item.result c.loop-line-test.true c.line-item.is c.loop-line.invariant (λ is. true_not_false _ (c.is_unsuited.ensures.1 is) c.if-is_unsuited.false)
 
 pub returns : goal.returns
 returns c = subst AreSuited (take_all c.loop-line.line-index c.args.lines.now (omega arith)) c.loop-line.invariant
