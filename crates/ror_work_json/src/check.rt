@@ -5,13 +5,13 @@ ghost use Rattle.ror_value.specs.Over.{IsLawfulIn};
 ghost use Rattle.ror_session.specs.Sound.{IsSound};
 ghost use Rattle.ror_words.specs.Named.{inputs_of};
 ghost use Rattle.ror_frame.specs.States.{shelf_state, sink_state};
-ghost use Rattle.ror_frame.specs.Courses.{IsFetch, ReadAs, IsWork};
+ghost use Rattle.ror_frame.specs.Courses.{ReadAs, IsWork};
 ghost use Rattle.ror_frame.specs.Stops.{last};
 ghost use Rattle.ror_work_json.specs.Json.{ProvesJson, RefusesJson, check_json_chore};
 
 use crate::blocks::check_text;
-use ror_bench::{Accepted, Bench, MOST_REPORT_BYTES, Reason, Rejection};
-use ror_frame::{Refusal, Stop, conclude, fetch_session, fetch_table, fetch_whole};
+use ror_bench::{Accepted, Bench, MOST_REPORT_BYTES};
+use ror_frame::{Stop, conclude, fetch_report, fetch_session, fetch_table};
 use ror_io::{Shelf, Sink};
 use ror_session::Session;
 use ror_words::FileNames;
@@ -42,30 +42,9 @@ pub fn check_json_files<F: Shelf, O: Sink>(
 {
     let input = fetch_table(alloc, names, shelf)?;
     let session = fetch_session(alloc, names, shelf)?;
-    let accepted = fetch_report(alloc, report, shelf, input, &session)?;
+    let bytes = fetch_report(alloc, report, shelf)?;
+    let accepted = answers_in(alloc, input, &session, bytes.as_slice())?;
     conclude(out, accepted)
-}
-
-/// Fetches and checks the report, and counts its answers.
-fn fetch_report<F: Shelf>(
-    alloc: Global,
-    report: &str,
-    shelf: &mut F,
-    input: Input,
-    session: &Session,
-) -> Result<Accepted, Stop>
-    requires lawful { IsLawfulIn input.table input.opening }
-    requires sound { IsSound session.now }
-    ensures { IsFetch report.now last (ProvesJson input session.now) (RefusesJson input session.now)
-        (shelf_state (F.told shelf.old) (F.faults shelf.old) (F.fetch_count shelf.old))
-        (shelf_state (F.told shelf.new) (F.faults shelf.new) (F.fetch_count shelf.new)) result }
-{
-    let too_long = Refusal::Rejected(Rejection {
-        block: 0,
-        reason: Reason::TooLong,
-    });
-    let bytes = fetch_whole(alloc, report, MOST_REPORT_BYTES, too_long, shelf)?;
-    answers_in(alloc, input, session, bytes.as_slice())
 }
 
 /// Checks the bytes of a report, and counts its answers.
