@@ -40,7 +40,7 @@ module _ (i : Input) (s : Session) (table : IsTable i.table) (lawful : IsLawfulI
   kind_of_lists lists closing = are_kind i.table lists table (lawful_lists (bench_for i s) s.lines lists (lawful_desks i (length s.desks) lawful) closing)
 
   module _ (suited : AreSuited s.lines) (bytes : List ℕ) where
-    one_lists : (xs ys : List (List Statement)) → AreClosingLists (bench_for i s) s.lines xs → AreClosingLists (bench_for i s) s.lines ys → xs ≡ ys
+    pub one_lists : (xs ys : List (List Statement)) → AreClosingLists (bench_for i s) s.lines xs → AreClosingLists (bench_for i s) s.lines ys → xs ≡ ys
     one_lists xs ys first second = one_closing (bench_for i s) (bench_for i s) s.lines xs ys (refl, refl) suited first second
 
     -- two of what stands behind the head are over the same lists, and the same bytes

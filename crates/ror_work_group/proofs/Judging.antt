@@ -1,10 +1,9 @@
 -- What a check of a group's report comes to, by its steps.
-use Rattle.std.proofs.Common.{◌≡◌, ℕ, ◌≤◌, true, false, List, [], ◌∷◌, length, None, Ok, Err, refl, sym, subst, arith}
+use Rattle.std.proofs.Common.{◌≡◌, ℕ, ◌≤◌, true, List, [], ◌∷◌, length, None, Ok, Err, refl, sym, subst, arith}
 use Rattle.std.specs.Prelude.{IfSome, nat_le}
-use Rattle.std.specs.List.{AllByRecursion, list_any}
+use Rattle.std.specs.List.{AllByRecursion}
 use Rattle.std.specs.Str.{IsUtf8}
 use Rattle.ror_text.specs.Cursor.{Cursor}
-use Rattle.ror_text.specs.Lines.{is_control}
 use Rattle.ror_statement.specs.declared.statement.Statement.{Statement}
 use Rattle.ror_table.specs.Table.{DecisionTable, IsTable}
 use Rattle.ror_value.specs.declared.input.Input.{Input}
@@ -28,6 +27,7 @@ use Rattle.ror_entries.specs.declared.check.EntryFault.{EntryFault}
 use Rattle.ror_entries.specs.declared.check.EntryFault.TheVariants as entry_faults
 use Rattle.ror_entries.specs.Steps.{IfRefused}
 use Rattle.ror_entries.specs.Reports.{IsProvedEntries, IsRejectedEntries}
+use Rattle.ror_entries.proofs.EachLemmas.{proved_is_accepted}
 use Rattle.ror_frame.specs.declared.stop.Refusal.{Refusal}
 use Rattle.ror_frame.specs.declared.stop.Refusal.TheVariants as refusals
 use Rattle.ror_frame.specs.declared.stop.Stop.{Stop}
@@ -35,12 +35,12 @@ use Rattle.ror_frame.specs.declared.stop.Stop.TheVariants as stops
 use Rattle.ror_frame.specs.Stops.{last, stop_at_report}
 use Rattle.ror_frame.specs.Courses.{IsTooLong, ReadAs}
 use Rattle.ror_frame.specs.Inputs.{bench_for}
-use Rattle.ror_work_group.specs.Entries.{group_kind, IsOnPairAt, IsProvedEntry, RefusesEntry, at_fault}
+use Rattle.ror_frame.proofs.Desks.{clean_control}
+use Rattle.ror_work_group.specs.Entries.{group_kind, IsOnPairAt, RefusesEntry, at_fault}
 use Rattle.ror_work_group.specs.Steps.{RefusesPair}
 use Rattle.ror_work_group.specs.Group.{ProvesGroup, IsAcceptedGroup, too_long, not_utf8, in_head, in_entries, RefusesGroup, head_reason}
 use Rattle.ror_group.proofs.HeadLemmas.{whole_is_text}
 use Rattle.ror_work_group.proofs.GroupCourses.{kind_of_lists}
-use Rattle.ror_work_group.proofs.Writing.{each_by}
 
 -- ---- an entry
 
@@ -84,14 +84,10 @@ accepted_too i s bytes x table lawful p =
       head = a.head;
       lists = a.lists;
       closing = a.closing;
-      body = record { proved = a.body; entries_true = each_by (IsProvedEntry i.table a.lists) (λ place e. (group_kind i.table a.lists).IsTrue place e) kind.proved_is_true 0 a.body.entries a.body.proved };
+      body = proved_is_accepted (group_kind i.table a.lists) kind a.after.rest x a.body;
     }
 
 -- ---- names of desks
-
-clean_control : (name : List ℕ) → IsClean name → list_any is_control name ≡ false
-clean_control [] clean = refl
-clean_control (b ∷ bs) clean = let here = clean.0 in let rest = clean_control bs clean.1 in grind (arith, here, rest)
 
 name_visible : (name : List ℕ) → length name ≤ MOST_DESK_NAME_BYTES → IsClean name → is_visible_name name ≡ true
 name_visible name short clean =

@@ -1,6 +1,6 @@
 -- The entries of a group's report are a kind, of which each is refused for one reason.
-use Rattle.std.proofs.Common.{◌≡◌, ℕ, zero, suc, false, List, [], ◌∷◌, ◌++◌, length, Some, refl, sym, ap, ◌∙◌, subst, arith}
-use Rattle.std.specs.Prelude.{slice_get, codes}
+use Rattle.std.proofs.Common.{◌≡◌, ℕ, List, ◌++◌, length, Some, refl, sym, ap, ◌∙◌, subst, arith}
+use Rattle.std.specs.Prelude.{slice_get}
 use Rattle.std.specs.List.{AllByRecursion}
 use Rattle.ror_text.specs.FirstFault.{IsFirst}
 use Rattle.ror_text.proofs.Everywhere.{all_at}
@@ -27,6 +27,7 @@ use Rattle.ror_group.proofs.EntryLemmas.{is_read_iff_text}
 use Rattle.ror_group.proofs.EntryLines.{entry_begins}
 use Rattle.ror_group.proofs.EntryUtf8.{entry_text_is_utf8}
 use Rattle.ror_entries.specs.Kind.{IsKind, HasOneReason}
+use Rattle.ror_entries.proofs.EachLemmas.{pair_begins_no_end}
 use Rattle.ror_work_group.specs.Entries.{pairs_of, IsOnPairAt, IsProvedEntry, IsTrueEntry, RefusesEntry, other_pair, at_fault, reason_of, group_kind}
 
 -- ---- the pair at a place
@@ -93,9 +94,6 @@ module _ (t : DecisionTable) (lists : List (List Statement)) where
 
 -- ---- the kind
 
-begins_no_end : (more : List ℕ) → begins_end (codes "pair " ++ more) ≡ false
-begins_no_end more = refl
-
 module _ (t : DecisionTable) (lists : List (List Statement)) (table : IsTable t) (lawful : AllByRecursion (IsLawfulIn t) lists) where
   proved_true : (place : ℕ) (x : Entry) → IsProvedEntry t lists place x → IsTrueEntry t lists x
   proved_true place x proved =
@@ -117,7 +115,7 @@ module _ (t : DecisionTable) (lists : List (List Statement)) (table : IsTable t)
         ((λ read. let text = same.0 read in record { text = text.text; place = text.place; printable = text.printable; follows = tt }), λ text. same.1 (record { text = text.text; place = text.place; printable = text.printable }));
     begins_no_end = λ x rest printable.
         let begins = entry_begins t x in
-        ap (λ (text : List ℕ). begins_end (text ++ rest)) begins.1 ∙ begins_no_end (begins.0 ++ rest);
+        ap (λ (text : List ℕ). begins_end (text ++ rest)) begins.1 ∙ pair_begins_no_end (begins.0 ++ rest);
     entry_follows = λ x next rest has printable. tt;
     end_follows = λ x n has. tt;
     utf8 = λ x printable. entry_text_is_utf8 t x table printable;

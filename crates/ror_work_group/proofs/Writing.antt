@@ -16,8 +16,9 @@ use Rattle.ror_group.specs.Combining.{Asked, asked_on, InStep}
 use Rattle.ror_group.specs.Proof.{IsWideOrProvedFor}
 use Rattle.ror_group.specs.Head.{head_text, is_desk_name}
 use Rattle.ror_entries.specs.Kind.{IsKind}
-use Rattle.ror_entries.specs.Reports.{EachAt, accepted_of, IsAcceptedEntries}
+use Rattle.ror_entries.specs.Reports.{accepted_of, IsAcceptedEntries}
 use Rattle.ror_entries.specs.Writing.{IsWholeText, IsBegunText}
+use Rattle.ror_entries.proofs.EachLemmas.{proved_is_accepted}
 use Rattle.ror_entries.proofs.WriteLemmas.{given_are_proved}
 use Rattle.ror_frame.specs.declared.stop.Stop.TheVariants as stops
 use Rattle.ror_frame.specs.States.{SinkState}
@@ -40,7 +41,7 @@ answer_proved most t asked x given =
     let proved = given_unless_wide most t asked.list asked.question x given in
     record { question = proved.question; proof = proved.proof }
 
-given_proved : (most : ℕ) (t : DecisionTable) (lists : List (List Statement)) (place : ℕ) (x : Entry) → IsGivenEntry most t lists place x → IsProvedEntry t lists place x
+pub given_proved : (most : ℕ) (t : DecisionTable) (lists : List (List Statement)) (place : ℕ) (x : Entry) → IsGivenEntry most t lists place x → IsProvedEntry t lists place x
 given_proved most t lists place x given = record {
   pair = given.pair;
   proved = record {
@@ -49,14 +50,9 @@ given_proved most t lists place x given = record {
   };
 }
 
-pub each_by : (P Q : ℕ → Entry → Type 0) → ((place : ℕ) (x : Entry) → P place x → Q place x) → (place : ℕ) (xs : List Entry) → EachAt P place xs → EachAt Q place xs
-each_by P Q by place [] each = tt
-each_by P Q by place (x ∷ xs) each = (by place x each.0, each_by P Q by (place + 1) xs each.1)
-
 accepted_whole : (most : ℕ) (t : DecisionTable) (lists : List (List Statement)) (body : List ℕ) (entries : List Entry) → IsKind (group_kind t lists) → IsWholeText (group_kind t lists) (IsGivenEntry most t lists) body entries → IsAcceptedEntries (group_kind t lists) body (accepted_of (group_kind t lists) entries)
 accepted_whole most t lists body entries kind whole =
-    let proved = given_are_proved (group_kind t lists) (IsGivenEntry most t lists) (given_proved most t lists) body entries whole in
-    record { proved = proved; entries_true = each_by (IsProvedEntry t lists) (λ place x. (group_kind t lists).IsTrue place x) kind.proved_is_true 0 proved.entries proved.proved }
+    proved_is_accepted (group_kind t lists) kind body (accepted_of (group_kind t lists) entries) (given_are_proved (group_kind t lists) (IsGivenEntry most t lists) (given_proved most t lists) body entries whole)
 
 -- ---- the report
 
