@@ -8,14 +8,14 @@ ghost use Rattle.ror_value.specs.Over.{IsLawfulIn};
 ghost use Rattle.ror_closing.specs.Closing.{AreSuited, AreClosingLists};
 ghost use Rattle.ror_words.specs.Named.{inputs_of};
 ghost use Rattle.ror_frame.specs.States.{shelf_state, sink_state};
-ghost use Rattle.ror_frame.specs.Courses.{IsFetch, ReadAs, IsWork};
+ghost use Rattle.ror_frame.specs.Courses.{ReadAs, IsWork};
 ghost use Rattle.ror_frame.specs.Stops.{last};
 ghost use Rattle.ror_work_group.specs.Group.{ProvesGroup, RefusesGroup, check_group_chore, head_reason};
 
 use crate::judge::GroupJudge;
 use ror_bench::{Accepted, MOST_REPORT_BYTES, Reason, Rejection};
 use ror_entries::{check_entries, misread};
-use ror_frame::{Refusal, Stop, closed_desks, conclude, fetch_suited, fetch_table, fetch_whole};
+use ror_frame::{Refusal, Stop, closed_desks, conclude, fetch_report, fetch_suited, fetch_table};
 use ror_group::head::{HeadFault, check_whole_head};
 use ror_io::{Shelf, Sink};
 use ror_session::Session;
@@ -47,31 +47,9 @@ pub fn check_group_files<F: Shelf, O: Sink>(
 {
     let input = fetch_table(alloc, names, shelf)?;
     let session = fetch_suited(alloc, names, shelf)?;
-    let accepted = fetch_report(alloc, report, shelf, input, &session)?;
+    let bytes = fetch_report(alloc, report, shelf)?;
+    let accepted = answers_in(alloc, input, &session, bytes.as_slice())?;
     conclude(out, accepted)
-}
-
-/// Fetches and checks the report, and counts its answers.
-fn fetch_report<F: Shelf>(
-    alloc: Global,
-    report: &str,
-    shelf: &mut F,
-    input: Input,
-    session: &Session,
-) -> Result<Accepted, Stop>
-    requires lawful { IsLawfulIn input.table input.opening }
-    requires sound { IsSound session.now }
-    requires suited { AreSuited session.now.lines }
-    ensures { IsFetch report.now last (ProvesGroup input session.now) (RefusesGroup input session.now)
-        (shelf_state (F.told shelf.old) (F.faults shelf.old) (F.fetch_count shelf.old))
-        (shelf_state (F.told shelf.new) (F.faults shelf.new) (F.fetch_count shelf.new)) result }
-{
-    let too_long = Refusal::Rejected(Rejection {
-        block: 0,
-        reason: Reason::TooLong,
-    });
-    let bytes = fetch_whole(alloc, report, MOST_REPORT_BYTES, too_long, shelf)?;
-    answers_in(alloc, input, session, bytes.as_slice())
 }
 
 /// Checks the bytes of a report, and counts its answers.

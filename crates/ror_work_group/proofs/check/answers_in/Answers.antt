@@ -1,4 +1,4 @@
-use Rattle.std.proofs.Common.{◌≡◌, ◌∙◌, Bool, true, false, List, ℕ, Ok, Err, drop, sym, subst}
+use Rattle.std.proofs.Common.{◌≡◌, ◌∙◌, true, false, List, ℕ, Ok, Err, drop, sym, subst}
 use Rattle.std.specs.Str.{IsUtf8}
 use Rattle.std.specs.Prelude.{IfSome}
 use Rattle.std.proofs.lemmas.Result.{err_from_is_err_and}
@@ -6,6 +6,7 @@ use Rattle.std.proofs.lemmas.Str.{IsUtf8-from_is_utf8, is_utf8-from_IsUtf8}
 use Rattle.ror_text.specs.Cursor.{cursor_at}
 use Rattle.ror_table.specs.Table.{DecisionTable}
 use Rattle.ror_bench.specs.Reports.{IfRejected}
+use Rattle.ror_bench.proofs.UniqueLemmas.{true_not_false}
 use Rattle.ror_group.specs.Head.{head_fault, whole_head_at}
 use Rattle.ror_entries.specs.Reports.{IsProvedEntries, IsRejectedEntries}
 use Rattle.ror_work_group.specs.Entries.{group_kind}
@@ -15,11 +16,8 @@ use Rattle.ror_work_group.proofs.check.answers_in.Goals as goal
 pub returns-then-not-is_utf8 : goal.returns-then-not-is_utf8
 returns-then-not-is_utf8 c =
     let bytes = c.args.bytes.now in
-    let bad : ¬ (IsUtf8 bytes) = λ utf8. off (c.is_utf8.ensures ∙ is_utf8-from_IsUtf8 bytes utf8) c.if-not-is_utf8.true in
+    let bad : ¬ (IsUtf8 bytes) = λ utf8. true_not_false _ (c.is_utf8.ensures ∙ is_utf8-from_IsUtf8 bytes utf8) c.if-not-is_utf8.true in
     rw c.rejected.ensures (no_text c.args.input c.args.session.now bytes c.requires.within bad)
-  where
-    off : {b : Bool} → b ≡ true → b ≡ false → ⊥
-    off p q = absurd cc
 
 pub returns-in-Err : goal.returns-in-Err
 returns-in-Err c =
