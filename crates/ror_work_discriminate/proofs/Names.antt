@@ -1,19 +1,14 @@
 -- The names of a session's desks are those that a report may have.
-use Rattle.std.proofs.Common.{◌≡◌, ℕ, ◌≤◌, true, false, List, [], ◌∷◌, length, refl, arith}
+use Rattle.std.proofs.Common.{◌≡◌, ℕ, ◌≤◌, true, List, length, refl, arith}
 use Rattle.std.specs.Prelude.{nat_le, slice_get, Some}
-use Rattle.std.specs.List.{list_any}
 use Rattle.std.specs.Str.{IsUtf8, is_utf8}
 use Rattle.std.proofs.lemmas.Str.{is_utf8-from_IsUtf8}
-use Rattle.ror_text.specs.Lines.{is_control}
 use Rattle.ror_text.proofs.Everywhere.{all_at}
 use Rattle.ror_session.specs.Grammar.{IsClean}
 use Rattle.ror_session.specs.declared.limits.TheConstants.{MOST_DESK_NAME_BYTES}
 use Rattle.ror_discriminate.specs.Head.{is_desk_name}
+use Rattle.ror_frame.proofs.Desks.{clean_control}
 use Rattle.ror_work_discriminate.specs.Steps.{AreNames}
-
-clean_control : (name : List ℕ) → IsClean name → list_any is_control name ≡ false
-clean_control [] clean = refl
-clean_control (b ∷ bs) clean = let here = clean.0 in let rest = clean_control bs clean.1 in grind (arith, here, rest)
 
 desk_named : (name : List ℕ) → length name ≤ MOST_DESK_NAME_BYTES → IsClean name → IsUtf8 name → is_desk_name name ≡ true
 desk_named name short clean utf8 =

@@ -7,15 +7,15 @@ ghost use Rattle.ror_value.specs.Over.{IsLawfulIn};
 ghost use Rattle.ror_closing.specs.Closing.{AreSuited};
 ghost use Rattle.ror_words.specs.Named.{inputs_of};
 ghost use Rattle.ror_frame.specs.States.{shelf_state, sink_state};
-ghost use Rattle.ror_frame.specs.Courses.{IsFetch, ReadAs, IsWork};
+ghost use Rattle.ror_frame.specs.Courses.{ReadAs, IsWork};
 ghost use Rattle.ror_frame.specs.Stops.{last};
 ghost use Rattle.ror_work_discriminate.specs.Discriminate.{ProvesBest, RefusesBest, check_discriminate_chore};
 
 use crate::judge::BestJudge;
-use ror_bench::{Accepted, MOST_REPORT_BYTES, Reason, Rejection};
+use ror_bench::{Accepted, MOST_REPORT_BYTES};
 use ror_discriminate::head::header;
 use ror_entries::check_headed;
-use ror_frame::{Refusal, Stop, closed_desks, conclude, fetch_suited, fetch_table, fetch_whole};
+use ror_frame::{Stop, closed_desks, conclude, fetch_report, fetch_suited, fetch_table};
 use ror_io::{Shelf, Sink};
 use ror_session::Session;
 use ror_words::FileNames;
@@ -45,31 +45,9 @@ pub fn check_discriminate_files<F: Shelf, O: Sink>(
 {
     let input = fetch_table(alloc, names, shelf)?;
     let session = fetch_suited(alloc, names, shelf)?;
-    let accepted = fetch_report(alloc, report, shelf, input, session)?;
+    let bytes = fetch_report(alloc, report, shelf)?;
+    let accepted = entries_in(alloc, input, session, bytes.as_slice())?;
     conclude(out, accepted)
-}
-
-/// Fetches and checks the report, and counts its entries.
-fn fetch_report<F: Shelf>(
-    alloc: Global,
-    report: &str,
-    shelf: &mut F,
-    input: Input,
-    session: Session,
-) -> Result<Accepted, Stop>
-    requires lawful { IsLawfulIn input.table input.opening }
-    requires sound { IsSound session }
-    requires suited { AreSuited session.lines }
-    ensures { IsFetch report.now last (ProvesBest input session) (RefusesBest input session)
-        (shelf_state (F.told shelf.old) (F.faults shelf.old) (F.fetch_count shelf.old))
-        (shelf_state (F.told shelf.new) (F.faults shelf.new) (F.fetch_count shelf.new)) result }
-{
-    let too_long = Refusal::Rejected(Rejection {
-        block: 0,
-        reason: Reason::TooLong,
-    });
-    let bytes = fetch_whole(alloc, report, MOST_REPORT_BYTES, too_long, shelf)?;
-    entries_in(alloc, input, session, bytes.as_slice())
 }
 
 /// Checks the bytes of a report, and counts its entries.
