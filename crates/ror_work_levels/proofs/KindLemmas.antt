@@ -1,5 +1,5 @@
 -- The entries of a report of spans are a kind, of which each is refused for one reason.
-use Rattle.std.proofs.Common.{eqb, not, ◌&&◌, ◌≡◌, ℕ, ◌≤◌, ◌<◌, ◌⊎◌, true, false, List, [], ◌∷◌, ◌++◌, length, Some, refl, sym, ap, ◌∙◌, subst, inl, inr, arith}
+use Rattle.std.proofs.Common.{eqb, not, ◌&&◌, ◌≡◌, ℕ, ◌<◌, ◌⊎◌, true, false, List, [], ◌∷◌, ◌++◌, length, Some, refl, sym, ap, ◌∙◌, subst, inl, inr, arith}
 use Rattle.std.specs.Prelude.{slice_get, codes}
 use Rattle.std.specs.Str.{IsUtf8}
 use Rattle.std.proofs.lemmas.Bool.{cases_Bool, eqb-false}
@@ -20,14 +20,13 @@ use Rattle.ror_check.specs.Proof.{is_wide}
 use Rattle.ror_relation.specs.Pairs.{AreDifferentOf}
 use Rattle.ror_relation.proofs.PairLemmas.{ordered_pairs-different, few_pairs}
 use Rattle.ror_report.specs.Reading.{begins_end}
-use Rattle.ror_report.specs.Text.{end_text}
 use Rattle.ror_bench.specs.declared.report.Reason.{Reason}
 use Rattle.ror_bench.proofs.UniqueLemmas.{one_some, one_answer_fault}
 use Rattle.ror_confidence.specs.declared.fault.SpanCheckFault.{SpanCheckFault}
 use Rattle.ror_confidence.specs.declared.fault.SpanCheckFault.TheVariants as faults
 use Rattle.ror_confidence.specs.declared.span.LevelAnswer.{LevelAnswer}
 use Rattle.ror_confidence.specs.declared.span.Span.{Span}
-use Rattle.ror_confidence.specs.Faults.{FailsDue, FailsAnswerAt, FailsSpan, IsEarlierSpanFault, place_of_due, span_stage, span_place}
+use Rattle.ror_confidence.specs.Faults.{FailsDue, FailsAnswerAt, FailsSpan, place_of_due, span_stage, span_place}
 use Rattle.ror_confidence.specs.Levels.{list_of_level}
 use Rattle.ror_confidence.specs.Proof.{concludes, dues_of}
 use Rattle.ror_confidence.specs.Spans.{AreLevelLists}
@@ -36,10 +35,11 @@ use Rattle.ror_confidence.proofs.Truth.{proved_is_true}
 use Rattle.ror_spans.specs.declared.entry.Entry.{Entry}
 use Rattle.ror_spans.specs.declared.entry.Entry.TheVariants as entries
 use Rattle.ror_spans.specs.EntryLaws.{IsEnded}
-use Rattle.ror_spans.specs.Text.{entry_text, header_text, IsPrintableEntry}
+use Rattle.ror_spans.specs.Text.{entry_text, header_text}
 use Rattle.ror_spans.proofs.EntryEnds.{pair_ends, end_ends}
 use Rattle.ror_spans.proofs.EntryTexts.{entry_iff_text, entry_begins, entry_is_utf8}
 use Rattle.ror_entries.specs.Kind.{IsKind, HasOneReason}
+use Rattle.ror_entries.proofs.EachLemmas.{pair_begins_no_end}
 use Rattle.ror_work_levels.specs.Entries.{pairs_of, pair_of, IsOnPairAt, IsProvedEntry, IsTrueEntry, RefusesFor, RefusesEntry, other_pair, at_fault, reason_of, span_kind}
 
 -- ---- the pair at a place
@@ -176,9 +176,6 @@ header_is_utf8 = line_text_is_utf8 (codes "ror-spans" ∷ codes "1" ∷ []) (asc
 
 -- ---- the kind
 
-begins_no_end : (more : List ℕ) → begins_end (codes "pair " ++ more) ≡ false
-begins_no_end more = refl
-
 module _ (t : DecisionTable) (lists : List (List Statement)) (table : IsTable t) (levels : AreLevelLists t lists) where
   proved_true : (place : ℕ) (x : Entry) → IsProvedEntry t lists place x → IsTrueEntry t lists x
   proved_true place (entries.Known a b span) proved =
@@ -207,7 +204,7 @@ module _ (t : DecisionTable) (lists : List (List Statement)) (table : IsTable t)
         ((λ read. let text = same.0 read in record { text = text.text; place = text.place; printable = text.printable; follows = text.ended }), λ text. same.1 (record { text = text.text; place = text.place; printable = text.printable; ended = text.follows }));
     begins_no_end = λ x rest printable.
         let begins = entry_begins t x in
-        ap (λ (text : List ℕ). begins_end (text ++ rest)) begins.1 ∙ begins_no_end (begins.0 ++ rest);
+        ap (λ (text : List ℕ). begins_end (text ++ rest)) begins.1 ∙ pair_begins_no_end (begins.0 ++ rest);
     entry_follows = λ x next rest has printable. next_follows x next rest;
     end_follows = λ x n has. end_ends x n;
     utf8 = λ x printable. entry_is_utf8 t x table printable;

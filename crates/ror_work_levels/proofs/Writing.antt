@@ -11,23 +11,21 @@ use Rattle.ror_proof.specs.declared.answer.Verdict.{Verdict}
 use Rattle.ror_proof.specs.declared.answer.Verdict.TheVariants as verdicts
 use Rattle.ror_check.specs.Proof.{IsWide, is_wide}
 use Rattle.ror_confidence.specs.declared.levels.Levels.{Levels}
-use Rattle.ror_confidence.specs.Finding.{IsSpanQuestion, IsWideAtLevel}
+use Rattle.ror_confidence.specs.Finding.{IsSpanQuestion}
 use Rattle.ror_confidence.specs.Levels.{level_lists}
 use Rattle.ror_spans.specs.declared.entry.Entry.{Entry}
 use Rattle.ror_spans.specs.declared.entry.Entry.TheVariants as entries
 use Rattle.ror_spans.specs.Text.{header_text}
-use Rattle.ror_entries.specs.declared.write.EntriesStop.TheVariants as entry_stops
 use Rattle.ror_entries.specs.Kind.{IsKind}
 use Rattle.ror_entries.specs.Reports.{accepted_of, IsAcceptedEntries}
 use Rattle.ror_entries.specs.Writing.{IsWholeText, IsBegunText}
-use Rattle.ror_entries.specs.Headed.{WritesHeaded}
 use Rattle.ror_entries.proofs.WriteLemmas.{given_are_proved}
-use Rattle.ror_entries.proofs.HeadedLemmas.{proved_is_accepted}
+use Rattle.ror_entries.proofs.EachLemmas.{proved_is_accepted}
 use Rattle.ror_frame.specs.declared.stop.Stop.TheVariants as stops
-use Rattle.ror_frame.specs.States.{SinkState, sink_state}
+use Rattle.ror_frame.specs.States.{SinkState}
 use Rattle.ror_frame.specs.Stops.{Outcome}
 use Rattle.ror_frame.specs.Courses.{WritesDue}
-use Rattle.ror_work_levels.specs.Entries.{span_kind, IsOnSpan, IsWideForm, IsGivenSpan, IsGivenEntry, IsProvedFor, IsProvedEntry}
+use Rattle.ror_work_levels.specs.Entries.{span_kind, IsOnSpan, IsGivenSpan, IsGivenEntry, IsProvedFor, IsProvedEntry}
 use Rattle.ror_work_levels.specs.Suiting.{IsStanding}
 use Rattle.ror_work_levels.specs.Steps.{WritesOver}
 use Rattle.ror_work_levels.specs.Levels.{IsSpansReport, IsBegunSpans, spans_output}

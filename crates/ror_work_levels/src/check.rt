@@ -14,10 +14,10 @@ ghost use Rattle.ror_work_levels.specs.Steps.{ProvesOver, RejectsOver};
 use crate::fit::fetch_fit;
 use crate::judge::SpanJudge;
 use crate::scale::{fetch_levels, standing_of};
-use ror_bench::{Accepted, Bench, MOST_REPORT_BYTES, Reason, Rejection};
+use ror_bench::{Accepted, Bench, MOST_REPORT_BYTES};
 use ror_confidence::Levels;
 use ror_entries::check_headed;
-use ror_frame::{Refusal, Stop, conclude, fetch_table, fetch_whole};
+use ror_frame::{Stop, conclude, fetch_report, fetch_table};
 use ror_io::{Shelf, Sink};
 use ror_spans::header;
 use ror_statement::Numbered;
@@ -50,12 +50,12 @@ pub fn check_levels_files<F: Shelf, O: Sink>(
     let session = fetch_fit(alloc, names, shelf)?;
     let (bench, standing) = standing_of(alloc, input, &session)?;
     let put = fetch_levels(alloc, levels, shelf, standing.as_slice())?;
-    let accepted = fetch_report(alloc, report, shelf, bench, standing.as_slice(), &put)?;
+    let accepted = fetch_spans(alloc, report, shelf, bench, standing.as_slice(), &put)?;
     conclude(out, accepted)
 }
 
 /// Fetches and checks the report over these levels of the statements, and counts its answers.
-fn fetch_report<F: Shelf>(
+fn fetch_spans<F: Shelf>(
     alloc: Global,
     report: &str,
     shelf: &mut F,
@@ -70,11 +70,7 @@ fn fetch_report<F: Shelf>(
         (shelf_state (F.told shelf.old) (F.faults shelf.old) (F.fetch_count shelf.old))
         (shelf_state (F.told shelf.new) (F.faults shelf.new) (F.fetch_count shelf.new)) result }
 {
-    let too_long = Refusal::Rejected(Rejection {
-        block: 0,
-        reason: Reason::TooLong,
-    });
-    let bytes = fetch_whole(alloc, report, MOST_REPORT_BYTES, too_long, shelf)?;
+    let bytes = fetch_report(alloc, report, shelf)?;
     spans_in(alloc, bench, standing, levels, bytes.as_slice())
 }
 

@@ -1,17 +1,15 @@
-use Rattle.std.proofs.Common.{arith, ℕ, Bool, IsTrue, true, false, ◌≡◌, ◌∙◌, sym, subst, take}
+use Rattle.std.proofs.Common.{arith, ℕ, true, false, subst, take}
 use Rattle.std.proofs.lemmas.List.{take_all}
+use Rattle.ror_bench.proofs.UniqueLemmas.{true_not_false}
 use Rattle.ror_work_levels.specs.Suiting.{IsUnfitAt}
 use Rattle.ror_work_levels.proofs.Suits.{AreFitAt, fit_more, first_unfit_here}
 use Rattle.ror_work_levels.proofs.fit.first_unfit.Goals as goal
-
-isnt : {b : Bool} → IsTrue b → b ≡ false → ⊥
-isnt t f = absurd (let no : false ≡ true = sym f ∙ t in cc)
 
 pub loop-line-init : goal.loop-line-init
 loop-line-init c = tt
 
 pub loop-line-preserved : goal.loop-line-preserved
-loop-line-preserved c = fit_more c.first_desk-desk.result c.args.lines.now c.loop-line.line-index c.line-item.result c.loop-line-test.true c.line-item.is c.loop-line.invariant (λ is. isnt (c.is_unfit.ensures.1 is) c.if-is_unfit.false)
+loop-line-preserved c = fit_more c.first_desk-desk.result c.args.lines.now c.loop-line.line-index c.line-item.result c.loop-line-test.true c.line-item.is c.loop-line.invariant (λ is. true_not_false _ (c.is_unfit.ensures.1 is) c.if-is_unfit.false)
 
 pub returns : goal.returns
 returns c =
