@@ -9,21 +9,11 @@ use Rattle.ror_bench.specs.declared.report.TheConstants.{MOST_REPORT_BYTES}
 use Rattle.ror_frame.specs.States.{ShelfState}
 use Rattle.ror_frame.specs.Stops.{FilePlace}
 use Rattle.ror_frame.specs.Courses.{OfToldFiles, IsFetch}
-use Rattle.ror_frame.proofs.FetchLemmas.{IsCalled}
+use Rattle.ror_frame.proofs.FetchLemmas.{IsCalled, there}
 use Rattle.ror_work_certificates.specs.Reading.{text_of}
 
 abbrev pub IsText : List ℕ → Option (List ℕ) → Type 0
 IsText bytes text = text ≡ text_of bytes
-
--- what is not missing is there
-found_or : (found : Option (List ℕ)) → (found ≡ None → ⊥) → (bytes : List ℕ) × (found ≡ Some bytes)
-found_or None there = absurd (there refl)
-found_or (Some bytes) there = (bytes, refl)
-
-there : (told : Option Files) (files : Files) (name : List ℕ) → told ≡ Some files → (Lacks told name → ⊥) → (bytes : List ℕ) × (file files name ≡ Some bytes) × HasFile told name bytes
-there told files name is kept =
-    let found = found_or (file files name) (λ none. kept (subst (λ (t : Option Files). Lacks t name) (sym is) none)) in
-    (found.0, found.1, subst (λ (t : Option Files). HasFile t name found.0) (sym is) found.1)
 
 -- ---- whole
 

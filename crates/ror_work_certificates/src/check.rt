@@ -19,7 +19,7 @@ use crate::fetch::fetch_text;
 use crate::report::kept_in;
 use ror_bench::{Bench, KeptLine, MOST_REPORT_BYTES, Reason, Rejection, ReportError};
 use ror_certificates::{check_certificates as check_each, read_certificates};
-use ror_frame::{Refusal, Stop, fetch_session, fetch_table, fetch_whole};
+use ror_frame::{Refusal, Stop, fetch_report, fetch_session, fetch_table};
 use ror_io::{Shelf, Sink};
 use ror_session::Session;
 use ror_show_words::CheckWords;
@@ -77,11 +77,7 @@ fn fetch_count<F: Shelf>(
         (shelf_state (F.told shelf.old) (F.faults shelf.old) (F.fetch_count shelf.old))
         (shelf_state (F.told shelf.new) (F.faults shelf.new) (F.fetch_count shelf.new)) result }
 {
-    let too_long = Refusal::Rejected(Rejection {
-        block: 0,
-        reason: Reason::TooLong,
-    });
-    let bytes = fetch_whole(alloc, report, MOST_REPORT_BYTES, too_long, shelf)?;
+    let bytes = fetch_report(alloc, report, shelf)?;
     count_in(alloc, input, session, text, bytes.as_slice())
 }
 

@@ -18,9 +18,9 @@ ghost use Rattle.ror_work_certificates.specs.Showing.{page_output, meant_by, cer
 
 use crate::choose::Meant;
 use crate::report::kept_in;
-use ror_bench::{Bench, KeptLine, MOST_REPORT_BYTES, Reason, Rejection};
+use ror_bench::{Bench, KeptLine};
 use ror_certificates::certificates_of;
-use ror_frame::{Refusal, Stop, fetch_session, fetch_table, fetch_whole};
+use ror_frame::{Stop, fetch_report, fetch_session, fetch_table};
 use ror_io::{Shelf, Sink, write_all};
 use ror_reducts::print_certificates;
 use ror_session::Session;
@@ -79,11 +79,7 @@ fn fetch_kept<F: Shelf>(
         (shelf_state (F.told shelf.new) (F.faults shelf.new) (F.fetch_count shelf.new)) result }
     ensures table { bench.new.table ≡ bench.old.table }
 {
-    let too_long = Refusal::Rejected(Rejection {
-        block: 0,
-        reason: Reason::TooLong,
-    });
-    let bytes = fetch_whole(alloc, words.report, MOST_REPORT_BYTES, too_long, shelf)?;
+    let bytes = fetch_report(alloc, words.report, shelf)?;
     let meant = Meant {
         line: words.line,
         desk: words.desk,
