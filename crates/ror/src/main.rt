@@ -1,13 +1,9 @@
 //! The program: writes the report of a session over a table, and checks one.
 #![tactic(auto)]
 
-use ror_host::{FileShelf, StreamSink};
+use ror_host::{FileShelf, StreamSink, WordsFault, given_words};
 use ror_run::{Status, run};
-use std::alloc::AllocFailed;
-use std::env;
-use std::io::ErrorKind;
 use std::process::ExitCode;
-use std::rt::Env;
 
 fn main(rt: HostRuntime) -> ExitCode {
     let status = match given_words(&rt) {
@@ -17,23 +13,8 @@ fn main(rt: HostRuntime) -> ExitCode {
             let mut err = StreamSink::new(rt.stderr());
             run(rt.alloc(), words.as_slice(), &mut shelf, &mut out, &mut err)
         }
-        Err(status) => status,
+        Err(WordsFault::Memory) => Status::Memory,
+        Err(WordsFault::Unread) => Status::Usage,
     };
     ExitCode::from(status.code())
-}
-
-/// The words after the program's name, or the status where the system does not give them.
-fn given_words<R: Env + AllocGlobal>(rt: &R) -> Result<Vec<String>, Status> {
-    let args = match env::args(rt) {
-        Ok(args) => args,
-        Err(error) if error.kind() == ErrorKind::OutOfMemory => return Err(Status::Memory),
-        Err(_) => return Err(Status::Usage),
-    };
-    let mut words = Vec::new(rt.alloc());
-    for word in args.skip(1) {
-        words
-            .push(word)
-            .map_err(|_: AllocFailed<String>| Status::Memory)?;
-    }
-    Ok(words)
 }
