@@ -58,7 +58,7 @@ module _ (i : Input) (s : Session) (table : IsTable i.table) (lawful : IsLawfulI
     one_lists xs ys first second = one_closing (bench_for i s) (bench_for i s) s.lines xs ys (refl, refl) suited first second
 
     -- two of what holds of closing lists hold of the same ones
-    over : (P : List (List Statement) → Type 0) (xs : List (List Statement)) → AreClosingLists (bench_for i s) s.lines xs → OfClosing i s P → P xs
+    pub over : (P : List (List Statement) → Type 0) (xs : List (List Statement)) → AreClosingLists (bench_for i s) s.lines xs → OfClosing i s P → P xs
     over P xs closing of = subst P (one_lists of.lists xs of.closing closing) of.holds
 
     proved_once : (x y : Accepted) → ProvesBest i s bytes x → ProvesBest i s bytes y → x ≡ y
@@ -67,7 +67,7 @@ module _ (i : Input) (s : Session) (table : IsTable i.table) (lawful : IsLawfulI
         one_headed_count header_text (kind_over i s a.lists) (kind_of_lists a.lists a.closing) header_is_utf8 bytes x y a.holds (over (λ ls. IsProvedHeaded header_text (kind_over i s ls) bytes y) a.lists a.closing q.1)
 
     -- what is rejected is not proved
-    not_both : (r : Rejection) (x : Accepted) → IsBestRejection i s bytes r → ProvesBest i s bytes x → ⊥
+    pub not_both : (r : Rejection) (x : Accepted) → IsBestRejection i s bytes r → ProvesBest i s bytes x → ⊥
     not_both r x (too_long many is) p = let few = p.0 in omega (arith, many, few)
     not_both r x (at_fault few of) p =
         let a = p.1 in

@@ -2,4 +2,5 @@ pub mod Courses
 pub mod Judging
 pub mod KindLemmas
 mod Names
+mod BestLaws
 pub mod Writing

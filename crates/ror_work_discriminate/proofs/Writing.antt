@@ -18,7 +18,7 @@ use Rattle.ror_entries.specs.Reports.{accepted_of, IsAcceptedEntries}
 use Rattle.ror_entries.specs.Writing.{IsWholeText, IsBegunText}
 use Rattle.ror_entries.specs.Headed.{WritesHeaded}
 use Rattle.ror_entries.proofs.WriteLemmas.{given_are_proved}
-use Rattle.ror_entries.proofs.HeadedLemmas.{proved_is_accepted}
+use Rattle.ror_entries.proofs.EachLemmas.{proved_is_accepted}
 use Rattle.ror_frame.specs.declared.stop.Stop.TheVariants as stops
 use Rattle.ror_frame.specs.States.{sink_state}
 use Rattle.ror_frame.specs.Courses.{WritesDue}
@@ -36,7 +36,7 @@ given_body_proved most t list (bodies.Contradiction m) given = given.shown
 given_body_proved most t list (bodies.BaseWide note) given = tt
 given_body_proved most t list (bodies.ClimbWide note) given = tt
 
-given_proved : (most : ℕ) (t : DecisionTable) (names : List (List ℕ)) (lists : List (List Statement)) (place : ℕ) (x : Entry) → IsGivenEntry most t names lists place x → IsProvedEntry t names lists place x
+pub given_proved : (most : ℕ) (t : DecisionTable) (names : List (List ℕ)) (lists : List (List Statement)) (place : ℕ) (x : Entry) → IsGivenEntry most t names lists place x → IsProvedEntry t names lists place x
 given_proved most t names lists place x given = record {
   list = given.list;
   name_there = given.name_there;

@@ -1,3 +1,4 @@
 pub mod Entries
 pub mod Discriminate
 pub mod Steps
+pub mod Laws

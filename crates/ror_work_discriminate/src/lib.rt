@@ -17,6 +17,7 @@
 
 mod check;
 mod judge;
+pub mod laws;
 mod maker;
 mod write;
 

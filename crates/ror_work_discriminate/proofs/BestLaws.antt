@@ -1,0 +1,82 @@
+-- What is written of most discriminating functions is proved, and each entry concludes where no number is too wide.
+use Rattle.std.proofs.Common.{◌≡◌, ℕ, ◌+◌, Bool, false, List, [], ◌∷◌, length, refl, ap, ◌∙◌, arith}
+use Rattle.std.specs.Prelude.{if◌then◌else◌}
+use Rattle.std.specs.List.{AllByRecursion, sum_by}
+use Rattle.ror_text.proofs.Everywhere.{all_at}
+use Rattle.ror_statement.specs.declared.statement.Statement.{Statement}
+use Rattle.ror_table.specs.Table.{DecisionTable}
+use Rattle.ror_bench.specs.declared.bench.Passed.{Passed}
+use Rattle.ror_bench.proofs.ReportProofs.{sums, same_accepted}
+use Rattle.ror_discriminate.specs.declared.entry.Entry.{Entry}
+use Rattle.ror_discriminate.specs.declared.entry.EntryBody.{EntryBody}
+use Rattle.ror_discriminate.specs.declared.entry.EntryBody.TheVariants as bodies
+use Rattle.ror_discriminate.specs.Head.{header_text}
+use Rattle.ror_entries.specs.Reports.{EachAt, accepted_of}
+use Rattle.ror_entries.proofs.EachLemmas.{each_by}
+use Rattle.ror_entries.proofs.WriteLemmas.{given_are_proved}
+use Rattle.ror_entries.proofs.HeadedLemmas.{one_headed_count}
+use Rattle.ror_work_discriminate.specs.Entries.{is_wide_body, entry_passed, IsGivenBody, IsGivenEntry}
+use Rattle.ror_work_discriminate.specs.Discriminate.{kind_over}
+use Rattle.ror_work_discriminate.specs.Laws.{WrittenAreProved, WrittenAreNotRejected, IsNarrowList, Concludes, NothingIsTooWide}
+use Rattle.ror_work_discriminate.proofs.Courses.{kind_of_lists, over, not_both}
+use Rattle.ror_work_discriminate.proofs.KindLemmas.{header_is_utf8}
+use Rattle.ror_work_discriminate.proofs.Writing.{given_proved}
+
+pub written_proved : WrittenAreProved
+written_proved most i s bytes accepted few report =
+    let had = report.holds in
+    (few, record { lists = report.lists; closing = report.closing; holds = (had.0, had.1, had.2.2.proved) })
+
+pub written_not_rejected : WrittenAreNotRejected
+written_not_rejected most i s bytes accepted rejection read few report rejects =
+    not_both i s read.table read.lawful read.sound read.suited bytes rejection accepted rejects (written_proved most i s bytes accepted few report)
+
+-- ---- nothing is too wide
+
+narrow_body : (most : ℕ) (t : DecisionTable) (list : List Statement) (body : EntryBody) → IsNarrowList most t list → IsGivenBody most t list body → is_wide_body body ≡ false
+narrow_body most t list (bodies.Best margin total x) narrow given = refl
+narrow_body most t list bodies.NoStrictRow narrow given = refl
+narrow_body most t list (bodies.Contradiction m) narrow given = refl
+narrow_body most t list (bodies.BaseWide note) narrow given = absurd (narrow.base note.path note.place given.noted)
+narrow_body most t list (bodies.ClimbWide note) narrow given = absurd (narrow.climb given.consistent note.path note.place given.noted)
+
+abbrev counted_by : Bool → Passed
+counted_by wide = if wide then record { answers = 0; wide = 1 } else record { answers = 1; wide = 0 }
+
+module _ (most : ℕ) (t : DecisionTable) (names : List (List ℕ)) (lists : List (List Statement)) (narrow : AllByRecursion (IsNarrowList most t) lists) where
+  narrow_entry : (place : ℕ) (x : Entry) → IsGivenEntry most t names lists place x → is_wide_body x.body ≡ false
+  narrow_entry place x given = narrow_body most t given.list x.body (all_at (IsNarrowList most t) lists place given.list narrow given.list_there) given.holds
+
+  counts : (place : ℕ) (xs : List Entry) → EachAt (IsGivenEntry most t names lists) place xs → (sum_by (λ x. (entry_passed x).answers) xs ≡ length xs) × (sum_by (λ x. (entry_passed x).wide) xs ≡ 0)
+  counts place [] each = (refl, refl)
+  counts place (x ∷ xs) each =
+      let shut = narrow_entry place x each.0 in
+      let one : (entry_passed x).answers ≡ 1 = ap (λ (wide : Bool). (counted_by wide).answers) shut in
+      let none : (entry_passed x).wide ≡ 0 = ap (λ (wide : Bool). (counted_by wide).wide) shut in
+      let rest = counts (place + 1) xs each.1 in
+      let some = rest.0 in
+      let wide = rest.1 in
+      let all = sums (λ (y : Entry). (entry_passed y).answers) x xs in
+      let split = sums (λ (y : Entry). (entry_passed y).wide) x xs in
+      (omega (arith, one, some, all), omega (arith, none, wide, split))
+
+pub nothing_too_wide : NothingIsTooWide
+nothing_too_wide most i s bytes accepted read narrow report =
+    let had = report.holds in
+    let lists = report.lists in
+    let kind = kind_of_lists i s read.table read.lawful read.sound lists report.closing in
+    let here = over i s read.table read.lawful read.sound read.suited bytes (AllByRecursion (IsNarrowList most i.table)) lists report.closing narrow in
+    let all = had.2.1.made.given in
+    let proves = given_proved most i.table s.desks lists in
+    let given = given_are_proved (kind_over i s lists) (IsGivenEntry most i.table s.desks lists) proves had.0 had.2.0 had.2.1 in
+    let same : accepted ≡ accepted_of (kind_over i s lists) had.2.0 = one_headed_count header_text (kind_over i s lists) kind header_is_utf8 bytes accepted (accepted_of (kind_over i s lists) had.2.0) (had.0, had.1, had.2.2.proved) (had.0, had.1, given) in
+    let sums = counts most i.table s.desks lists here 0 had.2.0 all in
+    let due = had.2.1.all_due in
+    let every : accepted_of (kind_over i s lists) had.2.0 ≡ record { answers = length s.desks; wide = 0 } = same_accepted (accepted_of (kind_over i s lists) had.2.0) (record { answers = length s.desks; wide = 0 }) (sums.0 ∙ due) sums.1 in (
+      same ∙ every,
+      record {
+        lists = lists;
+        closing = report.closing;
+        holds = (had.0, had.1, (had.2.0, had.2.1.text_is, due, each_by (IsGivenEntry most i.table s.desks lists) (Concludes i.table s.desks lists) (λ place x may. (narrow_entry most i.table s.desks lists here place x may, kind.proved_is_true place x (proves place x may))) 0 had.2.0 all));
+      },
+    )
