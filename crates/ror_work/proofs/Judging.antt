@@ -1,5 +1,5 @@
 -- A report is proved, or rejected for one thing.
-use Rattle.std.proofs.Common.{◌≡◌, ℕ, ◌≤◌, Bool, List, length, Ok, Err, refl, sym, ap, subst, ◌∙◌, arith}
+use Rattle.std.proofs.Common.{◌≡◌, ℕ, ◌≤◌, List, length, Err, refl, sym, ap, subst, ◌∙◌, arith}
 use Rattle.ror_table.specs.Table.{IsTable}
 use Rattle.ror_value.specs.declared.input.Input.{Input}
 use Rattle.ror_value.specs.Over.{IsLawfulIn}
@@ -22,10 +22,8 @@ use Rattle.ror_pivot.specs.declared.note.Bits.{Bits}
 use Rattle.ror_words.specs.Words.{InputNames}
 use Rattle.ror_frame.specs.declared.stop.Refusal.{Refusal}
 use Rattle.ror_frame.specs.declared.stop.Refusal.TheVariants as refusals
-use Rattle.ror_frame.specs.declared.stop.Stop.TheVariants as stops
-use Rattle.ror_frame.specs.States.{SinkState}
-use Rattle.ror_frame.specs.Stops.{last, Outcome, stop_at_report}
-use Rattle.ror_frame.specs.Courses.{finish, fetch, IsTooLong, ReadAs, WritesDue}
+use Rattle.ror_frame.specs.Stops.{last, stop_at_report}
+use Rattle.ror_frame.specs.Courses.{finish, fetch, IsTooLong, ReadAs}
 use Rattle.ror_frame.specs.Inputs.{bench_for}
 use Rattle.ror_frame.proofs.CourseLemmas.{IsDecided}
 use Rattle.ror_frame.proofs.InputLemmas.{decided_inputs}

@@ -1,4 +1,4 @@
-use Rattle.std.proofs.Common.{arith, true, false, subst}
+use Rattle.std.proofs.Common.{arith, subst}
 use Rattle.std.proofs.lemmas.List.{take_all}
 use Rattle.ror_bench.proofs.UniqueLemmas.{true_not_false}
 use Rattle.ror_closing.specs.Closing.{AreSuited}

@@ -1,4 +1,4 @@
-use Rattle.std.proofs.Common.{arith, ℕ, true, false, subst, take}
+use Rattle.std.proofs.Common.{arith, ℕ, subst, take}
 use Rattle.std.proofs.lemmas.List.{take_all}
 use Rattle.ror_bench.proofs.UniqueLemmas.{true_not_false}
 use Rattle.ror_work_levels.specs.Suiting.{IsUnfitAt}
