@@ -21,6 +21,7 @@ use Rattle.ror_proof.proofs.QuestionFaults.{alternative_steps, name_steps, small
 use Rattle.ror_proof.proofs.QuestionLemmas.{alternative_sound}
 use Rattle.ror_proof.proofs.WordFaults.{Ends, no_fault, then_ends, word_then_ends, made_ends, end_ends}
 use Rattle.ror_proof.proofs.WordLemmas.{name_sound, done, ok_is}
+use Rattle.ror_report.proofs.FormFaults.{number_reads}
 use Rattle.ror_report.proofs.LineForms.{line_is_read}
 use Rattle.ror_confidence.specs.declared.span.LevelAnswer.{LevelAnswer}
 use Rattle.ror_spans.specs.declared.entry.Entry.{Entry}
@@ -33,7 +34,7 @@ use Rattle.ror_spans.specs.declared.read.Head.{Head}
 use Rattle.ror_spans.specs.EntryFaults.{says_known, expected_said, expected_pair, expected_level, IsFaultOfLevels, IsFaultOfEntry}
 use Rattle.ror_spans.specs.EntryFaults.IsFaultOfLevels.{this_level, this_answer, later_level}
 use Rattle.ror_spans.specs.EntryFaults.IsFaultOfEntry.{in_pair, in_levels, in_answer}
-use Rattle.ror_spans.specs.Reading.{said_words, pair_words, pair_line, level_words, level_line, level_answer_at, begins_level, level_answers_at, body_at, entry_at}
+use Rattle.ror_spans.specs.Reading.{said_words, pair_words, pair_line, level_line, level_answer_at, begins_level, level_answers_at, body_at, entry_at}
 use Rattle.ror_spans.specs.Text.{form_word, form_list}
 use Rattle.ror_spans.proofs.LevelLoops.{answer_step, no_answers, goes_on_some}
 use Rattle.ror_spans.proofs.EntryLines.{form_of, spelt_said, pair_words_sound}
@@ -119,18 +120,8 @@ pair_knows t c x e =
 
 -- ---- the line of a level, and the answer after it
 
-abbrev level_ended : ℕ → ℕ × List (List ℕ) → Result ℕ ProofFault
-level_ended place level = no_more place level.1 >>= λ _. done level.0
-
-level_words_end : (t : DecisionTable) (place : ℕ) (ws : List (List ℕ)) → Ends t place (level_words place ws) (expected_level ws) ws
-unfolding level_words
-level_words_end t place ws =
-    word_then_ends t place (codes "level") (λ more. small_number_at place more >>= λ level. level_ended place level) (a_small_number ∷ the_end ∷ []) ws
-    (λ more is. then_ends t place (small_number_at place more) (level_ended place) (a_small_number ∷ []) (the_end ∷ []) more (small_number_steps t place more)
-    (λ level e. end_ends t place level.0 level.1))
-
 level_reads : (t : DecisionTable) (c : Cursor) → ReadsLine t expected_level c (level_line c)
-level_reads t c = reads_line t expected_level c (level_words c.place (line_words c)) (level_words_end t c.place (line_words c))
+level_reads t c = number_reads t (codes "level") c
 
 abbrev at_level : ℕ → Answer → LevelAnswer
 at_level level x = record { level = level; answer = x }

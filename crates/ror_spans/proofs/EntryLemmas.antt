@@ -1,6 +1,6 @@
 -- Entries as texts, both ways: what was written is read again, and what is read was so written.
 use Rattle.std.proofs.Common.{◌≡◌, ℕ, zero, suc, ◌+◌, ◌<◌, ◌≤◌, true, false, List, [], ◌∷◌, ◌++◌, length, Ok, refl, sym, ap, subst, ◌∙◌, append_assoc, arith, inl, inr, length-append}
-use Rattle.std.specs.Prelude.{◌↔◌}
+use Rattle.std.specs.Prelude.{◌↔◌, codes}
 use Rattle.std.specs.List.{flat_map, AllByRecursion}
 use Rattle.std.proofs.lemmas.Bool.{cases_Bool}
 use Rattle.ror_text.specs.Reading.{◌>>=◌}
@@ -13,6 +13,7 @@ use Rattle.ror_proof.specs.Text.{answer_text, IsPrintable}
 use Rattle.ror_proof.specs.Reading.{begins_part, answer_at}
 use Rattle.ror_proof.proofs.AnswerLemmas.{answer_reads_back, answer_is_text}
 use Rattle.ror_proof.proofs.WordLemmas.{done, ok_is}
+use Rattle.ror_report.proofs.LineForms.{numbered_again, numbered_sound}
 use Rattle.ror_confidence.specs.declared.span.LevelAnswer.{LevelAnswer}
 use Rattle.ror_confidence.specs.declared.span.Span.{Span}
 use Rattle.ror_spans.specs.declared.entry.Entry.{Entry}
@@ -24,7 +25,7 @@ use Rattle.ror_spans.specs.Reading.{pair_line, level_line, level_answer_at, begi
 use Rattle.ror_spans.specs.Text.{level_answer_text, entry_text, IsPrintableAt, IsPrintableEntry}
 use Rattle.ror_spans.specs.EntryLaws.{IsEndedAfter, IsEnded, IsEntryText}
 use Rattle.ror_spans.proofs.LevelLoops.{answer_step, no_answers}
-use Rattle.ror_spans.proofs.EntryLines.{IsHead, head_text, pair_again, pair_sound, level_text, level_again, level_sound, level_answer_begins}
+use Rattle.ror_spans.proofs.EntryLines.{IsHead, head_text, pair_again, pair_sound, level_text, level_answer_begins}
 use Rattle.ror_spans.proofs.EntryEnds.{no_part_ends}
 
 -- ---- an answer with the line of its level
@@ -44,7 +45,7 @@ level_answer_again t x place rest table printable none =
     let regrouped : (front ++ back) ++ rest ≡ front ++ (back ++ rest) = append_assoc front back rest in
     let to : place + length front + length back ≡ place + length (front ++ back) = omega (arith, length-append front back) in
     ap (λ (r : List ℕ). level_answer_at t (record { place = place; rest = r })) regrouped
-    ∙ level_answer_step t _ _ _ x.level x.answer (level_again place x.level (back ++ rest) printable.0) (answer_reads_back t x.answer (place + length front) rest table printable.1 none)
+    ∙ level_answer_step t _ _ _ x.level x.answer (numbered_again (codes "level") place x.level (back ++ rest) refl printable.0) (answer_reads_back t x.answer (place + length front) rest table printable.1 none)
     ∙ ap (λ n. Ok (x, record { place = n; rest = rest })) to
 
 -- what was read as an answer with its level
@@ -58,7 +59,7 @@ unfolding level_answer_at
 level_answer_sound t c x e =
     let a = bind_ok (level_line c) (λ level. answer_at t level.1 >>= λ answer. done (at_level level.0 answer.0, answer.1)) x e in
     let b = bind_ok (answer_at t a.0.1) (λ answer. done (at_level a.0.0 answer.0, answer.1)) x a.2 in
-    let line = level_sound c a.0 a.1 in
+    let line = numbered_sound (codes "level") c a.0 a.1 in
     let text = answer_is_text t a.0.1 b.0.0 b.0.1 b.1 in
     subst (λ (y : LevelAnswer × Cursor). IsReadAnswer t c y.0 y.1) (ok_is (at_level a.0.0 b.0.0, b.0.1) x b.2) (record {
       spans = spans_then c a.0.1 b.0.1 (level_text a.0.0) (answer_text t b.0.0) line.0 (record { rest = text.text; place = text.place });

@@ -18,6 +18,7 @@ use Rattle.ror_proof.proofs.QuestionLemmas.{alternative_again, alternative_sound
 use Rattle.ror_proof.specs.Text.{answer_text}
 use Rattle.ror_proof.specs.Words.{after_word, name_at, no_more, small_number_at}
 use Rattle.ror_proof.proofs.WordLemmas.{after_word_again, after_word_sound, no_more_sound, name_again, name_sound, small_number_again, small_number_sound, done, ok_is}
+use Rattle.ror_report.specs.Text.{numbered_text}
 use Rattle.ror_report.proofs.LineForms.{line_reads_back, line_is_read}
 use Rattle.ror_confidence.specs.declared.span.LevelAnswer.{LevelAnswer}
 use Rattle.ror_spans.specs.declared.entry.Entry.{Entry}
@@ -27,7 +28,7 @@ use Rattle.ror_spans.specs.declared.entry.Form.TheVariants as forms
 use Rattle.ror_spans.specs.declared.read.Said.{Said}
 use Rattle.ror_spans.specs.declared.read.Said.TheVariants as said
 use Rattle.ror_spans.specs.declared.read.Head.{Head}
-use Rattle.ror_spans.specs.Reading.{said_words, pair_words, pair_line, level_words, level_line}
+use Rattle.ror_spans.specs.Reading.{said_words, pair_words, pair_line}
 use Rattle.ror_spans.specs.Text.{form_word, form_list, level_answer_text, entry_text}
 
 -- ---- the words after the ids
@@ -187,38 +188,7 @@ pair_sound t c x e =
 -- ---- the line of a level
 
 abbrev pub level_text : ℕ → List ℕ
-level_text level = line_text (codes "level" ∷ decimal level ∷ [])
-
-level_words_again : (place level : ℕ) → level < 2 ^ 32 → level_words place (codes "level" ∷ decimal level ∷ []) ≡ Ok level
-unfolding level_words
-level_words_again place level small = rw (after_word_again place (codes "level") (decimal level ∷ []), small_number_again place level [] small) refl
-
-pub level_again : (place level : ℕ) (rest : List ℕ) → level < 2 ^ 32
-    → level_line (record { place = place; rest = level_text level ++ rest }) ≡ Ok (level, record { place = place + length (level_text level); rest = rest })
-level_again place level rest small =
-    let are : are_words (codes "level" ∷ decimal level ∷ []) ≡ true = and_from (is_word (codes "level")) _ refl (and_from _ _ (number_is_word level small) refl) in
-    line_reads_back level_words level place (codes "level") (decimal level ∷ []) rest are (level_words_again place level small)
-
-level_words_sound : (place : ℕ) (ws : List (List ℕ)) (level : ℕ) → level_words place ws ≡ Ok level → (ws ≡ codes "level" ∷ decimal level ∷ []) × (level < 2 ^ 32)
-unfolding level_words
-level_words_sound place ws level e =
-    let last = λ (number : ℕ × List (List ℕ)). no_more place number.1 >>= λ _. done number.0 in
-    let a = bind_ok (after_word place (codes "level") ws) (λ more. small_number_at place more >>= λ number. last number) level e in
-    let b = bind_ok (small_number_at place a.0) (λ number. last number) level a.2 in
-    let d = bind_ok (no_more place b.0.1) (λ _. done b.0.0) level b.2 in
-    let number = small_number_sound place a.0 b.0 b.1 in
-    let end : b.0.1 ≡ [] = no_more_sound place b.0.1 d.0 d.1 in
-    let is : ws ≡ codes "level" ∷ decimal b.0.0 ∷ [] =
-    after_word_sound place (codes "level") ws a.0 a.1
-    ∙ ap (λ (more : List (List ℕ)). codes "level" ∷ more) number.0
-    ∙ ap (λ (more : List (List ℕ)). codes "level" ∷ decimal b.0.0 ∷ more) end in
-    subst (λ (n : ℕ). (ws ≡ codes "level" ∷ decimal n ∷ []) × (n < 2 ^ 32)) (ok_is b.0.0 level d.2) (is, number.1)
-
-pub level_sound : (c : Cursor) (x : ℕ × Cursor) → level_line c ≡ Ok x → Spans c (level_text x.0) x.1 × (x.0 < 2 ^ 32)
-level_sound c x e =
-    let line = line_is_read c (level_words c.place (line_words c)) x e in
-    let read = level_words_sound c.place (line_words c) x.0 line.0 in
-    (line_spans c x.1 (codes "level" ∷ decimal x.0 ∷ []) read.0 line.1, read.1)
+level_text level = numbered_text (codes "level") level
 
 -- ---- how the pieces begin
 

@@ -9,6 +9,7 @@ use Rattle.ror_proof.specs.declared.read.ProofFault.{ProofFault}
 use Rattle.ror_proof.specs.Expected.{Expected, IsLine, IsFaultOfLine, IsFaultOfAnswer}
 use Rattle.ror_proof.specs.Expected.Expected.{the_word, one_of, an_id, a_small_number, the_end}
 use Rattle.ror_proof.specs.Laws.{IsAnswerText}
+use Rattle.ror_report.specs.Faults.{expected_number}
 use Rattle.ror_spans.specs.declared.entry.Form.TheVariants as forms
 use Rattle.ror_spans.specs.Reading.{begins_level}
 use Rattle.ror_spans.specs.Text.{form_list, form_word}
@@ -40,7 +41,7 @@ expected_pair words =
 
 -- `level L`
 abbrev pub expected_level : List (List ℕ) → List Expected
-expected_level words = the_word (codes "level") ∷ a_small_number ∷ the_end ∷ []
+expected_level words = expected_number (codes "level") words
 
 -- the fault of the first faulty line among those of levels and of their answers, of which each begins as the line of a level does
 pub data IsFaultOfLevels (t : DecisionTable) (fault : ProofFault) : Cursor → Type 0 where

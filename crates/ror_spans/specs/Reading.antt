@@ -8,6 +8,7 @@ use Rattle.ror_proof.specs.declared.read.ProofFault.{ProofFault}
 use Rattle.ror_proof.specs.Questions.{alternative_at}
 use Rattle.ror_proof.specs.Reading.{answer_at, ended}
 use Rattle.ror_proof.specs.Words.{after_word, name_at, no_more, small_number_at}
+use Rattle.ror_report.specs.Reading.{numbered_line}
 use Rattle.ror_confidence.specs.declared.span.LevelAnswer.{LevelAnswer}
 use Rattle.ror_spans.specs.declared.entry.Entry.{Entry}
 use Rattle.ror_spans.specs.declared.entry.Entry.TheVariants as entries
@@ -47,16 +48,9 @@ pair_words t place words = do
 abbrev pub pair_line : DecisionTable → Cursor → Result (Head × Cursor) ProofFault
 pair_line t c = ended c (pair_words t c.place (line_words c))
 
--- the words of the line of a level
-unfoldable pub level_words : ℕ → List (List ℕ) → Result ℕ ProofFault
-level_words place words = do
-  more ← after_word place (codes "level") words
-  level ← small_number_at place more
-  _ ← no_more place level.1
-  Ok level.0
-
+-- the line of a level
 abbrev pub level_line : Cursor → Result (ℕ × Cursor) ProofFault
-level_line c = ended c (level_words c.place (line_words c))
+level_line c = numbered_line (codes "level") c
 
 -- that line, and the answer after it
 unfoldable pub level_answer_at : DecisionTable → Cursor

@@ -163,7 +163,7 @@ fn level_answer_at(
 }
 
 /// The line of a level, and where the next line begins.
-#[tactic(auto, using(ror_proof::proofs::Places::placed_on), unfolding(crate::specs::Reading::level_words, ror_proof::specs::Reading::ended))]
+#[tactic(auto, using(ror_proof::proofs::Places::placed_on), unfolding(ror_report::specs::Reading::number_words, ror_proof::specs::Reading::ended))]
 fn level_line(bytes: &[u8], from: usize) -> Result<(u32, usize), ProofFault>
     requires { from ≤ length bytes.now }
     ensures exact { Gives (λ x. (x.0, cursor_at bytes.now x.1)) proof_fault result
