@@ -36,18 +36,31 @@ fn are_asked(table: &Table, answers: &[Answer]) -> bool
     }
 }
 
-/// Whether the answers with these texts are accepted.
-fn are_accepted(alloc: Global, table: &Table, one: &[u8], other: &[u8]) -> Result<bool, Fail> {
-    let mut answers = Vec::new(alloc);
-    let (answer, _) = read_answer(alloc, table, one, 0)?;
-    answers.push(answer)?;
-    let (answer, _) = read_answer(alloc, table, other, 0)?;
-    answers.push(answer)?;
-    let answers = answers.as_slice();
+/// Adds the answer with this text.
+fn push_answer(
+    alloc: Global,
+    table: &Table,
+    text: &[u8],
+    answers: &mut Vec<Answer>,
+) -> Result<(), Fail> {
+    let (answer, _) = read_answer(alloc, table, text, 0)?;
+    Ok(answers.push(answer)?)
+}
+
+/// Whether the answers are accepted.
+fn is_accepted(alloc: Global, table: &Table, answers: &[Answer]) -> Result<bool, Fail> {
     if !is_lawful(table, A_OVER_B) || answers.len() > 100 || !are_asked(table, answers) {
         return Err(Fail::new("the list is lawful and the questions valid, and they are few"));
     }
     Ok(check_answers(alloc, table, A_OVER_B, answers).is_ok())
+}
+
+/// Whether the answers with these texts are accepted.
+fn are_accepted(alloc: Global, table: &Table, one: &[u8], other: &[u8]) -> Result<bool, Fail> {
+    let mut answers = Vec::new(alloc);
+    push_answer(alloc, table, one, &mut answers)?;
+    push_answer(alloc, table, other, &mut answers)?;
+    is_accepted(alloc, table, answers.as_slice())
 }
 
 #[test]

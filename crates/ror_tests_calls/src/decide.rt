@@ -1,12 +1,16 @@
 //! Questions that are decided without an engine, together and each alone.
 
+ghost use Rattle.ror_value.specs.Over.{IsLawfulIn, IsAskedIn};
+
 use crate::lawful::{are_asked, is_asked, is_lawful};
-use crate::made::three_alternatives;
+use crate::made::{alone, three_alternatives};
 use ror_classes::{decide_class, decide_classes};
 use ror_pivot::Bits;
-use ror_proof::Verdict;
+use ror_proof::{Answer, Verdict};
 use ror_relation::{decide, decide_each};
 use ror_statement::{Question, Statement};
+use ror_table::Table;
+use std::alloc::{AllocError, Global};
 use std::test::Fail;
 
 fn is_yes(verdict: &Verdict) -> bool {
@@ -19,14 +23,27 @@ fn is_no(verdict: &Verdict) -> bool {
 
 const A_OVER_B: [Statement; 1] = [Statement::Prefer(0, 1)];
 
+fn decided(
+    alloc: Global,
+    table: &Table,
+    list: &[Statement],
+    question: &Question,
+) -> Result<Vec<Answer>, AllocError>
+    requires lawful { IsLawfulIn table.now list.now }
+    requires asked { IsAskedIn table.now question.now }
+{
+    let answer = decide(alloc, table, list, question, Bits::B127)?;
+    alone(alloc, answer)
+}
+
 #[test]
 fn what_is_said_follows(rt: HostRuntime) -> Result<(), Fail> {
     let table = three_alternatives(rt.alloc())?;
     let necessary = Question::Necessary(0, 1);
     assert!(rt; is_lawful(&table, &A_OVER_B));
     assert!(rt; is_asked(&table, &necessary));
-    let answer = decide(rt.alloc(), &table, &A_OVER_B, &necessary, Bits::B127)?;
-    assert!(rt; is_yes(&answer.verdict));
+    let answers = decided(rt.alloc(), &table, &A_OVER_B, &necessary)?;
+    assert!(rt; answers.iter().all(|answer| is_yes(&answer.verdict)));
     Ok(())
 }
 
@@ -47,13 +64,26 @@ const LIST: [Statement; 2] = [Statement::Class(0, 3, 3), Statement::Class(1, 1, 
 
 const NECESSARY: Question = Question::NecessaryClass(2, 3);
 
+fn decided_on_a_class(
+    alloc: Global,
+    table: &Table,
+    list: &[Statement],
+    question: &Question,
+) -> Result<Vec<Answer>, AllocError>
+    requires lawful { IsLawfulIn table.now list.now }
+    requires asked { IsAskedIn table.now question.now }
+{
+    let answer = decide_class(alloc, table, list, question, Bits::B127)?;
+    alone(alloc, answer)
+}
+
 #[test]
 fn one_question_on_a_class_is_decided(rt: HostRuntime) -> Result<(), Fail> {
     let table = three_alternatives(rt.alloc())?;
     assert!(rt; is_lawful(&table, &LIST));
     assert!(rt; is_asked(&table, &NECESSARY));
-    let answer = decide_class(rt.alloc(), &table, &LIST, &NECESSARY, Bits::B127)?;
-    assert!(rt; is_no(&answer.verdict));
+    let answers = decided_on_a_class(rt.alloc(), &table, &LIST, &NECESSARY)?;
+    assert!(rt; answers.iter().all(|answer| is_no(&answer.verdict)));
     Ok(())
 }
 
