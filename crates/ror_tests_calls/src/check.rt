@@ -5,9 +5,8 @@ ghost use Rattle.std.specs.List.{AllByRecursion};
 ghost use Rattle.ror_value.specs.Over.{IsAskedIn};
 ghost use Rattle.ror_value.specs.Value.{IsFunctionOf};
 
-use crate::lawful::{are_valid, is_asked, is_lawful};
-use crate::made::three_alternatives;
 use ror_check::check_answers;
+use ror_made::{are_valid, is_asked, is_lawful, three_alternatives};
 use ror_proof::{Answer, read_answer};
 use ror_statement::{Pair, Scope, Statement};
 use ror_table::Table;

@@ -2,9 +2,8 @@
 
 ghost use Rattle.ror_value.specs.Over.{IsLawfulIn, IsAskedIn};
 
-use crate::lawful::{are_asked, is_asked, is_lawful};
-use crate::made::{alone, three_alternatives};
 use ror_classes::{decide_class, decide_classes};
+use ror_made::{alone, are_asked, is_asked, is_lawful, three_alternatives};
 use ror_pivot::Bits;
 use ror_proof::{Answer, Verdict};
 use ror_relation::{decide, decide_each};

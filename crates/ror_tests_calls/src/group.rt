@@ -4,9 +4,8 @@ ghost use Rattle.std.specs.Prelude.{IsTrue};
 ghost use Rattle.std.specs.List.{AllByRecursion};
 ghost use Rattle.ror_value.specs.Over.{IsLawfulIn};
 
-use crate::lawful::is_lawful;
-use crate::made::three_alternatives;
 use ror_group::{List, check_pair, read_entry};
+use ror_made::{is_lawful, three_alternatives};
 use ror_statement::Statement;
 use ror_table::Table;
 use ror_text::Items;

@@ -1,9 +1,8 @@
 //! Optima that are checked alone, and lists that have one or none.
 
-use crate::lawful::is_lawful;
-use crate::made::three_alternatives;
 use ror_discriminate::head::{check_header, header};
 use ror_discriminate::{DiscriminateFault, OptimalFault, check_optimal, discriminate};
+use ror_made::{is_lawful, three_alternatives};
 use ror_pivot::{Bits, Optimum};
 use ror_statement::Statement;
 use ror_system::{Multipliers, Numbers, Solution};

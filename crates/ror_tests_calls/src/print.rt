@@ -1,7 +1,6 @@
 //! Answers and repairs as texts of their own.
 
-use crate::lawful::is_asked;
-use crate::made::three_alternatives;
+use ror_made::{is_asked, three_alternatives};
 use ror_proof::{print_answer, print_kept, read_answer, read_kept};
 use ror_table::Table;
 use std::alloc::Global;

@@ -1,7 +1,6 @@
 //! A repair of contradictory statements.
 
-use crate::lawful::may_stand;
-use crate::made::three_alternatives;
+use ror_made::{may_stand, three_alternatives};
 use ror_pivot::Bits;
 use ror_proof::Kept;
 use ror_repair::repair;

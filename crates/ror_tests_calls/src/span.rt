@@ -7,9 +7,8 @@ ghost use Rattle.ror_confidence.specs.Levels.{AreLevelsOf};
 ghost use Rattle.ror_pivot.specs.Answers.{most_of};
 ghost use Rattle.ror_given.specs.Answers.{IsGiven};
 
-use crate::lawful::may_stand;
-use crate::made::three_alternatives;
 use ror_confidence::{Decider, Levels, Span, check_span, find_span, read_levels};
+use ror_made::{may_stand, three_alternatives};
 use ror_pivot::Bits;
 use ror_proof::Answer;
 use ror_relation::decide;

@@ -1,5 +1,5 @@
 //! Tests of the crates of numbers and systems, by calls that no command makes or of which none shows what comes of them:
-//! ror_word, ror_fraction, ror_statement, ror_system, ror_pivot and ror_warm.
+//! ror_word, ror_fraction, ror_statement, ror_system, ror_pivot and ror_warm; and of ror_reason, at a width that no command gives it.
 #![tactic(auto)]
 
 #[cfg(test)]
@@ -10,6 +10,8 @@ mod made;
 mod numbers;
 #[cfg(test)]
 mod pivot;
+#[cfg(test)]
+mod reason;
 #[cfg(test)]
 mod statement;
 #[cfg(test)]

@@ -5,7 +5,7 @@ ghost use Rattle.ror_statement.specs.Statements.{numbers_in, statements_in};
 ghost use Rattle.ror_value.specs.Over.{IsLawfulIn, IsAskedIn};
 ghost use Rattle.ror_check.specs.Proof.{IsProvedAnswer};
 
-use crate::lawful::{is_asked, may_stand};
+use ror_made::{is_asked, may_stand};
 use ror_pivot::Bits;
 use ror_proof::{Answer, Verdict};
 use ror_reason::{Reason, reduct, reduct_of};

@@ -14,14 +14,14 @@ use ror_table::Table;
 use std::alloc::{AllocError, Global};
 
 /// Whether a desk may hold the list.
-pub(crate) fn is_lawful(table: &Table, list: &[Statement]) -> bool
+pub fn is_lawful(table: &Table, list: &[Statement]) -> bool
     ensures { IsTrue result → IsLawfulIn table.now list.now }
 {
     list.len() <= MOST_STATEMENTS && row_count(list) <= MOST_ROWS && are_valid(table, list)
 }
 
 /// Whether all statements name what the table has.
-pub(crate) fn are_valid(table: &Table, list: &[Statement]) -> bool
+pub fn are_valid(table: &Table, list: &[Statement]) -> bool
     ensures { IsTrue result → AllByRecursion (IsValidIn table.now) list.now }
 {
     match list {
@@ -38,7 +38,7 @@ pub(crate) fn are_valid(table: &Table, list: &[Statement]) -> bool
 }
 
 /// Whether the question names what the table has.
-pub(crate) fn is_asked(table: &Table, question: &Question) -> bool
+pub fn is_asked(table: &Table, question: &Question) -> bool
     ensures { IsTrue result → IsAskedIn table.now question.now }
 {
     valid_question(
@@ -50,7 +50,7 @@ pub(crate) fn is_asked(table: &Table, question: &Question) -> bool
 }
 
 /// Whether all questions name what the table has.
-pub(crate) fn are_asked(table: &Table, questions: &[Question]) -> bool
+pub fn are_asked(table: &Table, questions: &[Question]) -> bool
     ensures { IsTrue result → AllByRecursion (IsAskedIn table.now) questions.now }
 {
     match questions {
@@ -72,11 +72,7 @@ fn are_rising(standing: &[Numbered]) -> bool
 }
 
 /// Whether a desk may hold the statements, with numbers that rise.
-pub(crate) fn may_stand(
-    alloc: Global,
-    table: &Table,
-    standing: &[Numbered],
-) -> Result<bool, AllocError>
+pub fn may_stand(alloc: Global, table: &Table, standing: &[Numbered]) -> Result<bool, AllocError>
     ensures { IfOk result (λ may. IsTrue may → IsLawfulIn table.now (statements_in standing.now)
         × IsStrictlyIncreasing (numbers_in standing.now)) }
 {

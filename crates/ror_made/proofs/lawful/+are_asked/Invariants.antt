@@ -1,5 +1,5 @@
 use Rattle.std.proofs.Common.{length}
-use Rattle.ror_tests_calls.proofs.lawful.+are_asked.Given as goal
+use Rattle.ror_made.proofs.lawful.+are_asked.Given as goal
 
 abbrev pub decreases-are_asked : goal.decreases-are_asked
 decreases-are_asked l = length l.questions.now

@@ -17,14 +17,14 @@ alternative c 1 12
 ";
 
 /// Three alternatives by two criteria of two steps each, with three classes.
-pub(crate) fn three_alternatives(alloc: Global) -> Result<Table, TableError>
+pub fn three_alternatives(alloc: Global) -> Result<Table, TableError>
     ensures { IfOk result IsTable }
 {
     read_plain(alloc, TABLE)
 }
 
 /// The answer alone.
-pub(crate) fn alone(alloc: Global, answer: Answer) -> Result<Vec<Answer>, AllocError>
+pub fn alone(alloc: Global, answer: Answer) -> Result<Vec<Answer>, AllocError>
     ensures { IfOk result (λ answers. answers.items ≡ answer ∷ []) }
 {
     let mut answers = Vec::new(alloc);

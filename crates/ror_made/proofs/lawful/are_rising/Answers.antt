@@ -3,7 +3,7 @@ use Rattle.std.proofs.lemmas.Bool.{cases_lt}
 use Rattle.std.proofs.lemmas.List.{get_or-map}
 use Rattle.ror_statement.specs.declared.statement.Numbered.{Numbered}
 use Rattle.ror_statement.specs.Statements.{numbers_in}
-use Rattle.ror_tests_calls.proofs.lawful.are_rising.Goals as goal
+use Rattle.ror_made.proofs.lawful.are_rising.Goals as goal
 
 rising_more : (list : List Numbered) (place : ℕ) (d e : Numbered) → 1 ≤ place → place < length list → ((k : ℕ) → k + 1 < place → get_or (numbers_in list) k 0 < get_or (numbers_in list) (k + 1) 0) → (get_or list (place - 1) d).number < (get_or list place e).number
     → (k : ℕ) → k + 1 < place + 1 → get_or (numbers_in list) k 0 < get_or (numbers_in list) (k + 1) 0

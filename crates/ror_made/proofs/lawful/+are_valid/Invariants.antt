@@ -1,5 +1,5 @@
 use Rattle.std.proofs.Common.{length}
-use Rattle.ror_tests_calls.proofs.lawful.+are_valid.Given as goal
+use Rattle.ror_made.proofs.lawful.+are_valid.Given as goal
 
 abbrev pub decreases-are_valid : goal.decreases-are_valid
 decreases-are_valid l = length l.list.now
