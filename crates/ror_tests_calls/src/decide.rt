@@ -63,25 +63,13 @@ const LIST: [Statement; 2] = [Statement::Class(0, 3, 3), Statement::Class(1, 1, 
 
 const NECESSARY: Question = Question::NecessaryClass(2, 3);
 
-fn decided_on_a_class(
-    alloc: Global,
-    table: &Table,
-    list: &[Statement],
-    question: &Question,
-) -> Result<Vec<Answer>, AllocError>
-    requires lawful { IsLawfulIn table.now list.now }
-    requires asked { IsAskedIn table.now question.now }
-{
-    let answer = decide_class(alloc, table, list, question, Bits::B127)?;
-    alone(alloc, answer)
-}
-
 #[test]
 fn one_question_on_a_class_is_decided(rt: HostRuntime) -> Result<(), Fail> {
     let table = three_alternatives(rt.alloc())?;
     assert!(rt; is_lawful(&table, &LIST));
     assert!(rt; is_asked(&table, &NECESSARY));
-    let answers = decided_on_a_class(rt.alloc(), &table, &LIST, &NECESSARY)?;
+    let answer = decide_class(rt.alloc(), &table, &LIST, &NECESSARY, Bits::B127)?;
+    let answers = alone(rt.alloc(), answer)?;
     assert!(rt; answers.iter().all(|answer| is_no(&answer.verdict)));
     Ok(())
 }
