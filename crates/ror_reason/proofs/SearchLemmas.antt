@@ -33,7 +33,7 @@ use Rattle.ror_reason.specs.declared.sought.Sought.{Sought}
 use Rattle.ror_reason.specs.declared.sought.Part.{Part}
 use Rattle.ror_reason.specs.Reducts.{stated, without, RestsOnPart, Concludes, IsProvedOther, IsProvedReduct}
 use Rattle.ror_reason.specs.Reasons.{IsGivenOther, IsProvedSo, IsReasonOf, IsReason, IsReasonWithin}
-use Rattle.ror_reason.specs.SearchSteps.{IsSought, IsNarrow, IsDecided, IsPart, IsOther, AreOthersBefore, IsFound, decided_by}
+use Rattle.ror_reason.specs.SearchSteps.{IsSought, IsNarrow, IsDecided, IsDecidedPart, HasAnswer, IsPartOf, IsPart, IsOther, AreOthersBefore, IsFound, decided_by}
 use Rattle.ror_reason.proofs.Parts.{stated-whole, stated_lawful, numbers-whole, numbers-without, without-shorter}
 use Rattle.ror_reason.proofs.LawLemmas.{concluded, proved_is_reduct}
 
@@ -97,33 +97,50 @@ module _ (s : Sought) (sought : IsSought s) where
   pub part_decided : {E : Type 0} (ns : List ℕ) (xs : List Statement) (r : Result Answer E) → xs ≡ stated ns s.list.now → IfOk r (IsGiven (most_of s.bits) s.table.now xs s.answer.now.question) → IfOk r (IsDecided s ns)
   part_decided ns xs r is h = subst (λ ys. IfOk r (IsGiven (most_of s.bits) s.table.now ys s.answer.now.question)) is h
 
-  pub decided_part : (part : Part) → AreNumbersIn s.list.now part.numbers.items → IsDecided s part.numbers.items part.answer → Concludes s.conclusion part.answer.verdict → IsPart s part
-  decided_part part are d concludes = record {
+  part_of_numbers : (ns : List ℕ) (x : Answer) → AreNumbersIn s.list.now ns → IsDecided s ns x → Concludes s.conclusion x.verdict → IsPartOf s ns x
+  part_of_numbers ns x are d concludes = record {
     numbers = are;
     concludes = concludes;
-    proved = allowed_answer_proved (most_of s.bits) s.table.now (stated part.numbers.items s.list.now) s.answer.now.question part.answer (concludes_not_wide s.conclusion part.answer.verdict concludes) d.allowed;
+    proved = allowed_answer_proved (most_of s.bits) s.table.now (stated ns s.list.now) s.answer.now.question x (concludes_not_wide s.conclusion x.verdict concludes) d.allowed;
     narrow = λ within. d.narrow;
   }
 
-  pub whole_part : (part : Part) → part.numbers.items ≡ numbers_in s.list.now → part.answer ≡ s.answer.now → IsPart s part
-  whole_part part all same = record {
+  pub decided_part : (ns : List ℕ) (part : Part) → AreNumbersIn s.list.now ns → IsDecidedPart s ns part → HasAnswer s.conclusion part.answers.items → IsPart s part
+  decided_part ns part are d has = record {
+    answer = d.answer;
+    is_alone = d.is_alone;
+    carries = subst (λ ms. IsPartOf s ms d.answer) (sym d.numbers) (part_of_numbers ns d.answer are d.given (subst (HasAnswer s.conclusion) d.is_alone has));
+  }
+
+  whole_of : (ns : List ℕ) (x : Answer) → ns ≡ numbers_in s.list.now → x ≡ s.answer.now → IsPartOf s ns x
+  whole_of ns x all same = record {
     numbers = subst (AreNumbersIn s.list.now) (sym all) (numbers-whole s.list.now sought.rising);
     concludes = subst (λ (x : Answer). Concludes s.conclusion x.verdict) (sym same) sought.concludes;
-    proved = subst (IsProvedAnswer s.table.now (stated part.numbers.items s.list.now) s.answer.now.question) (sym same) (subst (λ xs. IsProvedAnswer s.table.now xs s.answer.now.question s.answer.now) (sym (ap (λ ns. stated ns s.list.now) all ∙ stated-whole s.list.now)) sought.proved);
+    proved = subst (IsProvedAnswer s.table.now (stated ns s.list.now) s.answer.now.question) (sym same) (subst (λ xs. IsProvedAnswer s.table.now xs s.answer.now.question s.answer.now) (sym (ap (λ ns. stated ns s.list.now) all ∙ stated-whole s.list.now)) sought.proved);
     narrow = subst (λ (x : Answer). IsNarrow s x.verdict) (sym same) (λ within. within);
   }
 
+  pub whole_part : (part : Part) (x : Answer) → part.numbers.items ≡ numbers_in s.list.now → part.answers.items ≡ x ∷ [] → x ≡ s.answer.now → IsPart s part
+  whole_part part x all is_alone same = record { answer = x; is_alone = is_alone; carries = whole_of part.numbers.items x all same }
+
+  -- its one answer is the one it carries
+  pub part_with : (part : Part) → IsPart s part → (x : Answer) → part.answers.items ≡ x ∷ [] → IsPartOf s part.numbers.items x
+  part_with part p x is =
+      let alone : p.answer ∷ [] ≡ x ∷ [] = sym p.is_alone ∙ is in
+      let same : p.answer ≡ x = cc in
+      subst (IsPartOf s part.numbers.items) same p.carries
+
   -- ---- without one statement
 
-  module _ (part : Part) (p : IsPart s part) (n : ℕ) (there : is_member nat_eq part.numbers.items n ≡ true) where
-    pub smaller_part : (smaller : Part) → smaller.numbers.items ≡ without n part.numbers.items → IsDecided s smaller.numbers.items smaller.answer → Concludes s.conclusion smaller.answer.verdict → IsPart s smaller × (length smaller.numbers.items < length part.numbers.items)
-    smaller_part smaller is d concludes = (
-      decided_part smaller (subst (AreNumbersIn s.list.now) (sym is) (numbers-without s.list.now n part.numbers.items p.numbers)) d concludes,
-      subst (λ ms. length ms < length part.numbers.items) (sym is) (without-shorter n part.numbers.items there),
-    )
+  module _ (part smaller : Part) (n : ℕ) (d : IsDecidedPart s (without n part.numbers.items) smaller) where
+    pub smaller_part : IsPart s part → HasAnswer s.conclusion smaller.answers.items → IsPart s smaller
+    smaller_part p has = decided_part (without n part.numbers.items) smaller (numbers-without s.list.now n part.numbers.items p.carries.numbers) d has
 
-    pub other_answer : (rest : List ℕ) (answer : Answer) → rest ≡ without n part.numbers.items → IsDecided s rest answer → (Concludes s.conclusion answer.verdict → ⊥) → IsOther s part.numbers.items n answer
-    other_answer rest answer is d differs = (((subst (λ ms. IsDecided s ms answer) is d).allowed, differs), d.narrow)
+    pub smaller_length : is_member nat_eq part.numbers.items n ≡ true → length smaller.numbers.items < length part.numbers.items
+    smaller_length there = subst (λ ms. length ms < length part.numbers.items) (sym d.numbers) (without-shorter n part.numbers.items there)
+
+    pub other_answer : (HasAnswer s.conclusion smaller.answers.items → ⊥) → IsOther s part.numbers.items n d.answer
+    other_answer not = ((d.given.allowed, λ same. not (subst (HasAnswer s.conclusion) (sym d.is_alone) same)), d.given.narrow)
 
   -- ---- the answers beside the numbers
 
@@ -158,13 +175,13 @@ module _ (s : Sought) (sought : IsSought s) where
   whole_answers : Answers s.table.now (statements_in s.list.now) s.answer.now.question s.conclusion
   whole_answers = concluded s.table.now (statements_in s.list.now) s.answer.now.question s.conclusion s.answer.now.verdict (answer_is_true s.table.now (statements_in s.list.now) s.answer.now.question s.answer.now sought.lawful sought.asked sought.proved) sought.concludes
 
-  part_answers : (part : Part) → IsPart s part → Answers s.table.now (stated part.numbers.items s.list.now) s.answer.now.question s.conclusion
-  part_answers part p =
-      let xs = stated part.numbers.items s.list.now in
-      concluded s.table.now xs s.answer.now.question s.conclusion part.answer.verdict (answer_is_true s.table.now xs s.answer.now.question part.answer (stated_lawful s.table.now s.list.now part.numbers.items sought.lawful) sought.asked p.proved) p.concludes
+  part_answers : (ns : List ℕ) (answer : Answer) → IsPartOf s ns answer → Answers s.table.now (stated ns s.list.now) s.answer.now.question s.conclusion
+  part_answers ns answer p =
+      let xs = stated ns s.list.now in
+      concluded s.table.now xs s.answer.now.question s.conclusion answer.verdict (answer_is_true s.table.now xs s.answer.now.question answer (stated_lawful s.table.now s.list.now ns sought.lawful) sought.asked p.proved) p.concludes
 
-  module _ (part : Part) (p : IsPart s part) (others : List Answer) (beside : AreOthersBefore s part.numbers.items others (length part.numbers.items)) where
-    carried : list_any (λ x. is_wide x.verdict) others ≡ false → IsProvedReduct s.table.now s.list.now s.answer.now.question s.conclusion (record { numbers = part.numbers.items; answer = part.answer; others = others })
+  module _ (ns : List ℕ) (answer : Answer) (p : IsPartOf s ns answer) (others : List Answer) (beside : AreOthersBefore s ns others (length ns)) where
+    carried : list_any (λ x. is_wide x.verdict) others ≡ false → IsProvedReduct s.table.now s.list.now s.answer.now.question s.conclusion (record { numbers = ns; answer = answer; others = others })
     carried none = record {
       rests = sought.rests;
       numbers = p.numbers;
@@ -174,24 +191,24 @@ module _ (s : Sought) (sought : IsSought s) where
       others = other;
     }
       where
-        other : (k n : ℕ) (x : Answer) → slice_get part.numbers.items k ≡ Some n → slice_get others k ≡ Some x → IsProvedOther s.table.now s.list.now s.answer.now.question s.conclusion part.numbers.items n x
+        other : (k n : ℕ) (x : Answer) → slice_get ns k ≡ Some n → slice_get others k ≡ Some x → IsProvedOther s.table.now s.list.now s.answer.now.question s.conclusion ns n x
         other k n x number there =
             let given = beside.each k n x number there in
-            record { proved = allowed_answer_proved (most_of s.bits) s.table.now (stated (without n part.numbers.items) s.list.now) s.answer.now.question x (none_wide others k x none there) given.0; differs = given.1 }
+            record { proved = allowed_answer_proved (most_of s.bits) s.table.now (stated (without n ns) s.list.now) s.answer.now.question x (none_wide others k x none there) given.0; differs = given.1 }
 
-    pub carried_found : (numbers : List ℕ) (xs : List Answer) → numbers ≡ part.numbers.items → xs ≡ others → list_any (λ x. is_wide x.verdict) others ≡ false → IsFound s (reasons.Carried (record { numbers = numbers; answer = part.answer; others = xs }))
+    pub carried_found : (numbers : List ℕ) (xs : List Answer) → numbers ≡ ns → xs ≡ others → list_any (λ x. is_wide x.verdict) others ≡ false → IsFound s (reasons.Carried (record { numbers = numbers; answer = answer; others = xs }))
     carried_found numbers xs own are none =
         let proved = carried none in
-        rw (own, are) ((proved, proved_is_reduct s.table.now s.list.now s.answer.now.question s.conclusion (record { numbers = part.numbers.items; answer = part.answer; others = others }) sought.lawful sought.asked whole_answers proved), λ within. (p.narrow within, beside.narrow))
+        rw (own, are) ((proved, proved_is_reduct s.table.now s.list.now s.answer.now.question s.conclusion (record { numbers = ns; answer = answer; others = others }) sought.lawful sought.asked whole_answers proved), λ within. (p.narrow within, beside.narrow))
 
-    pub wide_found : (numbers : List ℕ) (xs : List Answer) → numbers ≡ part.numbers.items → xs ≡ others → list_any (λ x. is_wide x.verdict) others ≡ true → IsFound s (reasons.Wide numbers part.answer xs)
+    pub wide_found : (numbers : List ℕ) (xs : List Answer) → numbers ≡ ns → xs ≡ others → list_any (λ x. is_wide x.verdict) others ≡ true → IsFound s (reasons.Wide numbers answer xs)
     wide_found numbers xs own are some = rw (own, are) (
       record {
         rests = sought.rests;
         numbers = p.numbers;
         concludes = p.concludes;
         answer = p.proved;
-        carries = part_answers part p;
+        carries = part_answers ns answer p;
         given = record { as_many = beside.as_many; each = beside.each };
         some_wide = some;
       },

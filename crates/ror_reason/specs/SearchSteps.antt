@@ -1,5 +1,5 @@
 -- What each step of a search leaves to the next.
-use Rattle.std.specs.Prelude.{◌≡◌, ℕ, ◌<◌, List, length, slice_get, Some}
+use Rattle.std.specs.Prelude.{◌≡◌, ℕ, ◌<◌, List, [], ◌∷◌, length, slice_get, Some}
 use Rattle.std.specs.List.{AllByRecursion}
 use Rattle.std.specs.List.Sorted.{IsStrictlyIncreasing}
 use Rattle.ror_statement.specs.declared.question.QuestionKind.{QuestionKind}
@@ -18,8 +18,6 @@ use Rattle.ror_reason.specs.declared.reducts.Reason.{Reason}
 use Rattle.ror_reason.specs.declared.reducts.Reason.TheVariants as reasons
 use Rattle.ror_reason.specs.declared.sought.Sought.{Sought}
 use Rattle.ror_reason.specs.declared.sought.Part.{Part}
-use Rattle.ror_reason.specs.declared.sought.Without.{Without}
-use Rattle.ror_reason.specs.declared.sought.Without.TheVariants as withouts
 use Rattle.ror_reason.specs.declared.search.Others.{Others}
 use Rattle.ror_reason.specs.declared.search.Others.TheVariants as others
 use Rattle.ror_reason.specs.Reducts.{stated, RestsOnPart, Concludes}
@@ -42,23 +40,36 @@ IsNarrow s v = IsVerdictWithin (most_of s.bits) s.answer.now.verdict → IsVerdi
 abbrev pub IsDecided : Sought → List ℕ → Answer → Type 0
 IsDecided s ns x = IsGiven (most_of s.bits) s.table.now (stated ns s.list.now) s.answer.now.question x
 
+-- the part of these numbers, with the answer over it alone
+pub record IsDecidedPart (s : Sought) (ns : List ℕ) (part : Part) : Type 0 where
+  pub answer : Answer
+  pub is_alone : part.answers.items ≡ answer ∷ []
+  pub numbers : part.numbers.items ≡ ns
+  pub given : IsDecided s ns answer
+
+-- the one answer concludes this
+abbrev pub HasAnswer : Conclusion → List Answer → Type 0
+HasAnswer c [] = ⊥
+HasAnswer c (x ∷ xs) = Concludes c x.verdict
+
 -- the numbers name a part of the list, over which the answer is the one that is sought
+pub record IsPartOf (s : Sought) (ns : List ℕ) (x : Answer) : Type 0 where
+  pub numbers : AreNumbersIn s.list.now ns
+  pub concludes : Concludes s.conclusion x.verdict
+  pub proved : IsProvedAnswer s.table.now (stated ns s.list.now) s.answer.now.question x
+  pub narrow : IsNarrow s x.verdict
+
+-- such a part, with its answer alone
 pub record IsPart (s : Sought) (part : Part) : Type 0 where
-  pub numbers : AreNumbersIn s.list.now part.numbers.items
-  pub concludes : Concludes s.conclusion part.answer.verdict
-  pub proved : IsProvedAnswer s.table.now (stated part.numbers.items s.list.now) s.answer.now.question part.answer
-  pub narrow : IsNarrow s part.answer.verdict
+  pub answer : Answer
+  pub is_alone : part.answers.items ≡ answer ∷ []
+  pub carries : IsPartOf s part.numbers.items answer
 
 -- the answer beside a number is given at the width, and isn't the one that is sought
 abbrev pub IsOther : Sought → List ℕ → ℕ → Answer → Type 0
 IsOther s ns n other =
     IsGivenOther (most_of s.bits) s.table.now s.list.now s.answer.now.question s.conclusion ns n other
     × IsVerdictWithin (most_of s.bits) other.verdict
-
--- what the part without a number comes to
-abbrev pub IsWithout : Sought → List ℕ → ℕ → Without → Type 0
-IsWithout s ns n (withouts.Same part) = IsPart s part × (length part.numbers.items < length ns)
-IsWithout s ns n (withouts.Another other) = IsOther s ns n other
 
 -- each answer stands beside its number, from the first on
 pub record AreOthersBefore (s : Sought) (ns : List ℕ) (xs : List Answer) (i : ℕ) : Type 0 where

@@ -1,13 +1,13 @@
 //! The search for a reduct.
 
-ghost use Rattle.std.specs.Prelude.{◌≡◌, ◌≤◌, length, IfOk, IfSome};
+ghost use Rattle.std.specs.Prelude.{◌≡◌, ◌≤◌, ◌++◌, length, IfOk, OnOk};
 ghost use Rattle.std.specs.List.{list_any};
 ghost use Rattle.ror_check.specs.Proof.{is_wide};
 ghost use Rattle.ror_reason.specs.SearchSteps.{IsSought, IsPart, AreOthers, AreOthersBefore, IsFound};
 
-use crate::part::{concludes, numbers_of};
+use crate::part::numbers_of;
 use crate::reducts::{Reason, Reduct};
-use crate::sought::{Part, Sought, Without, decide_part, try_without};
+use crate::sought::{Part, Sought, alone, answered_part, has_answer, only, part_without};
 use crate::weights::weighed;
 use ror_proof::{Answer, Verdict};
 use ror_text::Items;
@@ -33,31 +33,24 @@ pub(crate) fn found(
     ensures ok { IfOk result (IsFound sought.now) }
     ensures counted { engine.old.pivots ≤ engine.new.pivots }
 {
-    let part = match weighed_part(alloc, engine, sought)? {
-        Some(part) => part,
-        None => whole(alloc, sought)?,
-    };
+    let part = first_part(alloc, engine, sought)?;
     let part = without_idle(alloc, engine, sought, part)?;
     smallest(alloc, engine, sought, part)
 }
 
-/// The part of the statements that have weight in the proof, where that has the answer.
-fn weighed_part(
-    alloc: Global,
-    engine: &mut Engine,
-    sought: &Sought,
-) -> Result<Option<Part>, AllocError>
+/// The part that the search begins with: of the statements that have weight in the proof, where that has the answer, else the
+/// whole list.
+fn first_part(alloc: Global, engine: &mut Engine, sought: &Sought) -> Result<Part, AllocError>
     requires { IsSought sought.now }
-    ensures ok { IfOk result (λ part. IfSome part (IsPart sought.now)) }
+    ensures ok { IfOk result (IsPart sought.now) }
     ensures counted { engine.old.pivots ≤ engine.new.pivots }
 {
     let numbers = weighed(alloc, sought.list, sought.answer)?;
-    let answer = decide_part(alloc, engine, sought, numbers.as_slice())?;
-    let part = Part { numbers, answer };
-    if concludes(&part.answer.verdict, sought.conclusion) {
-        Ok(Some(part))
+    let part = answered_part(alloc, engine, sought, numbers)?;
+    if has_answer(sought, &part) {
+        Ok(part)
     } else {
-        Ok(None)
+        whole(alloc, sought)
     }
 }
 
@@ -68,7 +61,8 @@ fn whole(alloc: Global, sought: &Sought) -> Result<Part, AllocError>
 {
     let numbers = numbers_of(alloc, sought.list)?;
     let answer = sought.answer.copied(alloc)?;
-    Ok(Part { numbers, answer })
+    let answers = alone(alloc, answer)?;
+    Ok(Part { numbers, answers })
 }
 
 /// The part without each statement that is found to be spared, from the first on, of what is left.
@@ -87,9 +81,11 @@ fn without_idle(
     let mut place = 0;
     'places: while place < part.numbers.len() {
         let number = part.numbers[place];
-        match try_without(alloc, engine, sought, &part, number)? {
-            Without::Same(smaller) => part = smaller,
-            Without::Another(_) => place += 1,
+        let smaller = part_without(alloc, engine, sought, &part, number)?;
+        if has_answer(sought, &smaller) {
+            part = smaller;
+        } else {
+            place += 1;
         }
     }
     Ok(part)
@@ -127,12 +123,21 @@ fn try_each(
 {
     let mut others = Vec::new(alloc);
     for number in part.numbers.as_slice() {
-        match try_without(alloc, engine, sought, part, *number)? {
-            Without::Same(smaller) => return Ok(Others::Smaller(smaller)),
-            Without::Another(other) => others.push(other)?,
+        let smaller = part_without(alloc, engine, sought, part, *number)?;
+        if has_answer(sought, &smaller) {
+            return Ok(Others::Smaller(smaller));
         }
+        push_answer(&mut others, smaller)?;
     }
     Ok(Others::All(others))
+}
+
+/// Adds the answer over the part.
+fn push_answer(others: &mut Vec<Answer>, part: Part) -> Result<(), AllocError>
+    ensures { OnOk result (others.new.items ≡ others.old.items ++ part.answers.items) }
+{
+    let mut answers = part.answers;
+    others.append(&mut answers)
 }
 
 /// The part with the answers beside its numbers: a reduct, where each of them concludes something.
@@ -144,7 +149,7 @@ fn reason_with(sought: &Sought, part: Part, others: Vec<Answer>) -> Reason
 {
     let wide = is_some_wide(others.as_slice());
     let numbers = Items::from(part.numbers);
-    let answer = part.answer;
+    let answer = only(part.answers);
     let others = Items::from(others);
     if wide {
         Reason::Wide {

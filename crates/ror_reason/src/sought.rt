@@ -1,8 +1,8 @@
 //! What is sought, and the step of a search: what is answered without one statement of a part.
 
-ghost use Rattle.std.specs.Prelude.{◌≡◌, ◌≤◌, nat_eq, true, IfOk};
-ghost use Rattle.std.specs.Set.{is_member};
-ghost use Rattle.ror_reason.specs.SearchSteps.{IsSought, IsDecided, IsPart, IsWithout};
+ghost use Rattle.std.specs.Prelude.{◌≡◌, ◌≤◌, ◌↔◌, [], ◌∷◌, length, IsTrue, IfOk};
+ghost use Rattle.ror_reason.specs.Reducts as reducts;
+ghost use Rattle.ror_reason.specs.SearchSteps.{IsSought, IsDecided, IsDecidedPart, HasAnswer};
 
 use crate::part::{concludes, stated, without};
 use ror_pivot::Bits;
@@ -24,24 +24,47 @@ pub(crate) struct Sought<'a> {
     pub(crate) bits: Bits,
 }
 
-/// A part of the list, by the numbers of its statements, and the answer over it.
+/// A part of the list, by the numbers of its statements, and the answer over it: in a list of one, as the proof of a search that
+/// holds lists is shorter.
 #[derive(Drop)]
 pub(crate) struct Part {
     pub(crate) numbers: Vec<u32>,
-    pub(crate) answer: Answer,
+    pub(crate) answers: Vec<Answer>,
 }
 
-/// What a part comes to without one of its statements.
-#[derive(Drop)]
-pub(crate) enum Without {
-    /// It has the answer still.
-    Same(Part),
-    /// The answer is another, or concludes nothing.
-    Another(Answer),
+/// A list of the answer alone.
+pub(crate) fn alone(alloc: Global, answer: Answer) -> Result<Vec<Answer>, AllocError>
+    ensures { IfOk result (λ answers. answers.items ≡ answer ∷ []) }
+{
+    let mut answers = Vec::new(alloc);
+    answers.push(answer)?;
+    Ok(answers)
+}
+
+/// The one answer of a list.
+pub(crate) fn only(answers: Vec<Answer>) -> Answer
+    requires { length answers.items ≡ 1 }
+    ensures { answers.items ≡ result ∷ [] }
+{
+    let mut answers = answers;
+    match answers.pop() {
+        Some(answer) => answer,
+        None => unreachable!(),
+    }
+}
+
+/// Whether the part has the answer that is sought.
+pub(crate) fn has_answer(sought: &Sought, part: &Part) -> bool
+    ensures { IsTrue result ↔ HasAnswer sought.now.conclusion part.now.answers.items }
+{
+    match part.answers.as_slice() {
+        [] => false,
+        [x, ..] => concludes(&x.verdict, sought.conclusion),
+    }
 }
 
 /// The answer over the part with these numbers, whatever that concludes.
-pub(crate) fn decide_part(
+fn decide_part(
     alloc: Global,
     engine: &mut Engine,
     sought: &Sought,
@@ -58,25 +81,35 @@ pub(crate) fn decide_part(
     decided.answer(alloc, engine, sought.table, question, sought.bits)
 }
 
-/// What the part comes to without the statement with this number.
-pub(crate) fn try_without(
+/// The part with these numbers, and the answer over it.
+pub(crate) fn answered_part(
+    alloc: Global,
+    engine: &mut Engine,
+    sought: &Sought,
+    numbers: Vec<u32>,
+) -> Result<Part, AllocError>
+    requires { IsSought sought.now }
+    ensures ok { IfOk result (IsDecidedPart sought.now numbers.items) }
+    ensures counted { engine.old.pivots ≤ engine.new.pivots }
+{
+    let answer = decide_part(alloc, engine, sought, numbers.as_slice())?;
+    let answers = alone(alloc, answer)?;
+    Ok(Part { numbers, answers })
+}
+
+/// The part without the statement with this number, and the answer over it.
+pub(crate) fn part_without(
     alloc: Global,
     engine: &mut Engine,
     sought: &Sought,
     part: &Part,
     number: u32,
-) -> Result<Without, AllocError>
-    requires sought { IsSought sought.now }
-    requires part { IsPart sought.now part.now }
-    requires there { is_member nat_eq part.now.numbers.items number ≡ true }
-    ensures ok { IfOk result (IsWithout sought.now part.now.numbers.items number) }
+) -> Result<Part, AllocError>
+    requires { IsSought sought.now }
+    ensures ok { IfOk result (IsDecidedPart sought.now
+        (reducts.without number part.now.numbers.items)) }
     ensures counted { engine.old.pivots ≤ engine.new.pivots }
 {
     let numbers = without(alloc, number, part.numbers.as_slice())?;
-    let answer = decide_part(alloc, engine, sought, numbers.as_slice())?;
-    if concludes(&answer.verdict, sought.conclusion) {
-        Ok(Without::Same(Part { numbers, answer }))
-    } else {
-        Ok(Without::Another(answer))
-    }
+    answered_part(alloc, engine, sought, numbers)
 }
