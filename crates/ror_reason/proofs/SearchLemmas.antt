@@ -21,8 +21,7 @@ use Rattle.ror_pivot.specs.Answers.{most_of}
 use Rattle.ror_proof.specs.declared.answer.Answer.{Answer}
 use Rattle.ror_proof.specs.declared.answer.Verdict.{Verdict}
 use Rattle.ror_proof.specs.declared.answer.Verdict.TheVariants as verdicts
-use Rattle.ror_proof.specs.declared.answer.WideText.{WideText}
-use Rattle.ror_check.specs.Proof.{OfProof, Proves, IsWide, is_wide, may_conclude, IsProvedAnswer, IsWideOrTrue, IsAllowedAnswer, IsAllowedVerdict}
+use Rattle.ror_check.specs.Proof.{OfProof, Proves, IsWide, is_wide, may_conclude, IsProvedAnswer, IsAllowedAnswer, IsAllowedVerdict}
 use Rattle.ror_check.specs.Repair.{AreNumbersIn}
 use Rattle.ror_check.proofs.Checking.{answer_is_true}
 use Rattle.ror_given.specs.Notes.{HasNoteAt}
@@ -32,7 +31,7 @@ use Rattle.ror_reason.specs.declared.reducts.Reason.TheVariants as reasons
 use Rattle.ror_reason.specs.declared.sought.Sought.{Sought}
 use Rattle.ror_reason.specs.declared.sought.Part.{Part}
 use Rattle.ror_reason.specs.Reducts.{stated, without, RestsOnPart, Concludes, IsProvedOther, IsProvedReduct}
-use Rattle.ror_reason.specs.Reasons.{IsGivenOther, IsProvedSo, IsReasonOf, IsReason, IsReasonWithin}
+use Rattle.ror_reason.specs.Reasons.{IsGivenOther, IsProvedSo, IsReasonOf, IsReasonWithin}
 use Rattle.ror_reason.specs.SearchSteps.{IsSought, IsNarrow, IsDecided, IsDecidedPart, HasAnswer, IsPartOf, IsPart, IsOther, AreOthersBefore, IsFound, decided_by}
 use Rattle.ror_reason.proofs.Parts.{stated-whole, stated_lawful, numbers-whole, numbers-without, without-shorter}
 use Rattle.ror_reason.proofs.LawLemmas.{concluded, proved_is_reduct}
@@ -259,30 +258,7 @@ decided_narrow most k c answer within = by k c
 
 -- ---- the answers of the calls
 
-reason_of_verdict : (most : ℕ) (t : DecisionTable) (list : List Numbered) (q : Question) (v : Verdict) (r : Reason) → IsWideOrTrue t (statements_in list) q v → OfProof (λ c proof. IsReasonOf most t list q c r) v → IsReason most t list q r
-reason_of_verdict most t list q (verdicts.Yes proof) r is reason = inl (conclusions.Yes, is, reason)
-reason_of_verdict most t list q (verdicts.No proof) r is reason = inl (conclusions.No, is, reason)
-reason_of_verdict most t list q (verdicts.Contradiction proof) r is reason = inl (conclusions.Contradiction, is, reason)
-reason_of_verdict most t list q (verdicts.Wide system note) r is reason = absurd reason
-
 pub found_so : {E : Type 0} (most : ℕ) (t : DecisionTable) (list : List Numbered) (answer : Answer) (c : Conclusion) (r : Result Reason E) → Concludes c answer.verdict → IfOk r (λ reason. IsReasonOf most t list answer.question c reason × (IsVerdictWithin most answer.verdict → IsReasonWithin most reason))
     → IfOk r (λ reason. OfProof (λ d proof. IsReasonOf most t list answer.question d reason) answer.verdict)
 found_so most t list answer c (Ok reason) same h = of_concluded (λ d. IsReasonOf most t list answer.question d reason) c answer.verdict same h.0
 found_so most t list answer c (Err e) same h = tt
-
-not_wide : (v : Verdict) → ((system : ℕ) (note : WideText) → v ≡ verdicts.Wide system note → ⊥) → IsWide v → ⊥
-not_wide (verdicts.Wide system note) other wide = other system note refl
-not_wide (verdicts.Yes proof) other wide = absurd wide
-not_wide (verdicts.No proof) other wide = absurd wide
-not_wide (verdicts.Contradiction proof) other wide = absurd wide
-
-pub answer_proved : (most : ℕ) (t : DecisionTable) (list : List Numbered) (q : Question) (xs : List Statement) (x : Answer) → xs ≡ statements_in list → IsAllowedAnswer (HasNoteAt most) t xs q x → ((system : ℕ) (note : WideText) → x.verdict ≡ verdicts.Wide system note → ⊥) → OfProof (Proves t (statements_in list) q) x.verdict
-answer_proved most t list q xs x is allowed other = subst (λ ys. OfProof (Proves t ys q) x.verdict) is (allowed_proved most t xs q x.verdict (not_wide x.verdict other) allowed.verdict)
-
-pub answer_reasons : {E : Type 0} (most : ℕ) (t : DecisionTable) (list : List Numbered) (q : Question) (xs : List Statement) (v : Verdict) (r : Result Reason E) → xs ≡ statements_in list → IsWideOrTrue t xs q v → IfOk r (λ reason. OfProof (λ c proof. IsReasonOf most t list q c reason) v) → IfOk r (IsReason most t list q)
-answer_reasons most t list q xs v (Ok reason) is so h = reason_of_verdict most t list q v reason (subst (λ ys. IsWideOrTrue t ys q v) is so) h
-answer_reasons most t list q xs v (Err e) is so h = tt
-
-pub answer_narrow : {E : Type 0} (most : ℕ) (v : Verdict) (r : Result Reason E) → IsVerdictWithin most v → IfOk r (λ reason. IsVerdictWithin most v → IsReasonWithin most reason) → IfOk r (IsReasonWithin most)
-answer_narrow most v (Ok reason) within h = h within
-answer_narrow most v (Err e) within h = tt

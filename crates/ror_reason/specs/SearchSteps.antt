@@ -2,11 +2,14 @@
 use Rattle.std.specs.Prelude.{◌≡◌, ℕ, ◌<◌, List, [], ◌∷◌, length, slice_get, Some}
 use Rattle.std.specs.List.{AllByRecursion}
 use Rattle.std.specs.List.Sorted.{IsStrictlyIncreasing}
+use Rattle.ror_statement.specs.declared.statement.Numbered.{Numbered}
+use Rattle.ror_statement.specs.declared.question.Question.{Question}
 use Rattle.ror_statement.specs.declared.question.QuestionKind.{QuestionKind}
 use Rattle.ror_statement.specs.declared.question.QuestionKind.TheVariants.{Every}
 use Rattle.ror_statement.specs.declared.question.Conclusion.{Conclusion}
 use Rattle.ror_statement.specs.declared.question.Conclusion.TheVariants.{No}
 use Rattle.ror_statement.specs.Statements.{numbers_in, statements_in}
+use Rattle.ror_table.specs.Table.{DecisionTable}
 use Rattle.ror_value.specs.Over.{IsLawfulIn, IsAskedIn}
 use Rattle.ror_pivot.specs.Answers.{most_of}
 use Rattle.ror_proof.specs.declared.answer.Answer.{Answer}
@@ -87,6 +90,13 @@ AreOthers s ns (others.All xs) = AreOthersBefore s ns xs.items (length ns)
 abbrev pub IsFound : Sought → Reason → Type 0
 IsFound s r = IsReasonOf (most_of s.bits) s.table.now s.list.now s.answer.now.question s.conclusion r
     × (IsVerdictWithin (most_of s.bits) s.answer.now.verdict → IsReasonWithin (most_of s.bits) r)
+
+-- the answer to the question over the list may be given at the width, and stands alone
+pub record IsAnswered (most : ℕ) (t : DecisionTable) (list : List Numbered) (q : Question)
+    (answers : List Answer) : Type 0 where
+  pub answer : Answer
+  pub is_alone : answers ≡ answer ∷ []
+  pub given : IsGiven most t (statements_in list) q answer
 
 -- the reason of an answer that no statement carries
 abbrev pub decided_by : QuestionKind → Conclusion → Answer → Reason

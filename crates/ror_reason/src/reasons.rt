@@ -6,16 +6,16 @@ ghost use Rattle.ror_pivot.specs.Answers.{most_of};
 ghost use Rattle.ror_statement.specs.Questions as questions;
 ghost use Rattle.ror_statement.specs.Statements.{numbers_in, statements_in};
 ghost use Rattle.ror_value.specs.Over.{IsLawfulIn, IsAskedIn};
-ghost use Rattle.ror_given.specs.Answers.{IsVerdictWithin};
+ghost use Rattle.ror_given.specs.Answers.{IsVerdictWithin, IsGiven};
 ghost use Rattle.ror_check.specs.Proof.{OfProof, IsWide, IsProvedAnswer};
 ghost use Rattle.ror_reason.specs.Reducts.{Concludes};
 ghost use Rattle.ror_reason.specs.Reasons.{IsReason, IsReasonOf, IsReasonWithin};
-ghost use Rattle.ror_reason.specs.SearchSteps.{decided_by};
+ghost use Rattle.ror_reason.specs.SearchSteps.{IsAnswered, decided_by};
 
 use crate::part::rests_on_part;
 use crate::reducts::Reason;
 use crate::search::found;
-use crate::sought::Sought;
+use crate::sought::{Sought, alone};
 use ror_pivot::Bits;
 use ror_proof::{Answer, Verdict};
 use ror_relation::decide_warm;
@@ -42,17 +42,57 @@ pub fn reduct(
     ensures narrow { IfOk result (IsReasonWithin (most_of bits)) }
 {
     let engine = &mut Engine::new(alloc);
+    let answers = answer_over(alloc, engine, table, list, question, bits)?;
+    match answers.as_slice() {
+        [] => unreachable!(),
+        [answer, ..] => reason_of(alloc, engine, table, list, answer, bits),
+    }
+}
+
+/// The answer to the question over the list, in a list of one.
+fn answer_over(
+    alloc: Global,
+    engine: &mut Engine,
+    table: &Table,
+    list: &[Numbered],
+    question: &Question,
+    bits: Bits,
+) -> Result<Vec<Answer>, AllocError>
+    requires lawful { IsLawfulIn table.now (statements_in list.now) }
+    requires asked { IsAskedIn table.now question.now }
+    ensures { IfOk result (λ answers.
+        IsAnswered (most_of bits) table.now list.now question.now answers.items) }
+{
     let statements = statements_in(alloc, list)?;
     let answer = decide_warm(alloc, engine, table, statements.as_slice(), question, bits)?;
-    match answer.verdict {
-        Verdict::Wide { system, note } => Ok(Reason::WhollyWide { system, note }),
-        verdict => {
-            let answer = Answer {
-                question: *question,
-                verdict,
-            };
-            reduct_of(alloc, engine, table, list, &answer, bits)
-        }
+    let answers = alone(alloc, answer)?;
+    Ok(answers)
+}
+
+/// The reason of an answer that may be given over the list.
+fn reason_of(
+    alloc: Global,
+    engine: &mut Engine,
+    table: &Table,
+    list: &[Numbered],
+    answer: &Answer,
+    bits: Bits,
+) -> Result<Reason, AllocError>
+    requires lawful { IsLawfulIn table.now (statements_in list.now) }
+    requires rising { IsStrictlyIncreasing (numbers_in list.now) }
+    requires asked { IsAskedIn table.now answer.now.question }
+    requires given { IsGiven (most_of bits) table.now (statements_in list.now)
+        answer.now.question answer.now }
+    ensures reason { IfOk result (IsReason (most_of bits)
+        table.now list.now answer.now.question) }
+    ensures narrow { IfOk result (IsReasonWithin (most_of bits)) }
+{
+    match &answer.verdict {
+        Verdict::Wide { system, note } => Ok(Reason::WhollyWide {
+            system: *system,
+            note: note.copied(alloc)?,
+        }),
+        _ => reduct_of(alloc, engine, table, list, answer, bits),
     }
 }
 
