@@ -1,3 +1,4 @@
+pub mod Became
 pub mod Laws
 pub mod Page
 pub mod Refusals
