@@ -14,7 +14,7 @@ use Rattle.ror_class_pages.specs.Meaning.{MayBelong, SignSays}
 use Rattle.ror_class_pages.specs.Laws.{IntervalsAreTrue}
 use Rattle.ror_class_pages.proofs.SignLemmas.{signs-true, both}
 
-lowest_most : (xs : List Answer) (n : ℕ) → lowest xs n ≤ n
+pub lowest_most : (xs : List Answer) (n : ℕ) → lowest xs n ≤ n
 lowest_most xs zero = omega arith
 lowest_most xs (suc n) = by (lowest_most xs n) (lowest xs n == 0 && is_left xs (n + 1))
   where
@@ -81,10 +81,36 @@ between xs (suc n) g from to left = by (between xs n g from) (g == suc n) refl
         let below = below_last g n to (eqb-false g (suc n) other) in
         before xs n g below (so_far below left)
 
+-- ---- the ends themselves
+
+pub highest_most : (xs : List Answer) (n : ℕ) → highest xs n ≤ n
+highest_most xs zero = omega arith
+highest_most xs (suc n) = by (highest_most xs n) (is_left xs (n + 1))
+  where
+    by : highest xs n ≤ n → (b : Bool) → (if b then n + 1 else highest xs n) ≤ suc n
+    by below true = omega arith
+    by below false = omega (arith, below)
+
+pub lowest_left : (xs : List Answer) (n : ℕ) → 1 ≤ lowest xs n → is_left xs (lowest xs n) ≡ true
+lowest_left xs zero some = absurd (omega (arith, some))
+lowest_left xs (suc n) some = by (lowest xs n == 0 && is_left xs (n + 1)) refl some (lowest_left xs n)
+  where
+    by : (b : Bool) → (lowest xs n == 0 && is_left xs (n + 1)) ≡ b → 1 ≤ (if b then n + 1 else lowest xs n) → (1 ≤ lowest xs n → is_left xs (lowest xs n) ≡ true) → is_left xs (if b then n + 1 else lowest xs n) ≡ true
+    by true last from before_it = (both (lowest xs n == 0) (is_left xs (n + 1)) last).1
+    by false last from before_it = before_it from
+
+pub highest_left : (xs : List Answer) (n : ℕ) → 1 ≤ highest xs n → is_left xs (highest xs n) ≡ true
+highest_left xs zero some = absurd (omega (arith, some))
+highest_left xs (suc n) some = by (is_left xs (n + 1)) refl some (highest_left xs n)
+  where
+    by : (b : Bool) → is_left xs (n + 1) ≡ b → 1 ≤ (if b then n + 1 else highest xs n) → (1 ≤ highest xs n → is_left xs (highest xs n) ≡ true) → is_left xs (if b then n + 1 else highest xs n) ≡ true
+    by true left from before_it = left
+    by false left from before_it = before_it from
+
 -- ---- of true answers
 
 -- a class to which some function lets the alternative belong is left
-still_left : (t : DecisionTable) (list : List Statement) (s : Sign) (a h : ℕ) → SignSays t list s a h → BySome t list (MayBelong t list a h) → may_be s ≡ true
+pub still_left : (t : DecisionTable) (list : List Statement) (s : Sign) (a h : ℕ) → SignSays t list s a h → BySome t list (MayBelong t list a h) → may_be s ≡ true
 still_left t list signs.Necessary a h says some = refl
 still_left t list signs.Possible a h says some = refl
 still_left t list signs.Impossible a h says some = absurd (says.by_none some)
@@ -92,7 +118,7 @@ still_left t list signs.Contradiction a h says some = absurd (says some.0 some.1
 still_left t list signs.Unknown a h says some = refl
 
 -- a class that is possible is one to which some function lets it belong
-by_some : (t : DecisionTable) (list : List Statement) (s : Sign) (a h : ℕ) → SignSays t list s a h → is_possible s ≡ true → BySome t list (MayBelong t list a h)
+pub by_some : (t : DecisionTable) (list : List Statement) (s : Sign) (a h : ℕ) → SignSays t list s a h → is_possible s ≡ true → BySome t list (MayBelong t list a h)
 by_some t list signs.Necessary a h says possible = (says.consistent.0, says.consistent.1, says.by_every says.consistent.0 says.consistent.1)
 by_some t list signs.Possible a h says possible = says.by_some
 by_some t list signs.Impossible a h says possible = absurd cc
