@@ -15,7 +15,7 @@ use Rattle.ror_pages.specs.declared.relation.RelationPage.{RelationPage}
 use Rattle.ror_pages.specs.Pages.{IsRelationPage, known}
 use Rattle.ror_pages.specs.Text.{counted, line_text, statements_text, pairs_among, levels_text, none_text, pairs_listed}
 use Rattle.ror_change_pages.specs.Turns.{desk_at, turns}
-use Rattle.ror_change_pages.specs.Counts.{unknown_pairs, contradictory_pairs}
+use Rattle.ror_pages.specs.Rows.{unknown_pairs, contradictory_pairs}
 
 -- ---- the heading
 

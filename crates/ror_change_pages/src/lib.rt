@@ -14,7 +14,6 @@
 #![tactic(auto)]
 
 mod changes;
-mod counts;
 mod csv;
 pub mod laws;
 mod lists;

@@ -5,10 +5,12 @@ ghost use Rattle.ror_statement.specs.Statements.{numbers_in};
 ghost use Rattle.ror_pages.specs.Text.{pairs_among, statements_text};
 ghost use Rattle.ror_change_pages.specs.Text as spec;
 
-use crate::counts::{contradictory_pairs, unknown_pairs};
 use crate::turns::desk_at;
 use ror_bench::KeptLine;
-use ror_pages::{Cell, RelationPage, write_count, write_line, write_statements};
+use ror_pages::{
+    Cell, RelationPage, contradictory_pairs, unknown_pairs, write_count, write_line,
+    write_statements,
+};
 use ror_session::Session;
 use ror_statement::Numbered;
 use ror_table::Table;

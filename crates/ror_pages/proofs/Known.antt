@@ -26,21 +26,27 @@ use Rattle.ror_pages.proofs.Mirror.{mirrored}
 
 -- ---- where the marks stand
 
-known-size : (n : ℕ) (xs : List Answer) → length (known (cell_rows n xs)) ≡ n
-known-size n xs = length-map (cell_rows n xs) (map is_over) ∙ length-map-range_with_len (cells_from n xs) 0 n
+pub marks-size : (mark : Cell → Bool) (n : ℕ) (xs : List Answer) → length (marks mark (cell_rows n xs)) ≡ n
+marks-size mark n xs = length-map (cell_rows n xs) (map mark) ∙ length-map-range_with_len (cells_from n xs) 0 n
 
-pub known-at : (n : ℕ) (xs : List Answer) (a b : ℕ) → a < n → b < n → holds (known (cell_rows n xs)) a b ≡ is_over (cell_at n xs a b)
-known-at n xs a b row column =
+pub marks-at : (mark : Cell → Bool) (n : ℕ) (xs : List Answer) (a b : ℕ) → a < n → b < n → holds (marks mark (cell_rows n xs)) a b ≡ mark (cell_at n xs a b)
+marks-at mark n xs a b row column =
     let many : length (cell_rows n xs) ≡ n = length-map-range_with_len (cells_from n xs) 0 n in
     let wide : length (cells_from n xs a) ≡ n = length-map-range_with_len (cell_at n xs a) 0 n in
-    let there : nat_lt b (length (known (cell_rows n xs))) ≡ true = lt-ltb b (length (known (cell_rows n xs))) (let size = known-size n xs in omega arith) in
-    let of_row : get_or (known (cell_rows n xs)) a [] ≡ map is_over (get_or (cell_rows n xs) a []) = get_or-map (map is_over) (cell_rows n xs) a [] [] (omega arith) in
+    let there : nat_lt b (length (marks mark (cell_rows n xs))) ≡ true = lt-ltb b (length (marks mark (cell_rows n xs))) (let size = marks-size mark n xs in omega arith) in
+    let of_row : get_or (marks mark (cell_rows n xs)) a [] ≡ map mark (get_or (cell_rows n xs) a []) = get_or-map (map mark) (cell_rows n xs) a [] [] (omega arith) in
     let the_row : get_or (cell_rows n xs) a [] ≡ cells_from n xs a = get_or-map-range_with_len (cells_from n xs) 0 n a a [] row (omega arith) in
-    let of_cell : get_or (map is_over (cells_from n xs a)) b false ≡ is_over (get_or (cells_from n xs a) b cells.Open) = get_or-map is_over (cells_from n xs a) b cells.Open false (omega arith) in
+    let of_cell : get_or (map mark (cells_from n xs a)) b false ≡ mark (get_or (cells_from n xs a) b cells.Open) = get_or-map mark (cells_from n xs a) b cells.Open false (omega arith) in
     let the_cell : get_or (cells_from n xs a) b cells.Open ≡ cell_at n xs a b = get_or-map-range_with_len (cell_at n xs a) 0 n b b cells.Open column (omega arith) in
-    let entry : get_or (get_or (known (cell_rows n xs)) a []) b false ≡ is_over (cell_at n xs a b) =
-    ap (λ (r : List Bool). get_or r b false) (of_row ∙ ap (map is_over) the_row) ∙ of_cell ∙ ap is_over the_cell in
-    ap (λ (t : Bool). t && get_or (get_or (known (cell_rows n xs)) a []) b false) there ∙ entry
+    let entry : get_or (get_or (marks mark (cell_rows n xs)) a []) b false ≡ mark (cell_at n xs a b) =
+    ap (λ (r : List Bool). get_or r b false) (of_row ∙ ap (map mark) the_row) ∙ of_cell ∙ ap mark the_cell in
+    ap (λ (t : Bool). t && get_or (get_or (marks mark (cell_rows n xs)) a []) b false) there ∙ entry
+
+known-size : (n : ℕ) (xs : List Answer) → length (known (cell_rows n xs)) ≡ n
+known-size = marks-size is_over
+
+pub known-at : (n : ℕ) (xs : List Answer) (a b : ℕ) → a < n → b < n → holds (known (cell_rows n xs)) a b ≡ is_over (cell_at n xs a b)
+known-at = marks-at is_over
 
 -- ---- what a mark says
 

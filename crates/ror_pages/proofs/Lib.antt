@@ -4,4 +4,5 @@ pub mod OneCell
 pub mod DominanceLemmas
 pub mod Mirror
 pub mod Known
+pub mod CountLemmas
 pub mod Pieces

@@ -81,10 +81,6 @@ is_over_another cells.AtLeastAsGood = true
 is_over_another cells.AlwaysEqual = true
 is_over_another _ = false
 
-abbrev pub is_unknown : Cell → Bool
-is_unknown cells.Unknown = true
-is_unknown _ = false
-
 abbrev pub is_open : Cell → Bool
 is_open cells.Open = true
 is_open _ = false

@@ -1,5 +1,5 @@
 -- What the cells of true answers say is true, and no two of them say so of one pair.
-use Rattle.std.specs.Prelude.{◌≡◌, ◌≢◌, ◌↔◌, ℕ, ◌<◌, true, List, ℤ, ◌≤ℤ◌}
+use Rattle.std.specs.Prelude.{◌≡◌, ◌≢◌, ◌↔◌, ℕ, ◌+◌, ◌<◌, true, List, length, ℤ, ◌≤ℤ◌}
 use Rattle.std.specs.List.{AllByRecursion}
 use Rattle.ror_statement.specs.declared.statement.Statement.{Statement}
 use Rattle.ror_table.specs.Table.{DecisionTable, IsTable}
@@ -13,7 +13,10 @@ use Rattle.ror_value.specs.Laws.{IsNecessarilyPreferred}
 use Rattle.ror_order.specs.Relations.{holds, IsAbove, IsTransitive, IsAcyclic, Path}
 use Rattle.ror_order.specs.Arrows.{IsArrow}
 use Rattle.ror_pages.specs.Cells.{cell_at, cell_rows, mirror}
-use Rattle.ror_pages.specs.Pages.{known}
+use Rattle.ror_pages.specs.declared.relation.RelationPage.{RelationPage}
+use Rattle.ror_pages.specs.Pages.{known, IsRelationPage}
+use Rattle.ror_pages.specs.Rows.{unknown_pairs, contradictory_pairs}
+use Rattle.ror_pages.specs.Text.{pairs_among}
 use Rattle.ror_pages.specs.Dominance.{dominates}
 use Rattle.ror_pages.specs.Meaning.{Says}
 
@@ -38,6 +41,12 @@ DominanceIsNecessary = (t : DecisionTable) (w : List ℤ) (a b : ℕ) → domina
 -- the cell of the column against the row is the mirror of the cell of the row against the column
 abbrev pub CellsMirror : Type 0
 CellsMirror = (n : ℕ) (xs : List Answer) (a b : ℕ) → cell_at n xs b a ≡ mirror (cell_at n xs a b)
+
+-- The page counts each pair of different alternatives once: as decided, open, without a function that agrees, or not concluded.
+abbrev pub EachPairIsCounted : Type 0
+EachPairIsCounted = (t : DecisionTable) (xs : List Answer) (page : RelationPage) → IsRelationPage t xs page
+    → page.counts.decided + page.counts.open + contradictory_pairs page.rows (length t.alternatives)
+    + unknown_pairs page.rows (length t.alternatives) ≡ pairs_among (length t.alternatives)
 
 -- ---- what is known of the relation
 

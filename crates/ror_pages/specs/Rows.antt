@@ -1,9 +1,9 @@
 -- Cells by their places, and how many of them say something.
-use Rattle.std.specs.Prelude.{ℕ, zero, suc, ◌+◌, Bool, List, [], slice_index_or}
+use Rattle.std.specs.Prelude.{ℕ, zero, suc, ◌+◌, ◌==◌, Bool, List, [], slice_index_or}
 use Rattle.ror_order.specs.Relations.{count_below}
 use Rattle.ror_pages.specs.declared.cell.Cell.{Cell}
 use Rattle.ror_pages.specs.declared.cell.Cell.TheVariants as cells
-use Rattle.ror_pages.specs.Cells.{is_over_another, is_unknown}
+use Rattle.ror_pages.specs.Cells.{sign, is_over_another}
 
 -- the cell of a row and a column; past the last one it says nothing
 abbrev pub cell_in : List (List Cell) → ℕ → ℕ → Cell
@@ -23,10 +23,18 @@ over_count rows n a = count_below (is_over_at rows a) n
 abbrev pub under_count : List (List Cell) → ℕ → ℕ → ℕ
 under_count rows n a = count_below (is_under_at rows a) n
 
-abbrev pub is_unknown_at : List (List Cell) → ℕ → ℕ → Bool
-is_unknown_at rows a b = is_unknown (cell_in rows a b)
+-- the cell of a row and a column has the sign of this one
+abbrev pub is_like : Cell → List (List Cell) → ℕ → ℕ → Bool
+is_like cell rows a b = sign (cell_in rows a b) == sign cell
 
--- of how many pairs of n alternatives it isn't concluded how they stand
+-- of how many pairs of the first n alternatives
+abbrev pub pairs_like : Cell → List (List Cell) → ℕ → ℕ
+pairs_like cell rows zero = 0
+pairs_like cell rows (suc n) = count_below (is_like cell rows n) n + pairs_like cell rows n
+
+-- of how many it isn't concluded how they stand, and of how many that no function agrees with the statements
 abbrev pub unknown_pairs : List (List Cell) → ℕ → ℕ
-unknown_pairs rows zero = 0
-unknown_pairs rows (suc n) = count_below (is_unknown_at rows n) n + unknown_pairs rows n
+unknown_pairs = pairs_like cells.Unknown
+
+abbrev pub contradictory_pairs : List (List Cell) → ℕ → ℕ
+contradictory_pairs = pairs_like cells.Contradiction

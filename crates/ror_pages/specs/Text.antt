@@ -7,7 +7,7 @@ use Rattle.ror_pages.specs.Heads.{Head}
 use Rattle.ror_pages.specs.declared.relation.Counts.{Counts}
 use Rattle.ror_pages.specs.declared.relation.RelationPage.{RelationPage}
 use Rattle.ror_pages.specs.Layout.{columns, set_right, room_behind, wrapped}
-use Rattle.ror_pages.specs.Rows.{unknown_pairs}
+use Rattle.ror_pages.specs.Rows.{unknown_pairs, contradictory_pairs}
 use Rattle.ror_pages.specs.Matrix.{matrix_text}
 
 -- words and a number behind them
@@ -44,11 +44,6 @@ legend = codes "\n  the row's alternative against the column's, over all value f
 abbrev pub pairs_among : ℕ → ℕ
 pairs_among n = n * (n - 1) / 2
 
--- those of which neither is known, nor that they are open, nor that nothing is concluded
-abbrev pub contradictory_pairs : DecisionTable → RelationPage → ℕ
-contradictory_pairs t page = pairs_among (length t.alternatives) - page.counts.decided - page.counts.open
-    - unknown_pairs page.rows (length t.alternatives)
-
 abbrev pub contradiction_text : ℕ → List ℕ
 contradiction_text n = if n == 0 then [] else counted (codes ", ") n ++ codes " without a function that agrees"
 
@@ -64,7 +59,7 @@ rest_text contradictory by_dominance = codes " not concluded" ++ contradiction_t
 abbrev pub counts_text : DecisionTable → RelationPage → List ℕ
 counts_text t page =
     pairs_text (pairs_among (length t.alternatives)) page.counts (unknown_pairs page.rows (length t.alternatives))
-    ++ rest_text (contradictory_pairs t page) page.counts.by_dominance
+    ++ rest_text (contradictory_pairs page.rows (length t.alternatives)) page.counts.by_dominance
 
 -- ---- levels
 

@@ -60,16 +60,6 @@ impl Cell {
         }
     }
 
-    /// Whether what decides it isn't concluded.
-    pub fn is_unknown(self) -> bool
-        ensures { result ≡ spec.is_unknown self }
-    {
-        match self {
-            Cell::Unknown => true,
-            _ => false,
-        }
-    }
-
     /// The sign that stands for it, a byte of ASCII.
     pub fn sign(self) -> u8
         ensures { result ≡ spec.sign self }

@@ -1,6 +1,6 @@
 //! Each function here states one law, for all tables, statements and answers, and does nothing.
 
-ghost use Rattle.ror_pages.specs.Laws.{CellsAreTrue, OneCell, DominanceIsNecessary, CellsMirror, KnownIsTrue, WholeIsTheRelation};
+ghost use Rattle.ror_pages.specs.Laws.{CellsAreTrue, OneCell, DominanceIsNecessary, CellsMirror, EachPairIsCounted, KnownIsTrue, WholeIsTheRelation};
 
 /// By answers that are true of all compatible functions each cell says what is true of them.
 pub fn cells_are_true()
@@ -30,4 +30,9 @@ pub fn known_is_true()
 /// Where each cell says something, it is the necessary preference, and the arrows lead where its strict part leads.
 pub fn whole_is_the_relation()
     ensures { WholeIsTheRelation }
+{}
+
+/// The page of a relation counts each pair of different alternatives once.
+pub fn each_pair_is_counted()
+    ensures { EachPairIsCounted }
 {}

@@ -33,7 +33,7 @@ mod text;
 pub use cell::Cell;
 pub use heading::Heading;
 pub use lists::{write_levels, write_pairs};
-pub use places::{cell_in, id_bytes};
+pub use places::{cell_in, contradictory_pairs, id_bytes, unknown_pairs};
 pub use relation::{Counts, RelationPage, known_relation, relation_page};
 pub use said::{PairSaid, Said};
 pub use text::{print_relation, write_count, write_line, write_statements};

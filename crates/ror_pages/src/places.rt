@@ -49,25 +49,41 @@ pub(crate) fn under_count(rows: &[Items<Cell>], size: usize, a: usize) -> usize
 }
 
 /// Of how many pairs of so many alternatives it isn't concluded how they stand.
-pub(crate) fn unknown_pairs(rows: &[Items<Cell>], size: usize) -> usize
+pub fn unknown_pairs(rows: &[Items<Cell>], size: usize) -> usize
     requires { size ≤ 200 }
     ensures { result ≡ spec.unknown_pairs rows.now size }
 {
+    pairs_like(Cell::Unknown, rows, size)
+}
+
+/// Of how many of them no function agrees with the statements.
+pub fn contradictory_pairs(rows: &[Items<Cell>], size: usize) -> usize
+    requires { size ≤ 200 }
+    ensures { result ≡ spec.contradictory_pairs rows.now size }
+{
+    pairs_like(Cell::Contradiction, rows, size)
+}
+
+/// Of how many the cell is like this one.
+fn pairs_like(cell: Cell, rows: &[Items<Cell>], size: usize) -> usize
+    requires { size ≤ 200 }
+    ensures { result ≡ spec.pairs_like cell rows.now size }
+{
     let mut count = 0;
     for a in 0..size {
-        count += unknown_before(rows, a);
+        count += like_before(cell, rows, a);
     }
     count
 }
 
 /// With how many alternatives before this one.
-fn unknown_before(rows: &[Items<Cell>], a: usize) -> usize
-    ensures is { result ≡ count_below (spec.is_unknown_at rows.now a) a }
+fn like_before(cell: Cell, rows: &[Items<Cell>], a: usize) -> usize
+    ensures is { result ≡ count_below (spec.is_like cell rows.now a) a }
     ensures few { result ≤ a }
 {
     let mut count = 0;
     for b in 0..a {
-        if cell_in(rows, a, b).is_unknown() {
+        if cell_in(rows, a, b).sign() == cell.sign() {
             count += 1;
         }
     }

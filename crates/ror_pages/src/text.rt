@@ -9,7 +9,7 @@ use crate::heading::Heading;
 use crate::layout::{room_behind, write_word};
 use crate::lists::{write_arrows, write_levels};
 use crate::matrix::write_matrix;
-use crate::places::unknown_pairs;
+use crate::places::{contradictory_pairs, unknown_pairs};
 use crate::relation::{Counts, RelationPage};
 use itoa::Buffer;
 use ror_table::Table;
@@ -146,13 +146,10 @@ fn pairs_among(size: usize) -> usize
 fn write_counts(text: &mut Vec<u8>, table: &Table, page: &RelationPage) -> Result<(), AllocError>
     ensures { OnOk result (text.new.items ≡ text.old.items ++ spec.counts_text table.now page.now) }
 {
-    let pairs = pairs_among(table.alternatives());
-    let unknown = unknown_pairs(page.rows.as_slice(), table.alternatives());
-    let contradictory = pairs
-        .saturating_sub(page.counts.decided)
-        .saturating_sub(page.counts.open)
-        .saturating_sub(unknown);
-    write_pairs(text, pairs, page.counts, unknown)?;
+    let size = table.alternatives();
+    let unknown = unknown_pairs(page.rows.as_slice(), size);
+    let contradictory = contradictory_pairs(page.rows.as_slice(), size);
+    write_pairs(text, pairs_among(size), page.counts, unknown)?;
     write_rest(text, contradictory, page.counts.by_dominance)
 }
 

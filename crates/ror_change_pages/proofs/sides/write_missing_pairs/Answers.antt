@@ -2,7 +2,7 @@ use Rattle.std.proofs.lemmas.Result.{on_ok_weaker}
 use Rattle.std.proofs.Common.{◌≡◌, ℕ, ◌++◌, ap, ◌∙◌, rules}
 use Rattle.std.specs.Prelude.{codes}
 use Rattle.ror_pages.proofs.Pieces.{two_more}
-use Rattle.ror_change_pages.specs.Counts.{unknown_pairs, contradictory_pairs}
+use Rattle.ror_pages.specs.Rows.{unknown_pairs, contradictory_pairs}
 use Rattle.ror_change_pages.specs.Text.{missing_text}
 use Rattle.ror_change_pages.proofs.sides.write_missing_pairs.Goals as goal
 
