@@ -48,16 +48,16 @@ multipliers = record { again = again; sound = sound }
 
     sound : (d : Data) (m : Multipliers) → multipliers_of d ≡ Ok m → (d ≡ multipliers_form m) × AreNarrow m
     sound d m e =
-        let ms = bind_ok (shape (as_object d)) (λ ms. member_at (codes "strict") ms >>= λ s. list_of number_in s.0 >>= λ strict. member_at (codes "weak") s.1 >>= λ w. list_of number_in w.0 >>= λ weak. no_member w.1 >>= λ no. made (the_multipliers weak strict)) m e in
-        let s = bind_ok (member_at (codes "strict") ms.0) (λ s. list_of number_in s.0 >>= λ strict. member_at (codes "weak") s.1 >>= λ w. list_of number_in w.0 >>= λ weak. no_member w.1 >>= λ no. made (the_multipliers weak strict)) m ms.2 in
-        let strict = bind_ok (list_of number_in s.0.0) (λ strict. member_at (codes "weak") s.0.1 >>= λ w. list_of number_in w.0 >>= λ weak. no_member w.1 >>= λ no. made (the_multipliers weak strict)) m s.2 in
-        let w = bind_ok (member_at (codes "weak") s.0.1) (λ w. list_of number_in w.0 >>= λ weak. no_member w.1 >>= λ no. made (the_multipliers weak strict.0)) m strict.2 in
-        let weak = bind_ok (list_of number_in w.0.0) (λ weak. no_member w.0.1 >>= λ no. made (the_multipliers weak strict.0)) m w.2 in
-        let no = bind_ok (no_member w.0.1) (λ no. made (the_multipliers weak.0 strict.0)) m weak.2 in
+        let ms = bind_ok (shape (as_object d)) (λ ms. member_at (codes "strict") ms >>= λ s. member_at (codes "weak") s.1 >>= λ w. no_member w.1 >>= λ no. list_of number_in s.0 >>= λ strict. list_of number_in w.0 >>= λ weak. made (the_multipliers weak strict)) m e in
+        let s = bind_ok (member_at (codes "strict") ms.0) (λ s. member_at (codes "weak") s.1 >>= λ w. no_member w.1 >>= λ no. list_of number_in s.0 >>= λ strict. list_of number_in w.0 >>= λ weak. made (the_multipliers weak strict)) m ms.2 in
+        let w = bind_ok (member_at (codes "weak") s.0.1) (λ w. no_member w.1 >>= λ no. list_of number_in s.0.0 >>= λ strict. list_of number_in w.0 >>= λ weak. made (the_multipliers weak strict)) m s.2 in
+        let no = bind_ok (no_member w.0.1) (λ no. list_of number_in s.0.0 >>= λ strict. list_of number_in w.0.0 >>= λ weak. made (the_multipliers weak strict)) m w.2 in
+        let strict = bind_ok (list_of number_in s.0.0) (λ strict. list_of number_in w.0.0 >>= λ weak. made (the_multipliers weak strict)) m no.2 in
+        let weak = bind_ok (list_of number_in w.0.0) (λ weak. made (the_multipliers weak strict.0)) m strict.2 in
         let first = many.sound s.0.0 strict.0 strict.1 in
         let second = many.sound w.0.0 weak.0 weak.1 in
         let form : d ≡ multipliers_form (the_multipliers weak.0 strict.0) = object_is d ms.0 ms.1 ∙ ap object (with_value (member_is (codes "strict") ms.0 s.0 s.1) (first.0) (with_value (member_is (codes "weak") s.0.1 w.0 w.1) (second.0) (no_member_is w.0.1 no.0 no.1))) in
-        subst (λ (y : Multipliers). (d ≡ multipliers_form y) × AreNarrow y) (made_is (the_multipliers weak.0 strict.0) m no.2) (form, (second.1, first.1))
+        subst (λ (y : Multipliers). (d ≡ multipliers_form y) × AreNarrow y) (made_is (the_multipliers weak.0 strict.0) m weak.2) (form, (second.1, first.1))
 
 -- the member of a certificate under its key
 abbrev IsCertificateAt : CertificateKey → Data → Certificate → Type 0
@@ -86,13 +86,12 @@ certificate_inside = record { again = again; sound = sound }
 
     sound : (ms : Members) (c : Certificate) → certificate_in ms ≡ Ok c → (ms ≡ certificate_members c) × IsNarrowCertificate c
     sound ms c e =
-        let first = bind_ok (named_member certificate_word certificate_key_list ms) (λ first. certificate_named first.0 first.1.0 >>= λ body. no_member first.1.1 >>= λ no. made body) c e in
-        let body = bind_ok (certificate_named first.0.0 first.0.1.0) (λ body. no_member first.0.1.1 >>= λ no. made body) c first.2 in
-        let no = bind_ok (no_member first.0.1.1) (λ no. made body.0) c body.2 in
-        let is = certificate_at_key first.0.0 first.0.1.0 body.0 body.1 in
+        let first = bind_ok (named_member certificate_word certificate_key_list ms) (λ first. no_member first.1.1 >>= λ no. certificate_named first.0 first.1.0) c e in
+        let no = bind_ok (no_member first.0.1.1) (λ no. certificate_named first.0.0 first.0.1.0) c first.2 in
+        let is = certificate_at_key first.0.0 first.0.1.0 c no.2 in
         let only = no_member_is first.0.1.1 no.0 no.1 in
-        let form : ms ≡ certificate_members body.0 = (named_is certificate_word certificate_key_list ms first.0 first.1).0 ∙ ap (member (certificate_word first.0.0) first.0.1.0) only ∙ is.0 in
-        subst (λ (y : Certificate). (ms ≡ certificate_members y) × IsNarrowCertificate y) (made_is body.0 c no.2) (form, is.1)
+        let form : ms ≡ certificate_members c = (named_is certificate_word certificate_key_list ms first.0 first.1).0 ∙ ap (member (certificate_word first.0.0) first.0.1.0) only ∙ is.0 in
+        (form, is.1)
 
 pub certificate : IsRead certificate_of certificate_form IsNarrowCertificate
 unfolding certificate_of
@@ -263,24 +262,24 @@ wide = record { again = again; sound = sound }
     the_note system path place = (system, record { path = path; place = place })
 
     again : (x : ℕ × WideText) → IsSmallNote x → wide_of (note_form x) ≡ Ok x
-    again x h = rw (some_pivots.again x.1.path h.path, place.again x.1.place h.place, counts.again x.0 h.number) refl
+    again x h = rw (place.again x.1.place h.place, counts.again x.0 h.number, some_pivots.again x.1.path h.path) refl
 
     sound : (d : Data) (x : ℕ × WideText) → wide_of d ≡ Ok x → (d ≡ note_form x) × IsSmallNote x
     sound d x e =
-        let ms = bind_ok (shape (as_object d)) (λ ms. member_at (codes "path") ms >>= λ path. list_of pivot_of path.0 >>= λ pivots. member_at (codes "place") path.1 >>= λ at. place_of at.0 >>= λ amount. member_at (codes "system") at.1 >>= λ system. count_of system.0 >>= λ count. no_member system.1 >>= λ no. made (the_note count pivots amount)) x e in
-        let path = bind_ok (member_at (codes "path") ms.0) (λ path. list_of pivot_of path.0 >>= λ pivots. member_at (codes "place") path.1 >>= λ at. place_of at.0 >>= λ amount. member_at (codes "system") at.1 >>= λ system. count_of system.0 >>= λ count. no_member system.1 >>= λ no. made (the_note count pivots amount)) x ms.2 in
-        let pivots = bind_ok (list_of pivot_of path.0.0) (λ pivots. member_at (codes "place") path.0.1 >>= λ at. place_of at.0 >>= λ amount. member_at (codes "system") at.1 >>= λ system. count_of system.0 >>= λ count. no_member system.1 >>= λ no. made (the_note count pivots amount)) x path.2 in
-        let at = bind_ok (member_at (codes "place") path.0.1) (λ at. place_of at.0 >>= λ amount. member_at (codes "system") at.1 >>= λ system. count_of system.0 >>= λ count. no_member system.1 >>= λ no. made (the_note count pivots.0 amount)) x pivots.2 in
-        let amount = bind_ok (place_of at.0.0) (λ amount. member_at (codes "system") at.0.1 >>= λ system. count_of system.0 >>= λ count. no_member system.1 >>= λ no. made (the_note count pivots.0 amount)) x at.2 in
-        let system = bind_ok (member_at (codes "system") at.0.1) (λ system. count_of system.0 >>= λ count. no_member system.1 >>= λ no. made (the_note count pivots.0 amount.0)) x amount.2 in
-        let count = bind_ok (count_of system.0.0) (λ count. no_member system.0.1 >>= λ no. made (the_note count pivots.0 amount.0)) x system.2 in
-        let no = bind_ok (no_member system.0.1) (λ no. made (the_note count.0 pivots.0 amount.0)) x count.2 in
+        let ms = bind_ok (shape (as_object d)) (λ ms. member_at (codes "path") ms >>= λ path. member_at (codes "place") path.1 >>= λ at. place_of at.0 >>= λ amount. member_at (codes "system") at.1 >>= λ system. count_of system.0 >>= λ count. no_member system.1 >>= λ no. list_of pivot_of path.0 >>= λ pivots. made (the_note count pivots amount)) x e in
+        let path = bind_ok (member_at (codes "path") ms.0) (λ path. member_at (codes "place") path.1 >>= λ at. place_of at.0 >>= λ amount. member_at (codes "system") at.1 >>= λ system. count_of system.0 >>= λ count. no_member system.1 >>= λ no. list_of pivot_of path.0 >>= λ pivots. made (the_note count pivots amount)) x ms.2 in
+        let at = bind_ok (member_at (codes "place") path.0.1) (λ at. place_of at.0 >>= λ amount. member_at (codes "system") at.1 >>= λ system. count_of system.0 >>= λ count. no_member system.1 >>= λ no. list_of pivot_of path.0.0 >>= λ pivots. made (the_note count pivots amount)) x path.2 in
+        let amount = bind_ok (place_of at.0.0) (λ amount. member_at (codes "system") at.0.1 >>= λ system. count_of system.0 >>= λ count. no_member system.1 >>= λ no. list_of pivot_of path.0.0 >>= λ pivots. made (the_note count pivots amount)) x at.2 in
+        let system = bind_ok (member_at (codes "system") at.0.1) (λ system. count_of system.0 >>= λ count. no_member system.1 >>= λ no. list_of pivot_of path.0.0 >>= λ pivots. made (the_note count pivots amount.0)) x amount.2 in
+        let count = bind_ok (count_of system.0.0) (λ count. no_member system.0.1 >>= λ no. list_of pivot_of path.0.0 >>= λ pivots. made (the_note count pivots amount.0)) x system.2 in
+        let no = bind_ok (no_member system.0.1) (λ no. list_of pivot_of path.0.0 >>= λ pivots. made (the_note count.0 pivots amount.0)) x count.2 in
+        let pivots = bind_ok (list_of pivot_of path.0.0) (λ pivots. made (the_note count.0 pivots amount.0)) x no.2 in
         let first = some_pivots.sound path.0.0 pivots.0 pivots.1 in
         let second = place.sound at.0.0 amount.0 amount.1 in
         let third = counts.sound system.0.0 count.0 count.1 in
         let note = the_note count.0 pivots.0 amount.0 in
         let form : d ≡ note_form note = object_is d ms.0 ms.1 ∙ ap object (with_value (member_is (codes "path") ms.0 path.0 path.1) (first.0) (with_value (member_is (codes "place") path.0.1 at.0 at.1) (second.0) (with_value (member_is (codes "system") at.0.1 system.0 system.1) (third.0) (no_member_is system.0.1 no.0 no.1)))) in
-        subst (λ (y : ℕ × WideText). (d ≡ note_form y) × IsSmallNote y) (made_is note x no.2) (form, record { number = third.1; place = second.1; path = first.1 })
+        subst (λ (y : ℕ × WideText). (d ≡ note_form y) × IsSmallNote y) (made_is note x pivots.2) (form, record { number = third.1; place = second.1; path = first.1 })
 
 -- ---- repairs
 
@@ -292,20 +291,20 @@ dropped = record { again = again; sound = sound }
     the_dropped n m = record { number = n; proof = m }
 
     again : (x : Dropped) → IsPrintableDropped x → dropped_of (dropped_form x) ≡ Ok x
-    again x h = rw (multipliers.again x.proof h.narrow, counts.again x.number h.number) refl
+    again x h = rw (counts.again x.number h.number, multipliers.again x.proof h.narrow) refl
 
     sound : (d : Data) (x : Dropped) → dropped_of d ≡ Ok x → (d ≡ dropped_form x) × IsPrintableDropped x
     sound d x e =
-        let ms = bind_ok (shape (as_object d)) (λ ms. member_at (codes "multipliers") ms >>= λ proof. multipliers_of proof.0 >>= λ m. member_at (codes "number") proof.1 >>= λ at. count_of at.0 >>= λ count. no_member at.1 >>= λ no. made (the_dropped count m)) x e in
-        let proof = bind_ok (member_at (codes "multipliers") ms.0) (λ proof. multipliers_of proof.0 >>= λ m. member_at (codes "number") proof.1 >>= λ at. count_of at.0 >>= λ count. no_member at.1 >>= λ no. made (the_dropped count m)) x ms.2 in
-        let m = bind_ok (multipliers_of proof.0.0) (λ m. member_at (codes "number") proof.0.1 >>= λ at. count_of at.0 >>= λ count. no_member at.1 >>= λ no. made (the_dropped count m)) x proof.2 in
-        let at = bind_ok (member_at (codes "number") proof.0.1) (λ at. count_of at.0 >>= λ count. no_member at.1 >>= λ no. made (the_dropped count m.0)) x m.2 in
-        let count = bind_ok (count_of at.0.0) (λ count. no_member at.0.1 >>= λ no. made (the_dropped count m.0)) x at.2 in
-        let no = bind_ok (no_member at.0.1) (λ no. made (the_dropped count.0 m.0)) x count.2 in
+        let ms = bind_ok (shape (as_object d)) (λ ms. member_at (codes "multipliers") ms >>= λ proof. member_at (codes "number") proof.1 >>= λ at. count_of at.0 >>= λ count. no_member at.1 >>= λ no. multipliers_of proof.0 >>= λ m. made (the_dropped count m)) x e in
+        let proof = bind_ok (member_at (codes "multipliers") ms.0) (λ proof. member_at (codes "number") proof.1 >>= λ at. count_of at.0 >>= λ count. no_member at.1 >>= λ no. multipliers_of proof.0 >>= λ m. made (the_dropped count m)) x ms.2 in
+        let at = bind_ok (member_at (codes "number") proof.0.1) (λ at. count_of at.0 >>= λ count. no_member at.1 >>= λ no. multipliers_of proof.0.0 >>= λ m. made (the_dropped count m)) x proof.2 in
+        let count = bind_ok (count_of at.0.0) (λ count. no_member at.0.1 >>= λ no. multipliers_of proof.0.0 >>= λ m. made (the_dropped count m)) x at.2 in
+        let no = bind_ok (no_member at.0.1) (λ no. multipliers_of proof.0.0 >>= λ m. made (the_dropped count.0 m)) x count.2 in
+        let m = bind_ok (multipliers_of proof.0.0) (λ m. made (the_dropped count.0 m)) x no.2 in
         let first = multipliers.sound proof.0.0 m.0 m.1 in
         let second = counts.sound at.0.0 count.0 count.1 in
         let form : d ≡ dropped_form (the_dropped count.0 m.0) = object_is d ms.0 ms.1 ∙ ap object (with_value (member_is (codes "multipliers") ms.0 proof.0 proof.1) (first.0) (with_value (member_is (codes "number") proof.0.1 at.0 at.1) (second.0) (no_member_is at.0.1 no.0 no.1))) in
-        subst (λ (y : Dropped). (d ≡ dropped_form y) × IsPrintableDropped y) (made_is (the_dropped count.0 m.0) x no.2) (form, record { number = second.1; narrow = first.1 })
+        subst (λ (y : Dropped). (d ≡ dropped_form y) × IsPrintableDropped y) (made_is (the_dropped count.0 m.0) x m.2) (form, record { number = second.1; narrow = first.1 })
 
 abbrev some_dropped : IsRead (list_of dropped_of) (list_form dropped_form) (AllByRecursion IsPrintableDropped)
 some_dropped = lists dropped_of dropped_form IsPrintableDropped dropped
@@ -318,20 +317,20 @@ kept = record { again = again; sound = sound }
     the_kept xs c = record { dropped = xs; base = c }
 
     again : (x : Kept) → IsFormedKept x → kept_of (kept_form x) ≡ Ok x
-    again x h = rw (certificate.again x.base h.base, some_dropped.again x.dropped h.dropped) refl
+    again x h = rw (some_dropped.again x.dropped h.dropped, certificate.again x.base h.base) refl
 
     sound : (d : Data) (x : Kept) → kept_of d ≡ Ok x → (d ≡ kept_form x) × IsFormedKept x
     sound d x e =
-        let ms = bind_ok (shape (as_object d)) (λ ms. member_at (codes "base") ms >>= λ base. certificate_of base.0 >>= λ c. member_at (codes "dropped") base.1 >>= λ at. list_of dropped_of at.0 >>= λ xs. no_member at.1 >>= λ no. made (the_kept xs c)) x e in
-        let base = bind_ok (member_at (codes "base") ms.0) (λ base. certificate_of base.0 >>= λ c. member_at (codes "dropped") base.1 >>= λ at. list_of dropped_of at.0 >>= λ xs. no_member at.1 >>= λ no. made (the_kept xs c)) x ms.2 in
-        let c = bind_ok (certificate_of base.0.0) (λ c. member_at (codes "dropped") base.0.1 >>= λ at. list_of dropped_of at.0 >>= λ xs. no_member at.1 >>= λ no. made (the_kept xs c)) x base.2 in
-        let at = bind_ok (member_at (codes "dropped") base.0.1) (λ at. list_of dropped_of at.0 >>= λ xs. no_member at.1 >>= λ no. made (the_kept xs c.0)) x c.2 in
-        let xs = bind_ok (list_of dropped_of at.0.0) (λ xs. no_member at.0.1 >>= λ no. made (the_kept xs c.0)) x at.2 in
-        let no = bind_ok (no_member at.0.1) (λ no. made (the_kept xs.0 c.0)) x xs.2 in
+        let ms = bind_ok (shape (as_object d)) (λ ms. member_at (codes "base") ms >>= λ base. member_at (codes "dropped") base.1 >>= λ at. no_member at.1 >>= λ no. list_of dropped_of at.0 >>= λ xs. certificate_of base.0 >>= λ c. made (the_kept xs c)) x e in
+        let base = bind_ok (member_at (codes "base") ms.0) (λ base. member_at (codes "dropped") base.1 >>= λ at. no_member at.1 >>= λ no. list_of dropped_of at.0 >>= λ xs. certificate_of base.0 >>= λ c. made (the_kept xs c)) x ms.2 in
+        let at = bind_ok (member_at (codes "dropped") base.0.1) (λ at. no_member at.1 >>= λ no. list_of dropped_of at.0 >>= λ xs. certificate_of base.0.0 >>= λ c. made (the_kept xs c)) x base.2 in
+        let no = bind_ok (no_member at.0.1) (λ no. list_of dropped_of at.0.0 >>= λ xs. certificate_of base.0.0 >>= λ c. made (the_kept xs c)) x at.2 in
+        let xs = bind_ok (list_of dropped_of at.0.0) (λ xs. certificate_of base.0.0 >>= λ c. made (the_kept xs c)) x no.2 in
+        let c = bind_ok (certificate_of base.0.0) (λ c. made (the_kept xs.0 c)) x xs.2 in
         let first = certificate.sound base.0.0 c.0 c.1 in
         let second = some_dropped.sound at.0.0 xs.0 xs.1 in
         let form : d ≡ kept_form (the_kept xs.0 c.0) = object_is d ms.0 ms.1 ∙ ap object (with_value (member_is (codes "base") ms.0 base.0 base.1) (first.0) (with_value (member_is (codes "dropped") base.0.1 at.0 at.1) (second.0) (no_member_is at.0.1 no.0 no.1))) in
-        subst (λ (y : Kept). (d ≡ kept_form y) × IsFormedKept y) (made_is (the_kept xs.0 c.0) x no.2) (form, record { dropped = second.1; base = first.1 })
+        subst (λ (y : Kept). (d ≡ kept_form y) × IsFormedKept y) (made_is (the_kept xs.0 c.0) x c.2) (form, record { dropped = second.1; base = first.1 })
 
 abbrev unrepaired_form : ℕ × WideText → Data
 unrepaired_form x = repair_wide_form x.0 x.1
@@ -348,17 +347,17 @@ repair_wide = record { again = again; sound = sound }
 
     sound : (d : Data) (x : ℕ × WideText) → repair_wide_of d ≡ Ok x → (d ≡ unrepaired_form x) × IsSmallRepair x
     sound d x e =
-        let ms = bind_ok (shape (as_object d)) (λ ms. member_at (codes "number") ms >>= λ at. count_of at.0 >>= λ count. member_at (codes "wide") at.1 >>= λ w. wide_of w.0 >>= λ note. refuse misfits.Shape (not (eqb note.0 0)) >>= λ base. no_member w.1 >>= λ no. made (count, note.1)) x e in
-        let at = bind_ok (member_at (codes "number") ms.0) (λ at. count_of at.0 >>= λ count. member_at (codes "wide") at.1 >>= λ w. wide_of w.0 >>= λ note. refuse misfits.Shape (not (eqb note.0 0)) >>= λ base. no_member w.1 >>= λ no. made (count, note.1)) x ms.2 in
-        let count = bind_ok (count_of at.0.0) (λ count. member_at (codes "wide") at.0.1 >>= λ w. wide_of w.0 >>= λ note. refuse misfits.Shape (not (eqb note.0 0)) >>= λ base. no_member w.1 >>= λ no. made (count, note.1)) x at.2 in
-        let w = bind_ok (member_at (codes "wide") at.0.1) (λ w. wide_of w.0 >>= λ note. refuse misfits.Shape (not (eqb note.0 0)) >>= λ base. no_member w.1 >>= λ no. made (count.0, note.1)) x count.2 in
-        let note = bind_ok (wide_of w.0.0) (λ note. refuse misfits.Shape (not (eqb note.0 0)) >>= λ base. no_member w.0.1 >>= λ no. made (count.0, note.1)) x w.2 in
-        let base = bind_ok (refuse misfits.Shape (not (eqb note.0.0 0))) (λ base. no_member w.0.1 >>= λ no. made (count.0, note.0.1)) x note.2 in
-        let no = bind_ok (no_member w.0.1) (λ no. made (count.0, note.0.1)) x base.2 in
+        let ms = bind_ok (shape (as_object d)) (λ ms. member_at (codes "number") ms >>= λ at. count_of at.0 >>= λ count. member_at (codes "wide") at.1 >>= λ w. no_member w.1 >>= λ no. wide_of w.0 >>= λ note. refuse misfits.Shape (not (eqb note.0 0)) >>= λ base. made (count, note.1)) x e in
+        let at = bind_ok (member_at (codes "number") ms.0) (λ at. count_of at.0 >>= λ count. member_at (codes "wide") at.1 >>= λ w. no_member w.1 >>= λ no. wide_of w.0 >>= λ note. refuse misfits.Shape (not (eqb note.0 0)) >>= λ base. made (count, note.1)) x ms.2 in
+        let count = bind_ok (count_of at.0.0) (λ count. member_at (codes "wide") at.0.1 >>= λ w. no_member w.1 >>= λ no. wide_of w.0 >>= λ note. refuse misfits.Shape (not (eqb note.0 0)) >>= λ base. made (count, note.1)) x at.2 in
+        let w = bind_ok (member_at (codes "wide") at.0.1) (λ w. no_member w.1 >>= λ no. wide_of w.0 >>= λ note. refuse misfits.Shape (not (eqb note.0 0)) >>= λ base. made (count.0, note.1)) x count.2 in
+        let no = bind_ok (no_member w.0.1) (λ no. wide_of w.0.0 >>= λ note. refuse misfits.Shape (not (eqb note.0 0)) >>= λ base. made (count.0, note.1)) x w.2 in
+        let note = bind_ok (wide_of w.0.0) (λ note. refuse misfits.Shape (not (eqb note.0 0)) >>= λ base. made (count.0, note.1)) x no.2 in
+        let base = bind_ok (refuse misfits.Shape (not (eqb note.0.0 0))) (λ base. made (count.0, note.0.1)) x note.2 in
         let first = counts.sound at.0.0 count.0 count.1 in
         let second = wide.sound w.0.0 note.0 note.1 in
         let none : note.0.0 ≡ 0 = eqb-true note.0.0 0 (not-false _ (refuse_ok misfits.Shape (not (eqb note.0.0 0)) base.0 base.1)) in
         let value : w.0.0 ≡ wide_form 0 note.0.1 = second.0 ∙ ap (λ n. wide_form n note.0.1) none in
         let small : IsPrintableNote 0 note.0.1 = subst (λ n. IsPrintableNote n note.0.1) none second.1 in
         let form : d ≡ unrepaired_form (count.0, note.0.1) = object_is d ms.0 ms.1 ∙ ap object (with_value (member_is (codes "number") ms.0 at.0 at.1) (first.0) (with_value (member_is (codes "wide") at.0.1 w.0 w.1) (value) (no_member_is w.0.1 no.0 no.1))) in
-        subst (λ (y : ℕ × WideText). (d ≡ unrepaired_form y) × IsSmallRepair y) (made_is (count.0, note.0.1) x no.2) (form, (first.1, small))
+        subst (λ (y : ℕ × WideText). (d ≡ unrepaired_form y) × IsSmallRepair y) (made_is (count.0, note.0.1) x base.2) (form, (first.1, small))

@@ -34,8 +34,8 @@ use Rattle.ror_json.specs.declared.keys.AnswerKey.TheVariants as answer_keys
 use Rattle.ror_json.specs.declared.keys.BodyKey.{BodyKey}
 use Rattle.ror_json.specs.declared.keys.BodyKey.TheVariants as keys
 use Rattle.ror_json.specs.Names.{answer_key_list, answer_word, body_key, early_keys, key_word, late_keys}
-use Rattle.ror_json.specs.Form.{count_form, list_form, question_text, proved_form, unsettled_form, verdict_form, answer_form, body_form, block_form, IsFormedBody, IsFormedBlock}
-use Rattle.ror_json.specs.Reading.{shape, member_at, named_member, no_member, list_of, count_of, the_count_of, text_of, name_in, certificate_of, part_of, wide_of, question_of, question_in, concluded, proved_in, is_unsettled, unsettled_in, answer_named, answer_of, kept_of, repair_wide_of, undone_of, body_named, early_block, late_block, begins_with_line, block_of, outer_of}
+use Rattle.ror_json.specs.Form.{count_form, certificate_form, part_form, list_form, question_text, proved_form, unsettled_form, verdict_form, answer_form, body_form, block_form, IsFormedBody, IsFormedBlock}
+use Rattle.ror_json.specs.Reading.{shape, member_at, named_member, no_member, list_of, count_of, the_count_of, text_of, name_in, certificate_of, part_of, wide_of, question_of, question_in, concluded, asked_in, proof_of, proved_in, is_unsettled, unsettled_in, answer_named, answer_of, kept_of, repair_wide_of, undone_of, body_named, early_block, late_block, begins_with_line, block_of, outer_of}
 use Rattle.ror_json.proofs.Pieces.{IsRead, made, made_is, object_is, array_is, member_is, named_again, named_is, no_member_is, with_value, counts, one_again, the_count_is, text_is, text_again, name_again, name_is, lists}
 use Rattle.ror_json.proofs.QuestionTexts.{question_sound, question_again}
 use Rattle.ror_json.proofs.Forms.{certificate, some_parts, wide, kept, repair_wide}
@@ -76,26 +76,62 @@ module _ (t : DecisionTable) (table : IsTable t) where
   concluded_is said.Contradiction proof v question e h = subst (λ (y : Verdict). (proved_form question said.Contradiction proof ≡ verdict_form question y) × IsPrintableVerdict y) (made_is (verdicts.Contradiction proof) v e) (refl, h)
   concluded_is said.Wide proof v question e h = absurd cc
 
+  said_name : (name : VerdictName) → name_of verdict_word verdict_names (verdict_word name) ≡ Some name
+  said_name said.Yes = refl
+  said_name said.No = refl
+  said_name said.Contradiction = refl
+  said_name said.Wide = refl
+
+  abbrev asked_members : Question × VerdictName → Members
+  asked_members x = member (codes "question") (asked_form x.0) (member (codes "verdict") (string (verdict_word x.1)) no_members)
+
+  abbrev IsAsked : Question × VerdictName → Type 0
+  IsAsked x = IsNamed t x.0
+
+  asked : IsRead (asked_in t) asked_members IsAsked
+  unfolding asked_in
+  asked = record { again = again; sound = sound }
+    where
+      again : (x : Question × VerdictName) → IsAsked x → asked_in t (asked_members x) ≡ Ok x
+      again x named = rw (question.again x.0 named, name_again verdict_word verdict_names x.1 (said_name x.1)) refl
+
+      sound : (ms : Members) (x : Question × VerdictName) → asked_in t ms ≡ Ok x → (ms ≡ asked_members x) × IsAsked x
+      sound ms x e =
+          let asks = bind_ok (member_at (codes "question") ms) (λ asks. question_in t asks.0 >>= λ q. member_at (codes "verdict") asks.1 >>= λ says. name_in verdict_word verdict_names says.0 >>= λ name. no_member says.1 >>= λ no. made (q, name)) x e in
+          let q = bind_ok (question_in t asks.0.0) (λ q. member_at (codes "verdict") asks.0.1 >>= λ says. name_in verdict_word verdict_names says.0 >>= λ name. no_member says.1 >>= λ no. made (q, name)) x asks.2 in
+          let says = bind_ok (member_at (codes "verdict") asks.0.1) (λ says. name_in verdict_word verdict_names says.0 >>= λ name. no_member says.1 >>= λ no. made (q.0, name)) x q.2 in
+          let name = bind_ok (name_in verdict_word verdict_names says.0.0) (λ name. no_member says.0.1 >>= λ no. made (q.0, name)) x says.2 in
+          let no = bind_ok (no_member says.0.1) (λ no. made (q.0, name.0)) x name.2 in
+          let first = question.sound asks.0.0 q.0 q.1 in
+          let word = name_is verdict_word verdict_names says.0.0 name.0 name.1 in
+          let form : ms ≡ asked_members (q.0, name.0) = with_value (member_is (codes "question") ms asks.0 asks.1) first.0 (with_value (member_is (codes "verdict") asks.0.1 says.0 says.1) word (no_member_is says.0.1 no.0 no.1)) in
+          subst (λ (y : Question × VerdictName). (ms ≡ asked_members y) × IsAsked y) (made_is (q.0, name.0) x no.2) (form, first.1)
+
+  proof_is : (d ds : Data) (p : Proof) → proof_of d ds ≡ Ok p → (d ≡ certificate_form p.base) × (ds ≡ list_form part_form p.parts) × IsPrintableProof p
+  unfolding proof_of
+  proof_is d ds p e =
+      let parts = bind_ok (list_of part_of ds) (λ parts. certificate_of d >>= λ base. made (the_proof base parts)) p e in
+      let base = bind_ok (certificate_of d) (λ base. made (the_proof base parts.0)) p parts.2 in
+      let first = certificate.sound d base.0 base.1 in
+      let second = some_parts.sound ds parts.0 parts.1 in
+      subst (λ (y : Proof). (d ≡ certificate_form y.base) × (ds ≡ list_form part_form y.parts) × IsPrintableProof y) (made_is (the_proof base.0 parts.0) p base.2) (first.0, second.0, record { base = first.1; parts = second.1 })
+
+  proof_again : (p : Proof) → IsPrintableProof p → proof_of (certificate_form p.base) (list_form part_form p.parts) ≡ Ok p
+  unfolding proof_of
+  proof_again p h = rw (some_parts.again p.parts h.parts, certificate.again p.base h.base) refl
+
   proved_is : (d : Data) (ms : Members) (x : Answer) → proved_in t d ms ≡ Ok x → IsAnswerAt answer_keys.Base d ms x
   unfolding proved_in
   proved_is d ms x e =
-      let base = bind_ok (certificate_of d) (λ base. member_at (codes "parts") ms >>= λ ps. list_of part_of ps.0 >>= λ parts. member_at (codes "question") ps.1 >>= λ asks. question_in t asks.0 >>= λ q. member_at (codes "verdict") asks.1 >>= λ says. name_in verdict_word verdict_names says.0 >>= λ name. no_member says.1 >>= λ no. concluded name (the_proof base parts) >>= λ verdict. made (the_answer q verdict)) x e in
-      let ps = bind_ok (member_at (codes "parts") ms) (λ ps. list_of part_of ps.0 >>= λ parts. member_at (codes "question") ps.1 >>= λ asks. question_in t asks.0 >>= λ q. member_at (codes "verdict") asks.1 >>= λ says. name_in verdict_word verdict_names says.0 >>= λ name. no_member says.1 >>= λ no. concluded name (the_proof base.0 parts) >>= λ verdict. made (the_answer q verdict)) x base.2 in
-      let parts = bind_ok (list_of part_of ps.0.0) (λ parts. member_at (codes "question") ps.0.1 >>= λ asks. question_in t asks.0 >>= λ q. member_at (codes "verdict") asks.1 >>= λ says. name_in verdict_word verdict_names says.0 >>= λ name. no_member says.1 >>= λ no. concluded name (the_proof base.0 parts) >>= λ verdict. made (the_answer q verdict)) x ps.2 in
-      let asks = bind_ok (member_at (codes "question") ps.0.1) (λ asks. question_in t asks.0 >>= λ q. member_at (codes "verdict") asks.1 >>= λ says. name_in verdict_word verdict_names says.0 >>= λ name. no_member says.1 >>= λ no. concluded name (the_proof base.0 parts.0) >>= λ verdict. made (the_answer q verdict)) x parts.2 in
-      let q = bind_ok (question_in t asks.0.0) (λ q. member_at (codes "verdict") asks.0.1 >>= λ says. name_in verdict_word verdict_names says.0 >>= λ name. no_member says.1 >>= λ no. concluded name (the_proof base.0 parts.0) >>= λ verdict. made (the_answer q verdict)) x asks.2 in
-      let says = bind_ok (member_at (codes "verdict") asks.0.1) (λ says. name_in verdict_word verdict_names says.0 >>= λ name. no_member says.1 >>= λ no. concluded name (the_proof base.0 parts.0) >>= λ verdict. made (the_answer q.0 verdict)) x q.2 in
-      let name = bind_ok (name_in verdict_word verdict_names says.0.0) (λ name. no_member says.0.1 >>= λ no. concluded name (the_proof base.0 parts.0) >>= λ verdict. made (the_answer q.0 verdict)) x says.2 in
-      let no = bind_ok (no_member says.0.1) (λ no. concluded name.0 (the_proof base.0 parts.0) >>= λ verdict. made (the_answer q.0 verdict)) x name.2 in
-      let verdict = bind_ok (concluded name.0 (the_proof base.0 parts.0)) (λ verdict. made (the_answer q.0 verdict)) x no.2 in
-      let first = certificate.sound d base.0 base.1 in
-      let second = some_parts.sound ps.0.0 parts.0 parts.1 in
-      let third = question.sound asks.0.0 q.0 q.1 in
-      let word = name_is verdict_word verdict_names says.0.0 name.0 name.1 in
-      let proof = the_proof base.0 parts.0 in
-      let whole : object (member (codes "base") d ms) ≡ proved_form (question_text t q.0) name.0 proof = ap object (with_value {ms = member (codes "base") d ms} refl first.0 (with_value (member_is (codes "parts") ms ps.0 ps.1) second.0 (with_value (member_is (codes "question") ps.0.1 asks.0 asks.1) third.0 (with_value (member_is (codes "verdict") asks.0.1 says.0 says.1) word (no_member_is says.0.1 no.0 no.1))))) in
-      let is = concluded_is name.0 proof verdict.0 (question_text t q.0) verdict.1 (record { base = first.1; parts = second.1 }) in
-      subst (IsAnswerAt answer_keys.Base d ms) (made_is (the_answer q.0 verdict.0) x verdict.2) (record { form = whole ∙ is.0; printable = record { named = third.1; concluded = is.1 } })
+      let ps = bind_ok (member_at (codes "parts") ms) (λ ps. asked_in t ps.1 >>= λ asks. proof_of d ps.0 >>= λ proof. concluded asks.1 proof >>= λ verdict. made (the_answer asks.0 verdict)) x e in
+      let asks = bind_ok (asked_in t ps.0.1) (λ asks. proof_of d ps.0.0 >>= λ proof. concluded asks.1 proof >>= λ verdict. made (the_answer asks.0 verdict)) x ps.2 in
+      let proof = bind_ok (proof_of d ps.0.0) (λ proof. concluded asks.0.1 proof >>= λ verdict. made (the_answer asks.0.0 verdict)) x asks.2 in
+      let verdict = bind_ok (concluded asks.0.1 proof.0) (λ verdict. made (the_answer asks.0.0 verdict)) x proof.2 in
+      let first = proof_is d ps.0.0 proof.0 proof.1 in
+      let second = asked.sound ps.0.1 asks.0 asks.1 in
+      let whole : object (member (codes "base") d ms) ≡ proved_form (question_text t asks.0.0) asks.0.1 proof.0 = ap object (with_value {ms = member (codes "base") d ms} refl first.0 (with_value (member_is (codes "parts") ms ps.0 ps.1) first.1 second.0)) in
+      let is = concluded_is asks.0.1 proof.0 verdict.0 (question_text t asks.0.0) verdict.1 first.2 in
+      subst (IsAnswerAt answer_keys.Base d ms) (made_is (the_answer asks.0.0 verdict.0) x verdict.2) (record { form = whole ∙ is.0; printable = record { named = second.1; concluded = is.1 } })
 
   unsettled_word : (d : Data) (x : Unit {0}) → is_unsettled d ≡ Ok x → d ≡ string (verdict_word said.Wide)
   unfolding is_unsettled
@@ -107,31 +143,25 @@ module _ (t : DecisionTable) (table : IsTable t) where
   unsettled_is : (d : Data) (ms : Members) (x : Answer) → unsettled_in t d ms ≡ Ok x → IsAnswerAt answer_keys.Question d ms x
   unfolding unsettled_in
   unsettled_is d ms x e =
-      let q = bind_ok (question_in t d) (λ q. member_at (codes "verdict") ms >>= λ says. is_unsettled says.0 >>= λ word. member_at (codes "wide") says.1 >>= λ w. wide_of w.0 >>= λ note. no_member w.1 >>= λ no. made (the_answer q (verdicts.Wide note.0 note.1))) x e in
-      let says = bind_ok (member_at (codes "verdict") ms) (λ says. is_unsettled says.0 >>= λ word. member_at (codes "wide") says.1 >>= λ w. wide_of w.0 >>= λ note. no_member w.1 >>= λ no. made (the_answer q.0 (verdicts.Wide note.0 note.1))) x q.2 in
-      let word = bind_ok (is_unsettled says.0.0) (λ word. member_at (codes "wide") says.0.1 >>= λ w. wide_of w.0 >>= λ note. no_member w.1 >>= λ no. made (the_answer q.0 (verdicts.Wide note.0 note.1))) x says.2 in
-      let w = bind_ok (member_at (codes "wide") says.0.1) (λ w. wide_of w.0 >>= λ note. no_member w.1 >>= λ no. made (the_answer q.0 (verdicts.Wide note.0 note.1))) x word.2 in
-      let note = bind_ok (wide_of w.0.0) (λ note. no_member w.0.1 >>= λ no. made (the_answer q.0 (verdicts.Wide note.0 note.1))) x w.2 in
-      let no = bind_ok (no_member w.0.1) (λ no. made (the_answer q.0 (verdicts.Wide note.0.0 note.0.1))) x note.2 in
+      let q = bind_ok (question_in t d) (λ q. member_at (codes "verdict") ms >>= λ says. is_unsettled says.0 >>= λ word. member_at (codes "wide") says.1 >>= λ w. no_member w.1 >>= λ no. wide_of w.0 >>= λ note. made (the_answer q (verdicts.Wide note.0 note.1))) x e in
+      let says = bind_ok (member_at (codes "verdict") ms) (λ says. is_unsettled says.0 >>= λ word. member_at (codes "wide") says.1 >>= λ w. no_member w.1 >>= λ no. wide_of w.0 >>= λ note. made (the_answer q.0 (verdicts.Wide note.0 note.1))) x q.2 in
+      let word = bind_ok (is_unsettled says.0.0) (λ word. member_at (codes "wide") says.0.1 >>= λ w. no_member w.1 >>= λ no. wide_of w.0 >>= λ note. made (the_answer q.0 (verdicts.Wide note.0 note.1))) x says.2 in
+      let w = bind_ok (member_at (codes "wide") says.0.1) (λ w. no_member w.1 >>= λ no. wide_of w.0 >>= λ note. made (the_answer q.0 (verdicts.Wide note.0 note.1))) x word.2 in
+      let no = bind_ok (no_member w.0.1) (λ no. wide_of w.0.0 >>= λ note. made (the_answer q.0 (verdicts.Wide note.0 note.1))) x w.2 in
+      let note = bind_ok (wide_of w.0.0) (λ note. made (the_answer q.0 (verdicts.Wide note.0 note.1))) x no.2 in
       let first = question.sound d q.0 q.1 in
       let second = wide.sound w.0.0 note.0 note.1 in
       let whole : object (member (codes "question") d ms) ≡ unsettled_form (question_text t q.0) note.0.0 note.0.1 = ap object (with_value {ms = member (codes "question") d ms} refl first.0 (with_value (member_is (codes "verdict") ms says.0 says.1) (unsettled_word says.0.0 word.0 word.1) (with_value (member_is (codes "wide") says.0.1 w.0 w.1) second.0 (no_member_is w.0.1 no.0 no.1)))) in
-      subst (IsAnswerAt answer_keys.Question d ms) (made_is (the_answer q.0 (verdicts.Wide note.0.0 note.0.1)) x no.2) (record { form = whole; printable = record { named = first.1; concluded = second.1 } })
+      subst (IsAnswerAt answer_keys.Question d ms) (made_is (the_answer q.0 (verdicts.Wide note.0.0 note.0.1)) x note.2) (record { form = whole; printable = record { named = first.1; concluded = second.1 } })
 
   answer_at_key : (key : AnswerKey) (d : Data) (ms : Members) (x : Answer) → answer_named t key d ms ≡ Ok x → IsAnswerAt key d ms x
   answer_at_key answer_keys.Base d ms x e = proved_is d ms x e
   answer_at_key answer_keys.Question d ms x e = unsettled_is d ms x e
 
-  said_name : (name : VerdictName) → name_of verdict_word verdict_names (verdict_word name) ≡ Some name
-  said_name said.Yes = refl
-  said_name said.No = refl
-  said_name said.Contradiction = refl
-  said_name said.Wide = refl
-
   proved_again : (q : Question) (name : VerdictName) (proof : Proof) (v : Verdict) → concluded name proof ≡ Ok v → IsNamed t q → IsPrintableProof proof → answer_of t (proved_form (question_text t q) name proof) ≡ Ok (the_answer q v)
   unfolding answer_of proved_in
   proved_again q name proof v says named h =
-      rw (certificate.again proof.base h.base, some_parts.again proof.parts h.parts, question.again q named, name_again verdict_word verdict_names name (said_name name), says) refl
+      rw (asked.again (q, name) named, proof_again proof h, says) refl
 
   unsettled_again : (q : Question) (system : ℕ) (note : WideText) → IsNamed t q → IsPrintableNote system note → answer_of t (unsettled_form (question_text t q) system note) ≡ Ok (the_answer q (verdicts.Wide system note))
   unfolding answer_of unsettled_in is_unsettled
@@ -266,34 +296,34 @@ module _ (t : DecisionTable) (table : IsTable t) where
   early_is : (ms : Members) (b : Block) → early_block t ms ≡ Ok b → (object ms ≡ block_form t b) × IsFormedBlock t b
   unfolding early_block
   early_is ms b e =
-      let first = bind_ok (named_member key_word early_keys ms) (λ first. body_named t first.0 first.1.0 >>= λ body. member_at (codes "line") first.1.1 >>= λ at. count_of at.0 >>= λ line. no_member at.1 >>= λ no. made (the_block line body)) b e in
-      let body = bind_ok (body_named t first.0.0 first.0.1.0) (λ body. member_at (codes "line") first.0.1.1 >>= λ at. count_of at.0 >>= λ line. no_member at.1 >>= λ no. made (the_block line body)) b first.2 in
-      let at = bind_ok (member_at (codes "line") first.0.1.1) (λ at. count_of at.0 >>= λ line. no_member at.1 >>= λ no. made (the_block line body.0)) b body.2 in
-      let line = bind_ok (count_of at.0.0) (λ line. no_member at.0.1 >>= λ no. made (the_block line body.0)) b at.2 in
-      let no = bind_ok (no_member at.0.1) (λ no. made (the_block line.0 body.0)) b line.2 in
+      let first = bind_ok (named_member key_word early_keys ms) (λ first. member_at (codes "line") first.1.1 >>= λ at. count_of at.0 >>= λ line. no_member at.1 >>= λ no. body_named t first.0 first.1.0 >>= λ body. made (the_block line body)) b e in
+      let at = bind_ok (member_at (codes "line") first.0.1.1) (λ at. count_of at.0 >>= λ line. no_member at.1 >>= λ no. body_named t first.0.0 first.0.1.0 >>= λ body. made (the_block line body)) b first.2 in
+      let line = bind_ok (count_of at.0.0) (λ line. no_member at.0.1 >>= λ no. body_named t first.0.0 first.0.1.0 >>= λ body. made (the_block line body)) b at.2 in
+      let no = bind_ok (no_member at.0.1) (λ no. body_named t first.0.0 first.0.1.0 >>= λ body. made (the_block line.0 body)) b line.2 in
+      let body = bind_ok (body_named t first.0.0 first.0.1.0) (λ body. made (the_block line.0 body)) b no.2 in
       let key = named_is key_word early_keys ms first.0 first.1 in
       let is = body_at_key first.0.0 first.0.1.0 body.0 body.1 in
       let count = counts.sound at.0.0 line.0 line.1 in
       let form : object ms ≡ object (member (key_word first.0.0) (body_form t body.0) (member (codes "line") (count_form line.0) no_members)) = ap object (with_value key.0 is.form (with_value (member_is (codes "line") first.0.1.1 at.0 at.1) count.0 (no_member_is at.0.1 no.0 no.1))) in
       let ordered = ap object (sym (early_put first.0.0 (count_form line.0) (body_form t body.0) key.1)) in
       let named = ap (λ k. object (put (codes "line") (count_form line.0) (member (key_word k) (body_form t body.0) no_members))) (sym is.named) in
-      subst (λ (y : Block). (object ms ≡ block_form t y) × IsFormedBlock t y) (made_is (the_block line.0 body.0) b no.2) (form ∙ ordered ∙ named, record { number = count.1; body = is.formed })
+      subst (λ (y : Block). (object ms ≡ block_form t y) × IsFormedBlock t y) (made_is (the_block line.0 body.0) b body.2) (form ∙ ordered ∙ named, record { number = count.1; body = is.formed })
 
   late_is : (ms : Members) (b : Block) → late_block t ms ≡ Ok b → (object ms ≡ block_form t b) × IsFormedBlock t b
   unfolding late_block
   late_is ms b e =
-      let at = bind_ok (member_at (codes "line") ms) (λ at. count_of at.0 >>= λ line. named_member key_word late_keys at.1 >>= λ second. body_named t second.0 second.1.0 >>= λ body. no_member second.1.1 >>= λ no. made (the_block line body)) b e in
-      let line = bind_ok (count_of at.0.0) (λ line. named_member key_word late_keys at.0.1 >>= λ second. body_named t second.0 second.1.0 >>= λ body. no_member second.1.1 >>= λ no. made (the_block line body)) b at.2 in
-      let second = bind_ok (named_member key_word late_keys at.0.1) (λ second. body_named t second.0 second.1.0 >>= λ body. no_member second.1.1 >>= λ no. made (the_block line.0 body)) b line.2 in
-      let body = bind_ok (body_named t second.0.0 second.0.1.0) (λ body. no_member second.0.1.1 >>= λ no. made (the_block line.0 body)) b second.2 in
-      let no = bind_ok (no_member second.0.1.1) (λ no. made (the_block line.0 body.0)) b body.2 in
+      let at = bind_ok (member_at (codes "line") ms) (λ at. count_of at.0 >>= λ line. named_member key_word late_keys at.1 >>= λ second. no_member second.1.1 >>= λ no. body_named t second.0 second.1.0 >>= λ body. made (the_block line body)) b e in
+      let line = bind_ok (count_of at.0.0) (λ line. named_member key_word late_keys at.0.1 >>= λ second. no_member second.1.1 >>= λ no. body_named t second.0 second.1.0 >>= λ body. made (the_block line body)) b at.2 in
+      let second = bind_ok (named_member key_word late_keys at.0.1) (λ second. no_member second.1.1 >>= λ no. body_named t second.0 second.1.0 >>= λ body. made (the_block line.0 body)) b line.2 in
+      let no = bind_ok (no_member second.0.1.1) (λ no. body_named t second.0.0 second.0.1.0 >>= λ body. made (the_block line.0 body)) b second.2 in
+      let body = bind_ok (body_named t second.0.0 second.0.1.0) (λ body. made (the_block line.0 body)) b no.2 in
       let key = named_is key_word late_keys at.0.1 second.0 second.1 in
       let is = body_at_key second.0.0 second.0.1.0 body.0 body.1 in
       let count = counts.sound at.0.0 line.0 line.1 in
       let form : object ms ≡ object (member (codes "line") (count_form line.0) (member (key_word second.0.0) (body_form t body.0) no_members)) = ap object (with_value (member_is (codes "line") ms at.0 at.1) count.0 (with_value key.0 is.form (no_member_is second.0.1.1 no.0 no.1))) in
       let ordered = ap object (sym (late_put second.0.0 (count_form line.0) (body_form t body.0) key.1)) in
       let named = ap (λ k. object (put (codes "line") (count_form line.0) (member (key_word k) (body_form t body.0) no_members))) (sym is.named) in
-      subst (λ (y : Block). (object ms ≡ block_form t y) × IsFormedBlock t y) (made_is (the_block line.0 body.0) b no.2) (form ∙ ordered ∙ named, record { number = count.1; body = is.formed })
+      subst (λ (y : Block). (object ms ≡ block_form t y) × IsFormedBlock t y) (made_is (the_block line.0 body.0) b body.2) (form ∙ ordered ∙ named, record { number = count.1; body = is.formed })
 
   abbrev early_members : BodyKey → Data → Data → Members
   early_members key d line = member (key_word key) d (member (codes "line") line no_members)
@@ -303,7 +333,7 @@ module _ (t : DecisionTable) (table : IsTable t) where
 
   early_again : (key : BodyKey) (n : ℕ) (b : Body) → name_of key_word early_keys (key_word key) ≡ Some key → n < 2 ^ 32 → body_named t key (body_form t b) ≡ Ok b → early_block t (early_members key (body_form t b) (count_form n)) ≡ Ok (the_block n b)
   unfolding early_block
-  early_again key n b named below body = rw (named_again key_word early_keys key (body_form t b) (member (codes "line") (count_form n) no_members) named, body, counts.again n below) refl
+  early_again key n b named below body = rw (named_again key_word early_keys key (body_form t b) (member (codes "line") (count_form n) no_members) named, counts.again n below, body) refl
 
   late_again : (key : BodyKey) (n : ℕ) (b : Body) → name_of key_word late_keys (key_word key) ≡ Some key → n < 2 ^ 32 → body_named t key (body_form t b) ≡ Ok b → late_block t (late_members key (body_form t b) (count_form n)) ≡ Ok (the_block n b)
   unfolding late_block

@@ -137,10 +137,10 @@ unfoldable pub multipliers_of : Data → Result Multipliers Misfit
 multipliers_of d = do
   members ← shape (as_object d)
   strict ← member_at (codes "strict") members
-  strict_numbers ← list_of number_in strict.0
   weak ← member_at (codes "weak") strict.1
-  weak_numbers ← list_of number_in weak.0
   _ ← no_member weak.1
+  strict_numbers ← list_of number_in strict.0
+  weak_numbers ← list_of number_in weak.0
   Ok (record { weak = weak_numbers; strict = strict_numbers })
 
 -- which certificate a key stands for
@@ -156,9 +156,8 @@ certificate_named certificate_keys.Multipliers d = do
 unfoldable pub certificate_in : Members → Result Certificate Misfit
 certificate_in members = do
   first ← named_member certificate_word certificate_key_list members
-  certificate ← certificate_named first.0 first.1.0
   _ ← no_member first.1.1
-  Ok certificate
+  certificate_named first.0 first.1.0
 
 unfoldable pub certificate_of : Data → Result Certificate Misfit
 certificate_of d = do
@@ -241,12 +240,12 @@ unfoldable pub wide_of : Data → Result (ℕ × WideText) Misfit
 wide_of d = do
   members ← shape (as_object d)
   path ← member_at (codes "path") members
-  pivots ← list_of pivot_of path.0
   place ← member_at (codes "place") path.1
   number ← place_of place.0
   system ← member_at (codes "system") place.1
   n ← count_of system.0
   _ ← no_member system.1
+  pivots ← list_of pivot_of path.0
   Ok (n, record { path = pivots; place = number })
 
 -- ---- answers
@@ -280,19 +279,31 @@ concluded said.No proof = Ok (verdicts.No proof)
 concluded said.Contradiction proof = Ok (verdicts.Contradiction proof)
 concluded said.Wide proof = Err misfits.Shape
 
--- `base` is before these members, and this is its value
-unfoldable pub proved_in : DecisionTable → Data → Members → Result Answer Misfit
-proved_in t d members = do
-  base ← certificate_of d
-  parts ← member_at (codes "parts") members
-  certificates ← list_of part_of parts.0
-  asks ← member_at (codes "question") parts.1
+-- the question and the name of the verdict, after which there is no member
+unfoldable pub asked_in : DecisionTable → Members → Result (Question × VerdictName) Misfit
+asked_in t members = do
+  asks ← member_at (codes "question") members
   question ← question_in t asks.0
   says ← member_at (codes "verdict") asks.1
   name ← name_in verdict_word verdict_names says.0
   _ ← no_member says.1
-  verdict ← concluded name (record { base = base; parts = certificates })
-  Ok (record { question = question; verdict = verdict })
+  Ok (question, name)
+
+-- the values of `base` and of `parts`
+unfoldable pub proof_of : Data → Data → Result Proof Misfit
+proof_of base parts = do
+  certificates ← list_of part_of parts
+  certificate ← certificate_of base
+  Ok (record { base = certificate; parts = certificates })
+
+-- `base` is before these members, and this is its value
+unfoldable pub proved_in : DecisionTable → Data → Members → Result Answer Misfit
+proved_in t d members = do
+  parts ← member_at (codes "parts") members
+  asks ← asked_in t parts.1
+  proof ← proof_of d parts.0
+  verdict ← concluded asks.1 proof
+  Ok (record { question = asks.0; verdict = verdict })
 
 -- the value of a verdict that concludes nothing
 unfoldable pub is_unsettled : Data → Result (Unit {0}) Misfit
@@ -307,8 +318,8 @@ unsettled_in t d members = do
   says ← member_at (codes "verdict") members
   _ ← is_unsettled says.0
   wide ← member_at (codes "wide") says.1
-  note ← wide_of wide.0
   _ ← no_member wide.1
+  note ← wide_of wide.0
   Ok (record { question = question; verdict = verdicts.Wide note.0 note.1 })
 
 abbrev pub answer_named : DecisionTable → AnswerKey → Data → Members → Result Answer Misfit
@@ -327,20 +338,20 @@ unfoldable pub dropped_of : Data → Result Dropped Misfit
 dropped_of d = do
   members ← shape (as_object d)
   proof ← member_at (codes "multipliers") members
-  multipliers ← multipliers_of proof.0
   statement ← member_at (codes "number") proof.1
   number ← count_of statement.0
   _ ← no_member statement.1
+  multipliers ← multipliers_of proof.0
   Ok (record { number = number; proof = multipliers })
 
 unfoldable pub kept_of : Data → Result Kept Misfit
 kept_of d = do
   members ← shape (as_object d)
   base ← member_at (codes "base") members
-  certificate ← certificate_of base.0
   statements ← member_at (codes "dropped") base.1
-  dropped ← list_of dropped_of statements.0
   _ ← no_member statements.1
+  dropped ← list_of dropped_of statements.0
+  certificate ← certificate_of base.0
   Ok (record { dropped = dropped; base = certificate })
 
 -- the statement at which a repair is too wide, and the first number too wide, of the base system
@@ -350,9 +361,9 @@ repair_wide_of d = do
   statement ← member_at (codes "number") members
   number ← count_of statement.0
   wide ← member_at (codes "wide") statement.1
+  _ ← no_member wide.1
   note ← wide_of wide.0
   _ ← refuse misfits.Shape (not (note.0 == 0))
-  _ ← no_member wide.1
   Ok (number, note.1)
 
 -- ---- blocks
@@ -392,10 +403,10 @@ body_named t keys.Refused d = do
 unfoldable pub early_block : DecisionTable → Members → Result Block Misfit
 early_block t members = do
   first ← named_member key_word early_keys members
-  body ← body_named t first.0 first.1.0
   line ← member_at (codes "line") first.1.1
   number ← count_of line.0
   _ ← no_member line.1
+  body ← body_named t first.0 first.1.0
   Ok (record { line = number; body = body })
 
 -- the line's number, and after it a body
@@ -404,8 +415,8 @@ late_block t members = do
   line ← member_at (codes "line") members
   number ← count_of line.0
   second ← named_member key_word late_keys line.1
-  body ← body_named t second.0 second.1.0
   _ ← no_member second.1.1
+  body ← body_named t second.0 second.1.0
   Ok (record { line = number; body = body })
 
 abbrev pub begins_with_line : Members → Bool

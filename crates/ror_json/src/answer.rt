@@ -17,10 +17,11 @@ use crate::single::{name_in, name_text, text_of};
 use crate::wide::{wide_of, wide_value};
 use ror_proof::names::{VERDICT_NAMES, VerdictName};
 use ror_proof::{Answer, Proof, Verdict, WideText};
+use ror_statement::Question;
 use ror_table::Table;
 use ror_text::Items;
 use ror_text::reading::refuse_if;
-use serde_json::{Value, json};
+use serde_json::{Map, Value, json, put};
 use std::alloc::{AllocError, Global};
 
 impl Formed for Answer {
@@ -68,10 +69,15 @@ fn proved_value(
 ) -> Result<Value, AllocError>
     ensures { IfOk result (λ v. view v ≡ proved_form (string_bytes question) name proof.now) }
 {
+    let mut map = Map::new(alloc);
+    put(&mut map, alloc, "question", Value::from(question))?;
     let base = certificate_value(alloc, &proof.base)?;
+    put(&mut map, alloc, "base", base)?;
     let parts = list_value(alloc, table, proof.parts.as_slice())?;
-    let verdict = name_text(name);
-    json!(in alloc; {"base": base, "parts": parts, "question": question, "verdict": verdict})
+    put(&mut map, alloc, "parts", parts)?;
+    let verdict = Value::try_from_str(alloc, name_text(name))?;
+    put(&mut map, alloc, "verdict", verdict)?;
+    Ok(Value::Object(map))
 }
 
 /// The form of an answer that concludes nothing.
@@ -99,16 +105,39 @@ fn proved_in(
     ensures { Gives (λ x. x) misfit result
         (spec.proved_in table.now (view base.now) (members_view members.entry)) }
 {
-    let base = certificate_of(alloc, table, base)?;
     let (parts, members) = member_at("parts", members)?;
-    let parts = Items::from(list_in(alloc, table, parts)?);
+    let (question, name) = asked_in(alloc, table, members)?;
+    let proof = proof_of(alloc, table, base, parts)?;
+    let verdict = concluded(name, proof)?;
+    Ok(Answer { question, verdict })
+}
+
+/// The question and the name of the verdict, of which these are the members.
+#[tactic(auto, unfolding(crate::specs::Reading::asked_in))]
+fn asked_in(
+    alloc: Global,
+    table: &Table,
+    members: Members<'_>,
+) -> Result<(Question, VerdictName), Misfit>
+    ensures { Gives (λ x. (x.0, x.1)) misfit result
+        (spec.asked_in table.now (members_view members.entry)) }
+{
     let (question, members) = member_at("question", members)?;
     let question = question_in(alloc, table, question)?;
     let (name, members) = member_at("verdict", members)?;
     let name = name_in(&VERDICT_NAMES, name)?;
     no_member(members)?;
-    let verdict = concluded(name, Proof { base, parts })?;
-    Ok(Answer { question, verdict })
+    Ok((question, name))
+}
+
+/// The proof whose `base` and `parts` have these values.
+#[tactic(auto, unfolding(crate::specs::Reading::proof_of))]
+fn proof_of(alloc: Global, table: &Table, base: &Value, parts: &Value) -> Result<Proof, Misfit>
+    ensures { Gives (λ x. x) misfit result (spec.proof_of (view base.now) (view parts.now)) }
+{
+    let parts = Items::from(list_in(alloc, table, parts)?);
+    let base = certificate_of(alloc, table, base)?;
+    Ok(Proof { base, parts })
 }
 
 /// The verdict of this name with its proof.
@@ -138,8 +167,8 @@ fn unsettled_in(
     let (name, members) = member_at("verdict", members)?;
     is_unsettled(name)?;
     let (wide, members) = member_at("wide", members)?;
-    let (system, note) = wide_of(alloc, table, wide)?;
     no_member(members)?;
+    let (system, note) = wide_of(alloc, table, wide)?;
     let verdict = Verdict::Wide { system, note };
     Ok(Answer { question, verdict })
 }

@@ -73,10 +73,10 @@ fn early_block(alloc: Global, table: &Table, members: Members<'_>) -> Result<Blo
         (spec.early_block table.now (members_view members.entry)) }
 {
     let (key, body, members) = named_member(&EARLY_KEYS, members)?;
-    let body = body_named(alloc, table, key, body)?;
     let (line, members) = member_at("line", members)?;
     let line = count_of(line)?;
     no_member(members)?;
+    let body = body_named(alloc, table, key, body)?;
     Ok(Block { line, body })
 }
 
@@ -89,8 +89,8 @@ fn late_block(alloc: Global, table: &Table, members: Members<'_>) -> Result<Bloc
     let (line, members) = member_at("line", members)?;
     let line = count_of(line)?;
     let (key, body, members) = named_member(&LATE_KEYS, members)?;
-    let body = body_named(alloc, table, key, body)?;
     no_member(members)?;
+    let body = body_named(alloc, table, key, body)?;
     Ok(Block { line, body })
 }
 

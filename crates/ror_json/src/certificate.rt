@@ -65,10 +65,10 @@ pub(crate) fn multipliers_of(alloc: Global, table: &Table, v: &Value) -> Result<
 {
     let members = members_of(v)?;
     let (strict, members) = member_at("strict", members)?;
-    let strict = numbers_in(alloc, table, strict)?;
     let (weak, members) = member_at("weak", members)?;
-    let weak = numbers_in(alloc, table, weak)?;
     no_member(members)?;
+    let strict = numbers_in(alloc, table, strict)?;
+    let weak = numbers_in(alloc, table, weak)?;
     Ok(Multipliers { weak, strict })
 }
 
@@ -109,9 +109,8 @@ fn certificate_in(alloc: Global, table: &Table, members: Members<'_>) -> Result<
     ensures { Gives (λ c. c) misfit result (spec.certificate_in (members_view members.entry)) }
 {
     let (key, value, members) = named_member(&CERTIFICATE_KEYS, members)?;
-    let certificate = certificate_named(alloc, table, key, value)?;
     no_member(members)?;
-    Ok(certificate)
+    certificate_named(alloc, table, key, value)
 }
 
 /// The certificate that stands under this key.

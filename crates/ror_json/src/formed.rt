@@ -13,7 +13,7 @@ ghost use Rattle.ror_json.specs.Reading.{misfit, json_fault, items_from, list_of
 use crate::fault::{JsonFault, Misfit};
 use crate::members::items_of;
 use ror_table::Table;
-use serde_json::Value;
+use serde_json::{Value, push};
 use std::alloc::{AllocError, Global};
 
 /// What has one value as its form, over a table.
@@ -46,7 +46,7 @@ pub(crate) fn list_value<T: Formed>(
     let mut values = Vec::with_capacity(alloc, list.len())?;
     'list: for one in list {
         let value = one.to_value(alloc, table)?;
-        values.push(value)?;
+        push(&mut values, value)?;
     }
     Ok(Value::Array(values))
 }

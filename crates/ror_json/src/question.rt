@@ -3,8 +3,10 @@
 ghost use Rattle.std.specs.Prelude.{◌≡◌, ◌<◌, ◌∷◌, ◌++◌, length, string_bytes, IfOk, OnOk};
 ghost use Rattle.ror_statement.specs.Names.{PairWithin, ScopeWithin, NamesWithin, IsPropertyWithin, IsValidQuestion};
 ghost use Rattle.ror_table.specs.Table.{id_of, criterion_id_of};
+ghost use Rattle.ror_text.specs.Cursor.{cursor_at};
 ghost use Rattle.ror_text.specs.Reading.{Gives};
 ghost use Rattle.ror_proof.specs.Printing.{spaced};
+ghost use Rattle.ror_proof.specs.Reading.{answer_at};
 ghost use Rattle.ror_proof.specs.Text.{pair_words, scope_words, form_words, property_words};
 ghost use Rattle.ror_json.specs.Form.{question_text};
 ghost use Rattle.ror_json.specs.Reading as spec;
@@ -15,7 +17,7 @@ use crate::fault::Misfit;
 use crate::single::{name_text, text_of};
 use itoa::Buffer;
 use ror_proof::names::QuestionName;
-use ror_proof::{ProofFault, read_answer};
+use ror_proof::{Answer, ProofFault, read_answer};
 use ror_statement::{Form, Pair, Property, Question, Scope};
 use ror_table::Table;
 use ror_text::reading::refuse_if;
@@ -117,11 +119,25 @@ fn question_of(alloc: Global, table: &Table, text: &[u8]) -> Result<Question, Mi
 {
     refuse_if(!is_one_line(text), Misfit::Shape)?;
     let answer = asked(alloc, text)?;
-    match read_answer(alloc, table, answer.as_slice(), 0) {
-        Ok((answer, _)) => Ok(answer.question),
+    question_at(alloc, table, answer.as_slice())
+}
+
+/// The question of the answer at the beginning of this text.
+fn question_at(alloc: Global, table: &Table, text: &[u8]) -> Result<Question, Misfit>
+    ensures { Gives (λ q. q) misfit result
+        (spec.asked (answer_at table.now (cursor_at text.now 0))) }
+{
+    match read_answer(alloc, table, text, 0) {
+        Ok((answer, _)) => Ok(question_asked(answer)),
         Err(ProofFault::Memory) => Err(Misfit::Memory),
         Err(_) => Err(Misfit::Shape),
     }
+}
+
+fn question_asked(answer: Answer) -> Question
+    ensures { result ≡ answer.question }
+{
+    answer.question
 }
 
 fn is_one_line(text: &[u8]) -> bool

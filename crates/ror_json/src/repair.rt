@@ -38,10 +38,10 @@ impl Formed for Dropped {
     fn from_value(alloc: Global, table: &Table, v: &Value) -> Result<Dropped, Misfit> {
         let members = members_of(v)?;
         let (proof, members) = member_at("multipliers", members)?;
-        let proof = multipliers_of(alloc, table, proof)?;
         let (number, members) = member_at("number", members)?;
         let number = count_of(number)?;
         no_member(members)?;
+        let proof = multipliers_of(alloc, table, proof)?;
         Ok(Dropped { number, proof })
     }
 }
@@ -62,10 +62,10 @@ pub(crate) fn kept_of(alloc: Global, table: &Table, v: &Value) -> Result<Kept, M
 {
     let members = members_of(v)?;
     let (base, members) = member_at("base", members)?;
-    let base = certificate_of(alloc, table, base)?;
     let (dropped, members) = member_at("dropped", members)?;
-    let dropped = Items::from(list_in(alloc, table, dropped)?);
     no_member(members)?;
+    let dropped = Items::from(list_in(alloc, table, dropped)?);
+    let base = certificate_of(alloc, table, base)?;
     Ok(Kept { dropped, base })
 }
 
@@ -95,8 +95,8 @@ pub(crate) fn repair_wide_of(
     let (number, members) = member_at("number", members)?;
     let number = count_of(number)?;
     let (wide, members) = member_at("wide", members)?;
+    no_member(members)?;
     let (system, note) = wide_of(alloc, table, wide)?;
     refuse_if(system != 0, Misfit::Shape)?;
-    no_member(members)?;
     Ok((number, note))
 }

@@ -15,7 +15,7 @@ use ror_proof::names::{Name, named};
 use ror_system::Numbers;
 use ror_text::numbers::read_number;
 use ror_text::reading::{need, refuse_if};
-use serde_json::Value;
+use serde_json::{Value, push};
 use std::alloc::{AllocError, Global};
 
 /// A count, a place, a system or the number of a line or of a statement.
@@ -73,7 +73,7 @@ pub(crate) fn numbers_value(alloc: Global, numbers: &Numbers) -> Result<Value, A
     let mut texts = Vec::with_capacity(alloc, numbers.len())?;
     'numbers: for k in 0..numbers.len() {
         let text = number_value(alloc, numbers.entry(k))?;
-        texts.push(text)?;
+        push(&mut texts, text)?;
     }
     Ok(Value::Array(texts))
 }

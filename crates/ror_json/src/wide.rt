@@ -142,11 +142,11 @@ pub(crate) fn wide_of(alloc: Global, table: &Table, v: &Value) -> Result<(u32, W
 {
     let members = members_of(v)?;
     let (path, members) = member_at("path", members)?;
-    let path = Items::from(list_in(alloc, table, path)?);
     let (place, members) = member_at("place", members)?;
     let place = place_of(place)?;
     let (system, members) = member_at("system", members)?;
     let system = count_of(system)?;
     no_member(members)?;
+    let path = Items::from(list_in(alloc, table, path)?);
     Ok((system, WideText { path, place }))
 }
