@@ -97,7 +97,9 @@ impl Page {
     pub fn place(&mut self, name: &str) -> Result<(), AllocError>
         ensures { OnOk result (Extends self.old.text.items self.new.text.items) }
     {
-        let head = plain(self.alloc, &[b"\n", clipped(name.as_bytes(), 90), b":\n"])?;
+        let mut head = Vec::from_slice(self.alloc, b"\n")?;
+        head.extend_from_slice(&plain(self.alloc, &[clipped(name.as_bytes(), 90)])?)?;
+        head.extend_from_slice(b":\n")?;
         self.text.extend_from_slice(&head)
     }
 
@@ -106,16 +108,17 @@ impl Page {
         ensures { OnOk result (Extends self.old.text.items self.new.text.items) }
     {
         let mut digits = Buffer::new();
-        let head = plain(
+        let place = plain(
             self.alloc,
             &[
-                b"\n",
                 clipped(name.as_bytes(), 90),
                 b", line ",
                 digits.format(line).as_bytes(),
-                b":\n",
             ],
         )?;
+        let mut head = Vec::from_slice(self.alloc, b"\n")?;
+        head.extend_from_slice(&place)?;
+        head.extend_from_slice(b":\n")?;
         self.text.extend_from_slice(&head)
     }
 
@@ -251,10 +254,10 @@ fn plain(alloc: Global, pieces: &[&[u8]]) -> Result<Vec<u8>, AllocError> {
 
 /// A byte of a text that is UTF-8 or isn't, as it is shown.
 fn plain_byte(byte: u8, sound: bool) -> u8 {
-    if byte == b'\t' {
+    if byte == b'\t' || byte == b'\n' {
         return b' ';
     }
-    if (byte < 0x20 && byte != b'\n') || byte == 0x7F || (byte >= 128 && !sound) {
+    if byte < 0x20 || byte == 0x7F || (byte >= 128 && !sound) {
         return b'?';
     }
     byte
