@@ -1,0 +1,10 @@
+pub mod Amounts
+pub mod Spoken
+pub mod Words
+pub mod Claims
+pub mod Fields
+pub mod Layout
+pub mod Heads
+pub mod Parts
+pub mod Rows
+pub mod SpokenValues
