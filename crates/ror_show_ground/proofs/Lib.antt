@@ -1,0 +1,5 @@
+pub mod Lending
+pub mod Lists
+pub mod ReadyProofs
+pub mod Tests
+pub mod TurnLemmas

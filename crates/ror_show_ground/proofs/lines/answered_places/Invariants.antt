@@ -1,0 +1,7 @@
+use Rattle.std.proofs.Common.{◌≡◌}
+use Rattle.std.specs.List.{flat_map, range_with_len}
+use Rattle.ror_show_ground.specs.Lines.{place_if, has_answers}
+use Rattle.ror_show_ground.proofs.lines.answered_places.Given as goal
+
+abbrev pub invariant-loop-n : goal.invariant-loop-n
+invariant-loop-n l = l.places.items ≡ flat_map (place_if has_answers l.kept) (range_with_len 0 l.n)

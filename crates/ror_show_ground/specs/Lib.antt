@@ -1,0 +1,10 @@
+pub mod Grounds
+pub mod Heads
+pub mod Lines
+pub mod Meaning
+pub mod Sound
+pub mod Ready
+pub mod Said
+pub mod Stood
+pub mod Turns
+pub mod TurnLaws
