@@ -1,0 +1,11 @@
+pub mod SignLemmas
+pub mod IntervalLemmas
+pub mod ChangeLemmas
+pub mod RunLaws
+pub mod RunLemmas
+pub mod TimeLemmas
+pub mod TimeLaws
+pub mod TimeTurnLemmas
+pub mod ValueLemmas
+pub mod WholeLemmas
+pub mod ClassChangeLemmas

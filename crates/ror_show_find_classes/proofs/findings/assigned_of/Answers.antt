@@ -1,0 +1,11 @@
+-- One class more.
+use Rattle.std.proofs.Common.{◌≡◌, ◌+◌, rules}
+use Rattle.std.specs.Prelude.{[], ◌∷◌, ◌++◌}
+use Rattle.ror_show_ground.proofs.Tests.{mapped_more}
+use Rattle.ror_show_find_classes.specs.Findings.{is_assigned_to}
+use Rattle.ror_show_find_classes.proofs.findings.assigned_of.Goals as goal
+
+pub loop-h-preserved : goal.loop-h-preserved
+loop-h-preserved c =
+    let pushed : c.push.new.self.items ≡ c.loop-h.made.items ++ is_assigned_to c.args.line.now (c.loop-h.h + 1) ∷ [] = search rules in
+    mapped_more (λ h. is_assigned_to c.args.line.now (h + 1)) c.loop-h.h c.loop-h.made.items c.push.new.self.items c.loop-h.invariant pushed

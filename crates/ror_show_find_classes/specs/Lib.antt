@@ -1,0 +1,12 @@
+pub mod Changes
+pub mod Meaning
+pub mod Signs
+pub mod TimeTurns
+pub mod Intervals
+pub mod Rows
+pub mod Times
+pub mod Values
+pub mod ChangeLaws
+pub mod Findings
+pub mod Laws
+pub mod ClassChanges

@@ -1,0 +1,15 @@
+pub mod Accepted
+pub mod FoundLists
+pub mod Systems
+pub mod CountLemmas
+pub mod Runs
+pub mod LevelProofs
+pub mod MeaningProofs
+pub mod NumberProofs
+pub mod OwnRows
+pub mod PlaceProofs
+pub mod Quotients
+pub mod SideProofs
+pub mod SpanLemmas
+pub mod Sufficing
+pub mod Truth

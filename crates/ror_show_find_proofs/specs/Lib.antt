@@ -1,0 +1,14 @@
+pub mod Sums
+pub mod Weights
+pub mod Counted
+pub mod Functions
+pub mod Deciding
+pub mod Levels
+pub mod Places
+pub mod Shares
+pub mod FunctionLaws
+pub mod LineLaws
+pub mod SideLaws
+pub mod Spans
+pub mod SumLaws
+pub mod Findings

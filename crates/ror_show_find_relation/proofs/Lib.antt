@@ -1,0 +1,17 @@
+pub mod Below
+pub mod Parts
+pub mod Cycles
+pub mod Passing
+pub mod LevelLemmas
+pub mod Paths
+pub mod ArrowLemmas
+pub mod Back
+pub mod SaidLemmas
+pub mod CellLemmas
+pub mod Mirror
+pub mod OneCell
+pub mod Known
+pub mod CountLemmas
+pub mod Listed
+pub mod DifferenceLemmas
+pub mod DominanceLemmas

@@ -1,0 +1,6 @@
+use Rattle.std.proofs.Common.{◌≡◌, map, take}
+use Rattle.ror_show_find_relation.specs.Cells.{is_open}
+use Rattle.ror_show_find_relation.proofs.page.open_of.Given as goal
+
+abbrev pub invariant-loop-row : goal.invariant-loop-row
+invariant-loop-row l = l.made.items ≡ map (map is_open) (take l.row-index l.rows)

@@ -1,0 +1,7 @@
+use Rattle.std.proofs.Common.{◌≡◌, ◌≤◌}
+use Rattle.ror_show_find_relation.specs.Relations.{count_below}
+use Rattle.ror_show_find_relation.specs.Rows.{is_over_at}
+use Rattle.ror_show_find_relation.proofs.places.over_count.Given as goal
+
+abbrev pub invariant-loop-b : goal.invariant-loop-b
+invariant-loop-b l = record { counted : l.count ≡ count_below (is_over_at l.rows l.a) l.b; few : l.count ≤ l.b }

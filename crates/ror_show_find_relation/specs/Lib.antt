@@ -1,0 +1,17 @@
+pub mod Relations
+pub mod Arrows
+pub mod Changes
+pub mod Brought
+pub mod Said
+pub mod Cells
+pub mod Dominance
+pub mod Meaning
+pub mod Levels
+pub mod Pages
+pub mod Rows
+pub mod CellLaws
+pub mod ChangeLaws
+pub mod DifferenceLaws
+pub mod Differences
+pub mod OrderLaws
+pub mod Passes

@@ -1,0 +1,9 @@
+pub mod Elements
+pub mod GoneLemmas
+pub mod StandLemmas
+pub mod LawProofs
+pub mod LineLemmas
+pub mod Loops
+pub mod NumberedTurns
+pub mod LeftLemmas
+pub mod AskedLemmas

@@ -1,0 +1,9 @@
+pub mod Turns
+pub mod Roll
+pub mod Became
+pub mod Shown
+pub mod Steps
+pub mod Laws
+pub mod Said
+pub mod Choosing
+pub mod Findings
