@@ -1,0 +1,13 @@
+-- One line more.
+use Rattle.std.proofs.Common.{length}
+use Rattle.ror_show_ground.specs.Grounds.{ground_of}
+use Rattle.ror_show_ground.proofs.Lists.{zip_next, within_at}
+use Rattle.ror_show_find_reasons.specs.Pairs.{IsRelationFound}
+use Rattle.ror_show_find_reasons.proofs.relations.relations_at.Goals as goal
+
+pub find_relation-requires-clause-there : goal.find_relation-requires-clause-there
+find_relation-requires-clause-there c = within_at (length c.args.ground.now.kept.now) c.args.places.now c.loop-place.place-index c.loop-place-test.true c.requires.within
+
+pub loop-place-preserved : goal.loop-place-preserved
+loop-place-preserved c =
+    zip_next (IsRelationFound c.args.sought (ground_of c.args.ground.now)) c.args.places.now c.loop-place.place-index 0 c.loop-place.found.items c.push.new.self.items c.in_ok-relation.relation c.loop-place-test.true c.loop-place.invariant c.in_ok-relation.ensures c.in_ok-push.ensures.items

@@ -1,0 +1,150 @@
+-- What carries the arrows of a relation, and the pairs that a change brought.
+use Rattle.std.specs.Prelude.{◌≡◌, ◌==◌, ◌<◌, ℕ, Bool, true, false, ◌&&◌, List, [], slice_get, Option, Some, None}
+use Rattle.std.specs.List.{find, AllByRecursion, AllZip}
+use Rattle.ror_statement.specs.declared.statement.Numbered.{Numbered}
+use Rattle.ror_statement.specs.declared.question.Conclusion.TheVariants as conclusions
+use Rattle.ror_statement.specs.declared.question.Question.{Question}
+use Rattle.ror_statement.specs.declared.question.Question.TheVariants.{Necessary}
+use Rattle.ror_table.specs.Table.{DecisionTable}
+use Rattle.ror_value.specs.Laws.{IsNecessarilyPreferred}
+use Rattle.ror_value.specs.Meaning.{IsConsistent}
+use Rattle.ror_proof.specs.declared.answer.Answer.{Answer}
+use Rattle.ror_proof.specs.declared.answer.Verdict.{Verdict}
+use Rattle.ror_proof.specs.declared.answer.Verdict.TheVariants as verdicts
+use Rattle.ror_check.specs.Repair.{AreNumbersIn}
+use Rattle.ror_pivot.specs.declared.note.Bits.TheVariants.{B127}
+use Rattle.ror_pivot.specs.Answers.{most_of}
+use Rattle.ror_report.specs.Text.{answers_of}
+use Rattle.ror_bench.specs.declared.kept.KeptLine.{KeptLine}
+use Rattle.ror_show_find_relation.specs.Relations.{Square}
+use Rattle.ror_show_find_relation.specs.declared.page.RelationPage.{RelationPage}
+use Rattle.ror_show_find_relation.specs.Pages.{IsRelationPage, known}
+use Rattle.ror_reason.specs.Reasons.{IsWideReason}
+use Rattle.ror_reason.specs.Reducts.{stated, without}
+use Rattle.ror_show_find_relation.specs.Brought.{brought}
+use Rattle.ror_show_ground.specs.Grounds.{Ground}
+use Rattle.ror_show_ground.specs.Lines.{line_of, has_answers, places_where}
+use Rattle.ror_show_ground.specs.Turns.{asks_for_relation, turns}
+use Rattle.ror_session.specs.declared.session.Line.{Line}
+use Rattle.ror_session.specs.declared.session.Session.{Session}
+use Rattle.ror_show_find_relation.specs.Differences.{AreDifferences}
+use Rattle.ror_show_find_reasons.specs.declared.changes.Between.{Between}
+use Rattle.ror_show_find_reasons.specs.declared.pairs.CarriedPair.{CarriedPair}
+use Rattle.ror_show_find_reasons.specs.declared.pairs.ChangeFound.{ChangeFound}
+use Rattle.ror_show_find_reasons.specs.declared.pairs.RelationFound.{RelationFound}
+use Rattle.ror_show_find_reasons.specs.Carrying.{Carries}
+
+-- ---- which answer says it
+
+-- the answer is yes, to whether the first is at least as good as the second by every function
+abbrev pub is_yes_over : ℕ × ℕ → Question → Verdict → Bool
+is_yes_over arrow (Necessary a b) (verdicts.Yes proof) = a == arrow.0 && b == arrow.1
+is_yes_over arrow _ _ = false
+
+abbrev pub says_over : ℕ × ℕ → Answer → Bool
+says_over arrow x = is_yes_over arrow x.question x.verdict
+
+-- which statements carry it, where an answer says it, and none where none does
+abbrev pub CarriesWhere : DecisionTable → List Numbered → ℕ × ℕ → Option Answer → Option (List ℕ) → Type 0
+CarriesWhere t list arrow (Some x) numbers = Carries t list (Necessary arrow.0 arrow.1) conclusions.Yes numbers
+CarriesWhere t list arrow None numbers = numbers ≡ None
+
+-- of what some answers say
+abbrev pub IsCarriedBy : DecisionTable → List Numbered → List Answer → ℕ × ℕ → Option (List ℕ) → Type 0
+IsCarriedBy t list xs arrow numbers = CarriesWhere t list arrow (find (says_over arrow) xs) numbers
+
+-- ---- what is found
+
+-- a pair, with statements that carry it, which may be one of several parts that do
+abbrev pub IsCarriedPair : DecisionTable → List Numbered → List Answer → ℕ × ℕ → CarriedPair → Type 0
+IsCarriedPair t list xs pair f = (f.pair ≡ pair) × IsCarriedBy t list xs pair f.numbers
+
+-- one for each pair, in order
+abbrev pub AreCarriedPairs : DecisionTable → List Numbered → List Answer → List (ℕ × ℕ) → List CarriedPair → Type 0
+AreCarriedPairs t list xs pairs fs = AllZip (IsCarriedPair t list xs) pairs fs
+
+-- of what stood, where that is kept
+abbrev pub AreCarriedOver : DecisionTable → List Answer → Option (List Numbered) → List (ℕ × ℕ) → List CarriedPair → Type 0
+AreCarriedOver t xs (Some list) pairs fs = AreCarriedPairs t list xs pairs fs
+AreCarriedOver t xs None pairs fs = fs ≡ []
+
+-- where they are sought at all: a form for programs has no reasons yet, and none are sought for it
+abbrev pub AreCarriedWhere : Bool → DecisionTable → KeptLine → List (ℕ × ℕ) → List CarriedPair → Type 0
+AreCarriedWhere true t x pairs fs = AreCarriedOver t (answers_of x.block.body) x.standing pairs fs
+AreCarriedWhere false t x pairs fs = fs ≡ []
+
+-- at the kept line at a place: what its answers say of the relation, and what carries each arrow
+pub record IsRelationFound (sought : Bool) (g : Ground) (n : ℕ) (f : RelationFound) : Type 0 where
+  pub line : KeptLine
+  pub there : slice_get g.kept n ≡ Some line
+  pub place : f.place ≡ n
+  pub relation : IsRelationPage g.table (answers_of line.block.body) f.relation
+  pub carried : AreCarriedWhere sought g.table line f.relation.arrows f.carried
+
+-- the session's line asks for the relation
+abbrev pub asks_relation : Option Line → Bool
+asks_relation (Some line) = asks_for_relation line.command
+asks_relation None = false
+
+-- and is answered
+abbrev pub has_relation : Session → KeptLine → Bool
+has_relation s x = has_answers x && asks_relation (line_of s x)
+
+abbrev pub relation_places : Session → List KeptLine → List ℕ
+relation_places s kept = places_where (has_relation s) kept
+
+-- at each kept line that asks for the relation and is answered, in order
+abbrev pub AreRelationsFound : Bool → Ground → List RelationFound → Type 0
+AreRelationsFound sought g fs = AllZip (IsRelationFound sought g) (relation_places g.session g.kept) fs
+
+-- from one kept line to a later one: both relations, the pairs of each change, and what carries those that it brought, over what stood
+-- at the later line
+pub record IsChangeFound (sought : Bool) (g : Ground) (turn : ℕ × ℕ) (f : ChangeFound) : Type 0 where
+  pub earlier : KeptLine
+  pub later : KeptLine
+  pub earlier_there : slice_get g.kept turn.0 ≡ Some earlier
+  pub later_there : slice_get g.kept turn.1 ≡ Some later
+  pub places : (f.before ≡ turn.0) × (f.now ≡ turn.1)
+  pub first : IsRelationPage g.table (answers_of earlier.block.body) f.first
+  pub second : IsRelationPage g.table (answers_of later.block.body) f.second
+  pub pairs : AreDifferences (known f.first.rows) (known f.second.rows) f.pairs
+  pub brought_by : AreCarriedWhere sought g.table later (brought (known f.first.rows) (known f.second.rows)) f.brought
+
+-- from the one to the other of these, in order
+abbrev pub AreChangesAt : Bool → Ground → List (ℕ × ℕ) → List ChangeFound → Type 0
+AreChangesAt sought g turns fs = AllZip (IsChangeFound sought g) turns fs
+
+-- from each answered line that asks for the relation to the next one at its desk
+abbrev pub AreChangesFound : Bool → Ground → List ChangeFound → Type 0
+AreChangesFound sought g fs = AreChangesAt sought g (turns g.session g.kept) fs
+
+-- both places are among so many
+abbrev pub AreWithin : ℕ → ℕ × ℕ → Type 0
+AreWithin n turn = (turn.0 < n) × (turn.1 < n)
+
+-- the pairs of each change, and those that it brought
+abbrev pub IsBetween : Square → Square → Between → Type 0
+IsBetween before now f = AreDifferences before now f.pairs × (f.brought.items ≡ brought before now)
+
+abbrev pub IsBetweenPages : RelationPage → RelationPage → Between → Type 0
+IsBetweenPages first second f = IsBetween (known first.rows) (known second.rows) f
+
+-- ---- what it means over all value functions
+
+-- The numbers name statements of the list. Some function agrees with these, and every one that does has the first alternative at least
+-- as good as the second; of those that agree with all of them but one, not every one has.
+pub record AreNeeded (t : DecisionTable) (list : List Numbered) (arrow : ℕ × ℕ) (ns : List ℕ) : Type 0 where
+  pub numbers : AreNumbersIn list ns
+  pub consistent : IsConsistent t (stated ns list)
+  pub carry : IsNecessarilyPreferred t (stated ns list) arrow.0 arrow.1
+  pub needed : AllByRecursion (λ n. IsNecessarilyPreferred t (stated (without n ns) list) arrow.0 arrow.1 → ⊥) ns
+
+-- they are that; and where no numbers are given, a part of the list carries it of which that isn't known, since over the others of some
+-- statement of it a number passes the greatest width
+abbrev pub AreNeededOrWide : DecisionTable → List Numbered → ℕ × ℕ → Option (List ℕ) → Type 0
+AreNeededOrWide t list arrow (Some ns) = AreNeeded t list arrow ns
+AreNeededOrWide t list arrow None = (ns : List ℕ) × (x : Answer) × (others : List Answer)
+    × IsWideReason (most_of B127) t list (Necessary arrow.0 arrow.1) conclusions.Yes ns x others
+
+abbrev pub MeansCarried : DecisionTable → List Numbered → CarriedPair → Type 0
+MeansCarried t list f = AreNeededOrWide t list f.pair f.numbers

@@ -1,0 +1,183 @@
+//! Which statements carry an answer, and which of them carry each of some pairs.
+
+ghost use Rattle.std.specs.Prelude.{◌≡◌, option_map, IfOk};
+ghost use Rattle.std.specs.List.{find};
+ghost use Rattle.ror_statement.specs.Statements.{statements_in};
+ghost use Rattle.ror_value.specs.Over.{IsAskedIn};
+ghost use Rattle.ror_check.specs.Proof.{IsProvedAnswer};
+ghost use Rattle.ror_pivot.specs.declared.note.Bits.TheVariants.{B127};
+ghost use Rattle.ror_pivot.specs.Answers.{most_of};
+ghost use Rattle.ror_given.specs.Answers.{IsVerdictWithin};
+ghost use Rattle.ror_reason.specs.Reasons.{IsReasonWithin};
+ghost use Rattle.ror_report.specs.Text.{answers_of};
+ghost use Rattle.ror_show_ground.specs.Ready.{IsReady};
+ghost use Rattle.ror_show_ground.specs.Stood.{stood_of, IsStood};
+ghost use Rattle.ror_show_find_reasons.specs.Carrying.{IsReasonFor, AreNumbersFor, numbers_of};
+ghost use Rattle.ror_show_find_reasons.specs.Pairs as spec;
+
+use crate::pairs::CarriedPair;
+use ror_bench::KeptLine;
+use ror_pivot::Bits;
+use ror_proof::{Answer, Verdict};
+use ror_reason::{Reason, Reduct, reduct_of};
+use ror_show_ground::{Stood, stood_at};
+use ror_statement::Question;
+use ror_table::Table;
+use ror_text::Items;
+use ror_warm::Engine;
+use std::alloc::{AllocError, Global};
+
+/// These pairs, each with what carries it over what stood at a line, where that is kept and they are sought; none else.
+///
+/// # Errors
+///
+/// Only want of memory, here and below.
+pub(crate) fn find_carried(
+    alloc: Global,
+    engine: &mut Engine,
+    table: &Table,
+    sought: bool,
+    line: &KeptLine,
+    pairs: &[(usize, usize)],
+) -> Result<Items<CarriedPair>, AllocError>
+    requires { IsReady table.now line.now }
+    ensures { IfOk result (spec.AreCarriedWhere sought table.now line.now pairs.now) }
+{
+    if !sought {
+        return Ok(Items::from(Vec::new(alloc)));
+    }
+    find_over(alloc, engine, table, line, pairs)
+}
+
+fn find_over(
+    alloc: Global,
+    engine: &mut Engine,
+    table: &Table,
+    line: &KeptLine,
+    pairs: &[(usize, usize)],
+) -> Result<Items<CarriedPair>, AllocError>
+    requires { IsReady table.now line.now }
+    ensures { IfOk result (spec.AreCarriedOver table.now (answers_of line.now.block.body) line.now.standing pairs.now) }
+{
+    match stood_at(table, line) {
+        Some(stood) => find_pairs(alloc, engine, &stood, pairs),
+        None => Ok(Items::from(Vec::new(alloc))),
+    }
+}
+
+/// These pairs, in order, each with what carries it.
+fn find_pairs(
+    alloc: Global,
+    engine: &mut Engine,
+    stood: &Stood<'_>,
+    pairs: &[(usize, usize)],
+) -> Result<Items<CarriedPair>, AllocError>
+    requires { IsStood (stood_of stood.now) }
+    ensures { IfOk result (spec.AreCarriedPairs stood.now.table.now stood.now.list.now stood.now.answers.now pairs.now) }
+{
+    let mut found = Vec::new(alloc);
+    for pair in pairs {
+        let carried = find_pair(alloc, engine, stood, *pair)?;
+        found.push(carried)?;
+    }
+    Ok(Items::from(found))
+}
+
+fn find_pair(
+    alloc: Global,
+    engine: &mut Engine,
+    stood: &Stood<'_>,
+    pair: (usize, usize),
+) -> Result<CarriedPair, AllocError>
+    requires { IsStood (stood_of stood.now) }
+    ensures { IfOk result (spec.IsCarriedPair stood.now.table.now stood.now.list.now stood.now.answers.now pair) }
+{
+    let numbers = carrying_of(alloc, engine, stood, pair)?;
+    Ok(CarriedPair { pair, numbers })
+}
+
+/// The numbers of statements that carry that the one is at least as good as the other, of which none can be spared; none where that
+/// isn't known of some of them, or where no answer says that it is.
+fn carrying_of(
+    alloc: Global,
+    engine: &mut Engine,
+    stood: &Stood<'_>,
+    arrow: (usize, usize),
+) -> Result<Option<Items<u32>>, AllocError>
+    requires { IsStood (stood_of stood.now) }
+    ensures { IfOk result (spec.IsCarriedBy stood.now.table.now stood.now.list.now stood.now.answers.now arrow) }
+{
+    match answer_over(stood.answers, arrow) {
+        Some(answer) => carrying_by(alloc, engine, stood, answer),
+        None => Ok(None),
+    }
+}
+
+/// The first answer that says that the one is at least as good as the other by every function.
+fn answer_over(answers: &[Answer], arrow: (usize, usize)) -> Option<&Answer>
+    ensures { option_map (λ x. x.now) result ≡ find (spec.says_over arrow) answers.now }
+{
+    answers.iter().find(|answer| says_over(answer, arrow))
+}
+
+/// Whether an answer says that the one is at least as good as the other by every function.
+fn says_over(answer: &Answer, arrow: (usize, usize)) -> bool
+    ensures { result ≡ spec.says_over arrow answer.now }
+{
+    match (answer.question, &answer.verdict) {
+        (Question::Necessary(a, b), Verdict::Yes(_)) => a == arrow.0 && b == arrow.1,
+        _ => false,
+    }
+}
+
+/// The numbers of statements that carry an answer over the list, of which none can be spared: those of a reduct. None where that isn't known
+/// of some of them, since over the others a number is too wide, and where no statement carries the answer.
+///
+/// The question of the answer is valid for the table, and the answer has its proof. An engine that may have decided others before decides
+/// which statements can be spared.
+pub(crate) fn carrying_by(
+    alloc: Global,
+    engine: &mut Engine,
+    stood: &Stood<'_>,
+    answer: &Answer,
+) -> Result<Option<Items<u32>>, AllocError>
+    requires stood { IsStood (stood_of stood.now) }
+    requires asked { IsAskedIn stood.now.table.now answer.now.question }
+    requires proved { IsProvedAnswer stood.now.table.now (statements_in stood.now.list.now) answer.now.question answer.now }
+    ensures { IfOk result (AreNumbersFor stood.now.table.now stood.now.list.now answer.now.question answer.now.verdict) }
+{
+    let reason = reason_over(alloc, engine, stood, answer)?;
+    Ok(numbers_in(reason))
+}
+
+/// The numbers of a reduct.
+fn numbers_in(reason: Reason) -> Option<Items<u32>>
+    ensures { result ≡ numbers_of reason }
+{
+    match reason {
+        Reason::Carried(reduct) => Some(numbers_of(reduct)),
+        _ => None,
+    }
+}
+
+fn numbers_of(reduct: Reduct) -> Items<u32>
+    ensures { result ≡ reduct.numbers }
+{
+    reduct.numbers
+}
+
+/// Why an answer over what stood is what it is.
+pub(crate) fn reason_over(
+    alloc: Global,
+    engine: &mut Engine,
+    stood: &Stood<'_>,
+    answer: &Answer,
+) -> Result<Reason, AllocError>
+    requires stood { IsStood (stood_of stood.now) }
+    requires asked { IsAskedIn stood.now.table.now answer.now.question }
+    requires proved { IsProvedAnswer stood.now.table.now (statements_in stood.now.list.now) answer.now.question answer.now }
+    ensures reason { IfOk result (IsReasonFor stood.now.table.now stood.now.list.now answer.now.question answer.now.verdict) }
+    ensures narrow { IfOk result (λ reason. IsVerdictWithin (most_of B127) answer.now.verdict → IsReasonWithin (most_of B127) reason) }
+{
+    reduct_of(alloc, engine, stood.table, stood.list, answer, Bits::B127)
+}
