@@ -1,0 +1,17 @@
+pub mod AnswerLoops
+pub mod HeadLines
+pub mod CertificateLemmas
+pub mod Found
+pub mod Certified
+pub mod Written
+pub mod FaultLemmas
+pub mod FoundLemmas
+pub mod Refusals
+pub mod FoundProved
+pub mod ListLemmas
+pub mod ListLoops
+pub mod Utf8Lemmas
+pub mod ListTexts
+pub mod FoundPrinted
+pub mod ListedProofs
+pub mod OneFault

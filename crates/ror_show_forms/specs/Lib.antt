@@ -1,0 +1,16 @@
+pub mod Answered
+pub mod CertificateText
+pub mod CertificatePages
+pub mod Reading
+pub mod Listing
+pub mod CertificateLaws
+pub mod Faults
+pub mod CertificateTextLaws
+pub mod Front
+pub mod ChangeCsv
+pub mod ClassCsv
+pub mod CsvLaws
+pub mod Dot
+pub mod FunctionCsv
+pub mod Printing
+pub mod RelationCsv

@@ -1,0 +1,2 @@
+pub mod DominanceProofs
+pub mod SceneLemmas

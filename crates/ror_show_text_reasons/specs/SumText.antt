@@ -1,0 +1,80 @@
+-- What statements sum up to, and what is used besides, in words.
+use Rattle.std.specs.Prelude.{ℕ, ◌-◌, Bool, true, false, ◌==◌, List, [], ◌∷◌, ◌++◌, codes, length, slice_get, Option, Some, None, if◌then◌else◌}
+use Rattle.std.specs.List.{flat_map, range_with_len}
+use Rattle.std.specs.Option.{option_map_or}
+use Rattle.ror_show_kit.specs.Amounts.{amount_text}
+use Rattle.ror_statement.specs.declared.statement.Statement.{Statement}
+use Rattle.ror_statement.specs.declared.question.Question.{Question}
+use Rattle.ror_table.specs.Table.{DecisionTable, criterion_id_of, is_linear, level}
+use Rattle.ror_proof.specs.declared.answer.Verdict.{Verdict}
+use Rattle.ror_show_kit.specs.Rows.{line_text}
+use Rattle.ror_show_kit.specs.Words.{word}
+use Rattle.ror_show_find_proofs.specs.declared.spans.Span.{Span}
+use Rattle.ror_show_find_proofs.specs.declared.sums.Sum.{Sum}
+use Rattle.ror_show_find_proofs.specs.Findings.{sum_found}
+
+-- ---- spans
+
+-- the criterion, where it isn't that of the span before
+abbrev pub criterion_text : DecisionTable → ℕ → Option Span → List ℕ
+criterion_text t i None = word (criterion_id_of t i)
+criterion_text t i (Some before) = if before.criterion == i then codes " and" else 44 ∷ word (criterion_id_of t i)
+
+-- the span before the one at a place
+abbrev pub before : List Span → ℕ → Option Span
+before spans k = if k == 0 then None else slice_get spans (k - 1)
+
+-- the levels that it goes from and to
+abbrev pub levels_text : DecisionTable → Span → List ℕ
+levels_text t x = codes " " ++ amount_text (level t x.criterion x.worse) ++ codes " to " ++ amount_text (level t x.criterion x.better)
+
+-- the whole of a linear criterion
+abbrev pub extent_text : DecisionTable → Span → List ℕ
+extent_text t x = if is_linear t x.criterion then codes " (linear)" else levels_text t x
+
+abbrev pub span_text : DecisionTable → Option Span → Span → List ℕ
+span_text t other x = criterion_text t x.criterion other ++ extent_text t x
+
+abbrev pub span_in : DecisionTable → List Span → ℕ → List ℕ
+span_in t spans k = option_map_or (span_text t (before spans k)) (slice_get spans k) []
+
+abbrev pub spans_text : DecisionTable → List Span → List ℕ
+spans_text t spans = flat_map (span_in t spans) (range_with_len 0 (length spans))
+
+-- ---- what is said
+
+abbrev pub said : Bool → List ℕ
+said true = codes "summed up they say that something is worth more than itself"
+said false = codes "summed up they say so"
+
+-- where no step is used
+abbrev pub no_step : Bool → List ℕ
+no_step true = codes ", as some criterion counts"
+no_step false = codes ", and nothing else is used"
+
+-- where these are
+abbrev pub some_step : Bool → List ℕ
+some_step true = codes ", as some criterion counts and better is never worth less:"
+some_step false = codes ", as better is never worth less:"
+
+abbrev pub some_steps : DecisionTable → Bool → List Span → List ℕ
+some_steps t positive spans = some_step positive ++ spans_text t spans
+
+abbrev pub besides : DecisionTable → Bool → List Span → List ℕ
+besides t positive spans = if length spans == 0 then no_step positive else some_steps t positive spans
+
+abbrev pub sum_words : DecisionTable → Bool → Bool → List Span → List ℕ
+sum_words t clashes positive spans = said clashes ++ besides t positive spans
+
+-- ---- of an answer
+
+abbrev pub sum_line : DecisionTable → Sum → List ℕ
+sum_line t x = line_text 1 (sum_words t x.clashes x.positive x.spans)
+
+-- nothing is said where there isn't a multiplier for each row
+abbrev pub found_text : DecisionTable → Option Sum → List ℕ
+found_text t found = option_map_or (sum_line t) found []
+
+-- of an answer over statements
+unfoldable pub sum_text : DecisionTable → List Statement → Question → Verdict → List ℕ
+sum_text t list q v = found_text t (sum_found t list q v)

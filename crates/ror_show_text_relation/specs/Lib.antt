@@ -1,0 +1,4 @@
+pub mod Matrix
+pub mod Text
+pub mod ArrowText
+pub mod Pages

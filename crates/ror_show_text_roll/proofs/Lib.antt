@@ -1,0 +1,2 @@
+pub mod RollWords
+pub mod WordLoops
