@@ -1,0 +1,5 @@
+use Rattle.ror_show_sheet.proofs.NoteLemmas.{if_said}
+use Rattle.ror_show_sheet.proofs.notes.said_of.Goals as goal
+
+pub returns : goal.returns
+returns c = if_said c.args.label c.word.result.now c.numbered.result c.word.ensures c.numbered.ensures

@@ -1,0 +1,4 @@
+pub mod Notes
+pub mod Pieces
+pub mod Sheet
+pub mod Beside
