@@ -5,21 +5,17 @@ use Rattle.ror_frame.specs.declared.status.Status.TheVariants as statuses
 use Rattle.ror_frame.specs.Courses.{Chore}
 use Rattle.ror_frame.specs.Statuses.{status_text}
 use Rattle.ror_show_words.specs.Commands.{usage_text}
-use Rattle.ror_show_words.specs.Words.{SheetWords, Asked, OfReport, OfFiles, OfReasons, OfCertificates, OfCheck}
-use Rattle.ror_work_certificates.specs.Checking.{check_why_chore}
-use Rattle.ror_work_certificates.specs.Showing.{certificates_chore}
-use Rattle.ror_work_pages.specs.Showing.{show_chore}
-use Rattle.ror_work_reasons.specs.Showing.{reasons_chore}
-use Rattle.ror_work_sheet.specs.Sheets.{SheetNames, sheet_chore}
+use Rattle.ror_show_words.specs.Words.{SheetWords, Asked, OfReport, OfFiles, OfCheck}
+use Rattle.ror_show_run.specs.Checking.{check_why_chore}
+use Rattle.ror_show_run.specs.Courses.{page_chore}
+use Rattle.ror_show_run.specs.Sheets.{SheetNames, sheet_chore}
 
 abbrev pub names_in : SheetWords → SheetNames
 names_in words = record { table = words.table; session = words.session; best_first = words.best_first }
 
 abbrev pub chore_of : Asked → Chore
-chore_of (OfReport page words) = show_chore page words
+chore_of (OfReport page words) = page_chore page words
 chore_of (OfFiles words) = sheet_chore (names_in words)
-chore_of (OfReasons words) = reasons_chore words
-chore_of (OfCertificates words) = certificates_chore words
 chore_of (OfCheck words) = check_why_chore words
 
 -- the line of a status, which is that of any program but where the words ask for nothing

@@ -1,10 +1,14 @@
 //! What helps where a run came to no page, by its status and the file that it fetched last.
 
-use ror_advice::{
-    File, ReportFault, missing_advice, report_advice, session_advice, table_advice, usage_advice,
-};
+ghost use Rattle.std.specs.Prelude.{IfOk};
+ghost use Rattle.ror_show_advice.specs.Apart.{StandsApart};
+
 use ror_bench::{Reason, Rejection};
 use ror_frame::Status;
+use ror_show_advice::{
+    ReportFault, missing_advice, report_advice, session_advice, table_advice, usage_advice,
+};
+use ror_show_hints::File;
 use ror_show_words::{Asked, PageWords, read_words, usage};
 use std::alloc::{AllocError, Global};
 
@@ -17,29 +21,42 @@ struct Names<'a> {
     fourth: &'a str,
 }
 
-/// What helps, by the bytes of the file that was fetched last; nothing where nothing does, or where memory is wanting.
+/// What helps, by the bytes of the file that was fetched last; nothing where nothing does, or where memory is wanting. It stands apart
+/// from the line before it.
 pub(crate) fn help_on(
     alloc: Global,
     words: &[String],
     status: &Status,
     kept: Option<&[u8]>,
     fetches: usize,
-) -> Vec<u8> {
-    let helps = match read_words(alloc, words) {
-        Ok(asked) => advice_on(alloc, &names_of(&asked), status, kept, fetches),
-        Err(_) => usage_advice(alloc, usage(), words),
-    };
-    match helps {
+) -> Vec<u8>
+    ensures { StandsApart result.items }
+{
+    match advice_for(alloc, words, status, kept, fetches) {
         Ok(text) => text,
         Err(_) => Vec::new(alloc),
+    }
+}
+
+/// What helps, by the words.
+fn advice_for(
+    alloc: Global,
+    words: &[String],
+    status: &Status,
+    kept: Option<&[u8]>,
+    fetches: usize,
+) -> Result<Vec<u8>, AllocError>
+    ensures { IfOk result (λ text. StandsApart text.items) }
+{
+    match read_words(alloc, words) {
+        Ok(asked) => advice_on(alloc, &names_of(&asked), status, kept, fetches),
+        Err(_) => usage_advice(alloc, usage(), words),
     }
 }
 
 fn names_of<'a>(asked: &Asked<'a>) -> Names<'a> {
     match asked {
         Asked::OfReport(_, words) => names_in(words),
-        Asked::OfReasons(words) => names_in(&words.page),
-        Asked::OfCertificates(words) => names_in(words),
         Asked::OfCheck(words) => Names {
             table: words.table,
             session: words.session,
@@ -71,7 +88,9 @@ fn advice_on(
     status: &Status,
     kept: Option<&[u8]>,
     fetches: usize,
-) -> Result<Vec<u8>, AllocError> {
+) -> Result<Vec<u8>, AllocError>
+    ensures { IfOk result (λ text. StandsApart text.items) }
+{
     let name = name_at(names, fetches);
     if matches!(status, Status::ReadFault) {
         return missing_advice(alloc, name);
@@ -94,7 +113,9 @@ fn name_at<'a>(names: &Names<'a>, fetches: usize) -> &'a str {
 
 /// What helps against the file that was fetched last, where that is the one at fault. Of certificates the line of the status has the
 /// place, and there is nothing likely to say.
-fn file_advice(alloc: Global, file: File<'_>, status: &Status) -> Result<Vec<u8>, AllocError> {
+fn file_advice(alloc: Global, file: File<'_>, status: &Status) -> Result<Vec<u8>, AllocError>
+    ensures { IfOk result (λ text. StandsApart text.items) }
+{
     match status {
         Status::BadTable(fault) => table_advice(alloc, file, *fault),
         Status::BadSession(fault) => session_advice(alloc, file, fault),

@@ -6,20 +6,20 @@ ghost use Rattle.ror_frame.specs.Courses.{IsWork};
 ghost use Rattle.ror_frame.specs.Printing.{Prints};
 ghost use Rattle.ror_frame.specs.States.{shelf_state, sink_state};
 ghost use Rattle.ror_runs.specs.Runs.{IsRunBy};
+ghost use Rattle.ror_show_advice.specs.Apart.{StandsApart};
 ghost use Rattle.ror_show_words.specs.Words.{asked};
 ghost use Rattle.ror_show_words.specs.Named.{asked_with};
 ghost use Rattle.ror_show_run.specs.Chores.{chore_of, status_line};
-ghost use Rattle.ror_show_run.specs.Saying.{Grows, SaysFirst, wants_help};
+ghost use Rattle.ror_show_run.specs.Saying.{GrowsApart, SaysFirst, wants_help};
 
+use crate::check::check_certificates;
 use crate::helping::help_on;
 use crate::keeping::KeepingShelf;
+use crate::sheet::{SheetFiles, show_sheet};
+use crate::show::show_page;
 use ror_frame::{Status, Stop, write_status};
 use ror_io::{Shelf, Sink, SinkFault, write_all};
 use ror_show_words::{Asked, WordsFault, read_words, usage};
-use ror_work_certificates::{check_certificates, show_certificates};
-use ror_work_pages::show_files;
-use ror_work_reasons::show_reasons;
-use ror_work_sheet::{SheetFiles, show_sheet};
 use std::alloc::Global;
 
 /// Writes the page that the words name, over files, standard output and standard error. Behind the line of a status that says of a
@@ -67,8 +67,9 @@ fn say<E: Sink>(
 
 /// Writes what may help.
 fn write_help<E: Sink>(err: &mut E, helps: &[u8])
+    requires { StandsApart helps.now }
     ensures err_never_falls { E.faults err.old ≤ E.faults err.new }
-    ensures grows { Grows (E.written err.old) (E.written err.new) }
+    ensures grows { GrowsApart (E.written err.old) (E.written err.new) }
 {
     let _ = write_all(err, helps);
 }
@@ -121,7 +122,7 @@ fn work_on<F: Shelf, O: Sink>(
         (sink_state (O.written out.new) (O.faults out.new)) result }
 {
     match asked {
-        Asked::OfReport(page, words) => show_files(alloc, *page, words, shelf, out),
+        Asked::OfReport(page, words) => show_page(alloc, *page, words, shelf, out),
         Asked::OfFiles(words) => {
             let files = SheetFiles {
                 table: words.table,
@@ -130,8 +131,6 @@ fn work_on<F: Shelf, O: Sink>(
             };
             show_sheet(alloc, &files, shelf, out)
         }
-        Asked::OfReasons(words) => show_reasons(alloc, words, shelf, out),
-        Asked::OfCertificates(words) => show_certificates(alloc, words, shelf, out),
         Asked::OfCheck(words) => check_certificates(alloc, words, shelf, out),
     }
 }

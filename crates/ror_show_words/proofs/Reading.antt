@@ -6,25 +6,24 @@ use Rattle.clap.specs.declared.error.kind.ErrorKind.{ErrorKind}
 use Rattle.clap.specs.declared.parser.matches.Found.{Found}
 use Rattle.clap.proofs.OnLiterals.{clap_on_literals}
 use Rattle.clap.proofs.WalkLemmas.{first_value-rows, raw_values-rows}
-use Rattle.ror_show_words.specs.Words.{named_app, page_app, words_of, given_in, reasons_app, reasons_of, reasons_in, check_app, check_words_of, check_in, sheet_app, sheet_words_of, sheet_in}
+use Rattle.ror_show_words.specs.Words.{named_app, single_app, page_app, words_of, given_in, check_app, check_words_of, check_in, sheet_app, sheet_words_of, sheet_in}
 
 pub simple : is_simple page_app ≡ true
-unfolding page_app named_app clap_on_literals
+unfolding page_app single_app named_app clap_on_literals
 simple = refl
 
 pub free : is_simple_and_free page_app ≡ true
-unfolding page_app named_app clap_on_literals
+unfolding page_app single_app named_app clap_on_literals
 free = refl
 
-same_words : (f g : Text → Option Text) → ((id : Text) → f id ≡ g id) → words_of f ≡ words_of g
-same_words f g same =
-    rw (same (codes "TABLE"), same (codes "SESSION"), same (codes "REPORT"), same (codes "best-first"), same (codes "line"), same (codes "desk"), same (codes "as")) refl
+same_words : (f g : Text → Option Text) (fs gs : Text → Option (List Text)) → ((id : Text) → f id ≡ g id) → ((id : Text) → fs id ≡ gs id) → words_of f fs ≡ words_of g gs
+same_words f g fs gs same sames = rw (same (codes "TABLE"), same (codes "SESSION"), same (codes "REPORT"), same (codes "best-first"), same (codes "line"), same (codes "desk"), same (codes "as"), sames (codes "pair")) refl
 
 -- the command takes the words: what is found in them is what they give
-pub taken : (words : List Text) (found : Found) → fault_of page_app words ≡ [] → rows_of found ≡ matches_of page_app words → words_of (first_value found) ≡ given_in words
+pub taken : (words : List Text) (found : Found) → fault_of page_app words ≡ [] → rows_of found ≡ matches_of page_app words → words_of (first_value found) (λ id. option_map raw_values (matched_of found id)) ≡ given_in words
 unfolding given_in
 taken words found none same =
-    rw none (same_words (first_value found) (λ id. first_of id (matches_of page_app words)) (λ id. first_value-rows found id ∙ ap (first_of id) same))
+    rw none (same_words (first_value found) (λ id. first_of id (matches_of page_app words)) (λ id. option_map raw_values (matched_of found id)) (λ id. all_of id (matches_of page_app words)) (λ id. first_value-rows found id ∙ ap (first_of id) same) (λ id. raw_values-rows found id ∙ ap (all_of id) same))
 
 some_kind : (k : ErrorKind) (ks : Kinds) → IsAmong k ks → (length ks == 0) ≡ false
 some_kind k [] among = absurd among
@@ -56,28 +55,6 @@ sheet-taken words found none same =
 pub sheet-refused : (words : List Text) (k : ErrorKind) → IsAmong k (fault_of sheet_app words) → sheet_in words ≡ None
 unfolding sheet_in
 sheet-refused words k among = rw (some_kind k (fault_of sheet_app words) among) refl
-
--- ---- the same of the page of reasons
-
-pub reasons-simple : is_simple reasons_app ≡ true
-unfolding reasons_app page_app named_app clap_on_literals
-reasons-simple = refl
-
-pub reasons-free : is_simple_and_free reasons_app ≡ true
-unfolding reasons_app page_app named_app clap_on_literals
-reasons-free = refl
-
-same_reasons : (f g : Text → Option Text) (fs gs : Text → Option (List Text)) → ((id : Text) → f id ≡ g id) → ((id : Text) → fs id ≡ gs id) → reasons_of f fs ≡ reasons_of g gs
-same_reasons f g fs gs same sames = rw (same (codes "TABLE"), same (codes "SESSION"), same (codes "REPORT"), same (codes "best-first"), same (codes "line"), same (codes "desk"), same (codes "as"), sames (codes "pair")) refl
-
-pub reasons-taken : (words : List Text) (found : Found) → fault_of reasons_app words ≡ [] → rows_of found ≡ matches_of reasons_app words → reasons_of (first_value found) (λ id. option_map raw_values (matched_of found id)) ≡ reasons_in words
-unfolding reasons_in
-reasons-taken words found none same =
-    rw none (same_reasons (first_value found) (λ id. first_of id (matches_of reasons_app words)) (λ id. option_map raw_values (matched_of found id)) (λ id. all_of id (matches_of reasons_app words)) (λ id. first_value-rows found id ∙ ap (first_of id) same) (λ id. raw_values-rows found id ∙ ap (all_of id) same))
-
-pub reasons-refused : (words : List Text) (k : ErrorKind) → IsAmong k (fault_of reasons_app words) → reasons_in words ≡ None
-unfolding reasons_in
-reasons-refused words k among = rw (some_kind k (fault_of reasons_app words) among) refl
 
 -- ---- the same of the check of certificates
 

@@ -1,72 +1,79 @@
--- The table of pages, and the usage line that is made of it.
+-- The table of pages: the one place that says of each its word, of which lines it is, whether it may be of two alternatives, and its
+-- forms. The usage line, which words a page takes, and what they ask for come from it.
 use Rattle.std.specs.Prelude.{ℕ, Bool, true, false, List, [], ◌∷◌, ◌++◌, Option, codes, if◌then◌else◌}
-use Rattle.std.specs.List.{find}
+use Rattle.std.specs.List.{find, flat_map}
 use Rattle.std.specs.Str.{bytes_eq}
-use Rattle.ror_show_words.specs.declared.table.Page.{Page}
-use Rattle.ror_show_words.specs.declared.table.Page.TheVariants.{Relation, Changes, Classes, Standing, Functions}
+use Rattle.ror_show_words.specs.declared.table.Lines.{Lines}
+use Rattle.ror_show_words.specs.declared.table.Lines.TheVariants.{NoLine, ALine, OneLine}
+use Rattle.ror_show_words.specs.declared.table.Page.TheVariants.{Relation, Changes, Classes, Standing, Functions, Reasons}
 use Rattle.ror_show_words.specs.declared.table.Shown.{Shown}
-use Rattle.ror_show_words.specs.declared.table.Shown.TheVariants.{Report, Sheet, Reasons, Check}
+use Rattle.ror_show_words.specs.declared.table.Shown.TheVariants.{Report, Sheet, Check}
 use Rattle.ror_show_words.specs.declared.words.Form.{Form}
-use Rattle.ror_show_words.specs.declared.words.Form.TheVariants.{Text, Csv, Dot}
+use Rattle.ror_show_words.specs.declared.words.Form.TheVariants.{Text, Csv, Dot, Certificates}
 
--- a row of it: what is shown, and the word that asks for it
+-- a row of it
 pub record Row : Type 0 where
   pub shown : Shown
   pub word : List ℕ
+  pub lines : Lines
+  -- it may be of two alternatives
+  pub pair : Bool
+  -- those in which it is written, of which it has the first where none is named
+  pub forms : List Form
 
-abbrev pub row : Shown → List ℕ → Row
-row shown word = record { shown = shown; word = word }
+abbrev pub row : Shown → List ℕ → Lines → Bool → List Form → Row
+row shown word lines pair forms = record { shown = shown; word = word; lines = lines; pair = pair; forms = forms }
 
+-- what is a table is written as values too, and what has arrows as a graph
 abbrev pub table : List Row
-table = row Sheet (codes "read") ∷ row (Report Relation) (codes "relation") ∷ row (Report Changes) (codes "changes")
-    ∷ row (Report Classes) (codes "classes") ∷ row (Report Standing) (codes "standing")
-    ∷ row (Report Functions) (codes "functions") ∷ row Reasons (codes "why") ∷ row Check (codes "check-why") ∷ []
+table = row Sheet (codes "read") NoLine false (Text ∷ [])
+    ∷ row (Report Relation) (codes "relation") ALine false (Text ∷ Csv ∷ Dot ∷ [])
+    ∷ row (Report Changes) (codes "changes") NoLine false (Text ∷ Csv ∷ [])
+    ∷ row (Report Classes) (codes "classes") NoLine false (Text ∷ Csv ∷ [])
+    ∷ row (Report Standing) (codes "standing") ALine false (Text ∷ [])
+    ∷ row (Report Functions) (codes "functions") OneLine false (Text ∷ Csv ∷ [])
+    ∷ row (Report Reasons) (codes "why") ALine true (Text ∷ Certificates ∷ [])
+    ∷ row Check (codes "check-why") NoLine false (Text ∷ [])
+    ∷ []
 
 abbrev pub row_for : List ℕ → Option Row
 row_for word = find (λ row. bytes_eq row.word word) table
 
--- ---- what a page of a report takes
-
--- it may be of one line
-abbrev pub takes_line : Page → Bool
-takes_line Relation = true
-takes_line Changes = false
-takes_line Classes = false
-takes_line Standing = true
-takes_line Functions = true
-
--- it is of one line alone
-abbrev pub needs_line : Page → Bool
-needs_line Functions = true
-needs_line page = false
-
--- the forms in which it is written: what is a table as values too, and what has arrows as a graph
-abbrev pub has_form : Page → Form → Bool
-has_form page Text = true
-has_form Standing Csv = false
-has_form page Csv = true
-has_form Relation Dot = true
-has_form page Dot = false
-
 -- ---- the usage line
 
-abbrev pub line_usage : Page → List ℕ
-line_usage page = if needs_line page then codes " --line N" else if takes_line page then codes " [--line N]" else []
+-- how a form is written
+abbrev pub form_text : Form → List ℕ
+form_text Text = codes "text"
+form_text Csv = codes "csv"
+form_text Dot = codes "dot"
+form_text Certificates = codes "certificates"
 
-abbrev pub form_usage : Page → List ℕ
-form_usage Relation = codes " [--as text|csv|dot]"
-form_usage Standing = []
-form_usage _ = codes " [--as text|csv]"
+-- the names, and the options that all such pages take
+abbrev pub names_usage : Shown → List ℕ
+names_usage Sheet = codes " TABLE [SESSION] [--best-first]"
+names_usage (Report page) = codes " TABLE SESSION REPORT [--best-first] [--desk NAME]"
+names_usage Check = codes " TABLE SESSION REPORT CERTIFICATES [--best-first]"
 
--- the names and options
-abbrev pub shown_usage : Shown → List ℕ
-shown_usage Sheet = codes " TABLE [SESSION] [--best-first]"
-shown_usage Reasons = codes " TABLE SESSION REPORT [--best-first] [--desk NAME] [--line N] [--pair A B] [--as text|certificates]"
-shown_usage Check = codes " TABLE SESSION REPORT CERTIFICATES [--best-first]"
-shown_usage (Report page) = codes " TABLE SESSION REPORT [--best-first] [--desk NAME]" ++ line_usage page ++ form_usage page
+abbrev pub lines_usage : Lines → List ℕ
+lines_usage NoLine = []
+lines_usage ALine = codes " [--line N]"
+lines_usage OneLine = codes " --line N"
+
+abbrev pub pair_usage : Bool → List ℕ
+pair_usage pair = if pair then codes " [--pair A B]" else []
+
+-- a form behind the first
+abbrev pub form_usage : Form → List ℕ
+form_usage form = codes "|" ++ form_text form
+
+abbrev pub forms_usage : List Form → List ℕ
+forms_usage [] = []
+forms_usage (first ∷ []) = []
+forms_usage (first ∷ second ∷ rest) = codes " [--as " ++ form_text first ++ flat_map form_usage (second ∷ rest) ++ codes "]"
 
 abbrev pub row_usage : Row → List ℕ
-row_usage row = codes "ror_show " ++ row.word ++ shown_usage row.shown
+row_usage row = codes "ror_show " ++ row.word ++ names_usage row.shown ++ lines_usage row.lines ++ pair_usage row.pair
+    ++ forms_usage row.forms
 
 -- the pages of the table, with bars between
 abbrev pub rows_usage : List Row → List ℕ

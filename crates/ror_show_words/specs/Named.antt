@@ -5,14 +5,22 @@ use Rattle.ror_show_words.specs.declared.words.Asked as given
 use Rattle.ror_show_words.specs.declared.words.Asked.TheVariants as asked
 use Rattle.ror_show_words.specs.declared.words.PageWords as words
 use Rattle.ror_show_words.specs.declared.words.PairWords as pairs
-use Rattle.ror_show_words.specs.declared.words.ReasonWords as reasons
 use Rattle.ror_show_words.specs.declared.words.CheckWords as checks
 use Rattle.ror_show_words.specs.declared.words.SheetWords as sheets
 use Rattle.ror_show_words.specs.Commands.{Row}
-use Rattle.ror_show_words.specs.Words.{PageWords, PairWords, ReasonWords, CheckWords, SheetWords, Asked, OfReport, OfFiles, OfReasons, OfCertificates, OfCheck}
+use Rattle.ror_show_words.specs.Words.{PageWords, PairWords, CheckWords, SheetWords, Asked, OfReport, OfFiles, OfCheck}
 
 abbrev pub row_with : rows.Row → Row
-row_with row = record { shown = row.shown; word = row.word.now }
+row_with row = record {
+  shown = row.shown;
+  word = row.word.now;
+  lines = row.lines;
+  pair = row.pair;
+  forms = row.forms.now;
+}
+
+abbrev pub pair_words_of : pairs.PairWords → PairWords
+pair_words_of given = record { first = given.first.now; second = given.second.now }
 
 abbrev pub page_words_of : words.PageWords → PageWords
 page_words_of given = record {
@@ -22,14 +30,9 @@ page_words_of given = record {
   best_first = given.best_first;
   line = given.line;
   desk = option_map (λ name. name.now) given.desk;
+  pair = option_map pair_words_of given.pair;
   form = given.form;
 }
-
-abbrev pub pair_words_of : pairs.PairWords → PairWords
-pair_words_of given = record { first = given.first.now; second = given.second.now }
-
-abbrev pub reason_words_of : reasons.ReasonWords → ReasonWords
-reason_words_of given = record { page = page_words_of given.page; pair = option_map pair_words_of given.pair }
 
 abbrev pub check_words_of : checks.CheckWords → CheckWords
 check_words_of given = record {
@@ -50,6 +53,4 @@ sheet_words_of given = record {
 abbrev pub asked_with : given.Asked → Asked
 asked_with (asked.OfReport page words) = OfReport page (page_words_of words)
 asked_with (asked.OfFiles words) = OfFiles (sheet_words_of words)
-asked_with (asked.OfReasons words) = OfReasons (reason_words_of words)
-asked_with (asked.OfCertificates words) = OfCertificates (page_words_of words)
 asked_with (asked.OfCheck words) = OfCheck (check_words_of words)

@@ -1,18 +1,20 @@
 -- The words of a command line. Which words a page takes, and what they give, is what `clap` says of its command.
-use Rattle.std.specs.Prelude.{ℕ, Bool, true, false, ◌&&◌, List, [], ◌∷◌, length, ◌==◌, Option, Some, None, codes, unwrap_or, not, if◌then◌else◌}
+use Rattle.std.specs.Prelude.{ℕ, Bool, true, false, ◌&&◌, List, [], ◌∷◌, length, ◌==◌, Option, Some, None, codes, unwrap_or, if◌then◌else◌}
 use Rattle.std.specs.Option.{option_map, option_and_then, option_map_or}
-use Rattle.std.specs.List.{find}
+use Rattle.std.specs.List.{find, list_any}
 use Rattle.std.specs.Str.{bytes_eq}
 use Rattle.clap.specs.Words.{App, Rule, Text, new_app, new_rule, with_rule, matches_of, fault_of, first_of, all_of}
 use Rattle.clap.specs.Simple.{on_top}
 use Rattle.clap.specs.declared.builder.action.ArgAction.TheVariants.{SetTrue}
 use Rattle.ror_text.specs.Numbers.{count_of}
+use Rattle.ror_show_words.specs.declared.table.Lines.{Lines}
+use Rattle.ror_show_words.specs.declared.table.Lines.TheVariants.{NoLine, ALine, OneLine}
 use Rattle.ror_show_words.specs.declared.table.Page.{Page}
 use Rattle.ror_show_words.specs.declared.words.Form.{Form}
 use Rattle.ror_show_words.specs.declared.words.Form.TheVariants as forms
 use Rattle.ror_show_words.specs.declared.table.Shown.{Shown}
-use Rattle.ror_show_words.specs.declared.table.Shown.TheVariants.{Report, Sheet, Reasons, Check}
-use Rattle.ror_show_words.specs.Commands.{row_for, takes_line, needs_line, has_form}
+use Rattle.ror_show_words.specs.declared.table.Shown.TheVariants.{Report, Sheet, Check}
+use Rattle.ror_show_words.specs.Commands.{Row, row_for, form_text}
 
 -- ---- what a page takes
 
@@ -46,13 +48,13 @@ unfoldable pub named_app : App
 named_app = with_rule (with_rule (with_rule bare_app (name_rule (codes "TABLE"))) (name_rule (codes "SESSION")))
     (name_rule (codes "REPORT"))
 
-unfoldable pub page_app : App
-page_app = with_rule (with_rule (with_rule (with_rule named_app (flag_rule (codes "best-first")))
+unfoldable pub single_app : App
+single_app = with_rule (with_rule (with_rule (with_rule named_app (flag_rule (codes "best-first")))
     (option_rule (codes "line"))) (option_rule (codes "desk"))) (option_rule (codes "as"))
 
--- the page of reasons may be of two alternatives besides
-unfoldable pub reasons_app : App
-reasons_app = with_rule page_app (pair_rule (codes "pair"))
+-- A page of a report has all of them; its row says which it takes.
+unfoldable pub page_app : App
+page_app = with_rule single_app (pair_rule (codes "pair"))
 
 -- the check of certificates has the names of four files
 unfoldable pub check_app : App
@@ -65,8 +67,13 @@ sheet_app = with_rule (with_rule (with_rule bare_app (name_rule (codes "TABLE"))
 
 -- ---- what words give
 
+-- the names of two alternatives
+pub record PairWords : Type 0 where
+  pub first : List ℕ
+  pub second : List ℕ
+
 -- The names of the files; whether the ranks of the table's categories begin with the best one; the line and the desk that are
--- meant, where they are given; and the form.
+-- meant, and the alternatives between which answers are, where they are given; and the form.
 pub record PageWords : Type 0 where
   pub table : List ℕ
   pub session : List ℕ
@@ -74,6 +81,7 @@ pub record PageWords : Type 0 where
   pub best_first : Bool
   pub line : Option ℕ
   pub desk : Option (List ℕ)
+  pub pair : Option PairWords
   pub form : Form
 
 -- the name of the table's file, and that of a session's, where it is given
@@ -81,16 +89,6 @@ pub record SheetWords : Type 0 where
   pub table : List ℕ
   pub session : Option (List ℕ)
   pub best_first : Bool
-
--- the names of two alternatives
-pub record PairWords : Type 0 where
-  pub first : List ℕ
-  pub second : List ℕ
-
--- what a page of a report has, and the alternatives between which answers are meant, where not all are
-pub record ReasonWords : Type 0 where
-  pub page : PageWords
-  pub pair : Option PairWords
 
 -- the names of four files
 pub record CheckWords : Type 0 where
@@ -100,27 +98,19 @@ pub record CheckWords : Type 0 where
   pub certificates : List ℕ
   pub best_first : Bool
 
--- what words ask for: a page of a report, what was read of files, why the answers of a report are what they are, for people or as
--- certificates, or whether certificates are proved
+-- what words ask for: a page of a report, what was read of files, or whether certificates are proved
 pub data Asked : Type 0 where
   OfReport : Page → PageWords → Asked
   OfFiles : SheetWords → Asked
-  OfReasons : ReasonWords → Asked
-  OfCertificates : PageWords → Asked
   OfCheck : CheckWords → Asked
 
 -- the number of a line has 1 to 9 digits, and isn't 0
 abbrev pub line_of : List ℕ → Option ℕ
 line_of word = option_and_then (λ n. if n == 0 then None else Some n) (count_of word)
 
--- how a form is written
-abbrev pub form_text : Form → List ℕ
-form_text forms.Text = codes "text"
-form_text forms.Csv = codes "csv"
-form_text forms.Dot = codes "dot"
-
 abbrev pub form_of : List ℕ → Option Form
-form_of word = find (λ form. bytes_eq word (form_text form)) (forms.Text ∷ forms.Csv ∷ forms.Dot ∷ [])
+form_of word = find (λ form. bytes_eq word (form_text form))
+    (forms.Text ∷ forms.Csv ∷ forms.Dot ∷ forms.Certificates ∷ [])
 
 -- what two words name
 abbrev pub pair_of : List Text → Option PairWords
@@ -135,10 +125,14 @@ if_given read (Some given) = option_map Some (read given)
 abbrev pub is_given : Option (List ℕ) → Bool
 is_given found = option_map_or (λ word. bytes_eq word (codes "true")) found false
 
+-- the two alternatives, where they are given
+abbrev pub pair_in : (Text → Option (List Text)) → Option (Option PairWords)
+pair_in values = if_given pair_of (values (codes "pair"))
+
 -- What is found for each name and option; None where a name isn't, or the value of `--line` is no number of a line, or that of
 -- `--as` no form.
-abbrev pub words_with : (Text → Option Text) → Form → Option PageWords
-words_with found form =
+abbrev pub words_with : (Text → Option Text) → Option PairWords → Form → Option PageWords
+words_with found pair form =
     option_and_then (λ table. option_and_then (λ session. option_and_then (λ report.
     option_map (λ line. record {
       table = table;
@@ -147,12 +141,15 @@ words_with found form =
       best_first = is_given (found (codes "best-first"));
       line = line;
       desk = found (codes "desk");
+      pair = pair;
       form = form;
     }) (if_given line_of (found (codes "line"))))
     (found (codes "REPORT"))) (found (codes "SESSION"))) (found (codes "TABLE"))
 
-abbrev pub words_of : (Text → Option Text) → Option PageWords
-words_of found = option_and_then (λ form. words_with found (unwrap_or form forms.Text)) (if_given form_of (found (codes "as")))
+-- the value of each name and option, and which values `--pair` has
+abbrev pub words_of : (Text → Option Text) → (Text → Option (List Text)) → Option PageWords
+words_of found values = option_and_then (λ form. option_and_then (λ pair. words_with found pair (unwrap_or form forms.Text))
+    (pair_in values)) (if_given form_of (found (codes "as")))
 
 -- the same of the check of certificates
 abbrev pub check_words_of : (Text → Option Text) → Option CheckWords
@@ -176,7 +173,7 @@ sheet_words_of found = option_map (λ table. record {
 -- What stands after the word of a page gives: what is found in it, where the command takes it, which is where it has no fault.
 unfoldable pub given_in : List (List ℕ) → Option PageWords
 given_in words = if length (fault_of page_app words) == 0
-    then words_of (λ id. first_of id (matches_of page_app words)) else None
+    then words_of (λ id. first_of id (matches_of page_app words)) (λ id. all_of id (matches_of page_app words)) else None
 
 unfoldable pub check_in : List (List ℕ) → Option CheckWords
 check_in words = if length (fault_of check_app words) == 0
@@ -186,55 +183,44 @@ unfoldable pub sheet_in : List (List ℕ) → Option SheetWords
 sheet_in words = if length (fault_of sheet_app words) == 0
     then sheet_words_of (λ id. first_of id (matches_of sheet_app words)) else None
 
--- the page may be of this line, or of no one line
-abbrev pub fits_line : Page → Option ℕ → Bool
-fits_line page None = not (needs_line page)
-fits_line page (Some line) = takes_line page
+-- ---- which of them a page takes, by its row
 
--- the same after the word of the page of reasons
-abbrev pub pair_in : (Text → Option (List Text)) → Option (Option PairWords)
-pair_in values = if_given pair_of (values (codes "pair"))
+-- it may be of this line, or of no one line
+abbrev pub fits_line : Lines → Option ℕ → Bool
+fits_line NoLine None = true
+fits_line NoLine (Some line) = false
+fits_line ALine line = true
+fits_line OneLine None = false
+fits_line OneLine (Some line) = true
 
--- the page takes these
-abbrev pub fits : Page → PageWords → Bool
-fits page words = fits_line page words.line && has_form page words.form
+-- certificates are of all that is meant
+abbrev pub takes_pair : Form → Bool
+takes_pair forms.Certificates = false
+takes_pair form = true
 
-abbrev pub of_report : Page → PageWords → Option Asked
-of_report page words = if fits page words then Some (OfReport page words) else None
+abbrev pub fits_pair : Bool → Form → Option PairWords → Bool
+fits_pair takes form None = true
+fits_pair takes form (Some pair) = takes && takes_pair form
 
--- reasons are written for people, or as certificates, and these of all that is meant
-pub data Writing : Type 0 where
-  ForPeople : Writing
-  Certified : Writing
+-- it is written in this form
+abbrev pub is_same : Form → Form → Bool
+is_same form other = bytes_eq (form_text form) (form_text other)
 
-abbrev pub writing_text : Writing → List ℕ
-writing_text ForPeople = codes "text"
-writing_text Certified = codes "certificates"
+abbrev pub has_form : List Form → Form → Bool
+has_form given form = list_any (is_same form) given
 
-abbrev pub writing_of : List ℕ → Option Writing
-writing_of word = find (λ writing. bytes_eq word (writing_text writing)) (ForPeople ∷ Certified ∷ [])
+abbrev pub fits : Row → PageWords → Bool
+fits row words = fits_line row.lines words.line && fits_pair row.pair words.form words.pair && has_form row.forms words.form
 
-abbrev pub of_reasons : PageWords → Option PairWords → Writing → Option Asked
-of_reasons page pair ForPeople = Some (OfReasons (record { page = page; pair = pair }))
-of_reasons page None Certified = Some (OfCertificates page)
-of_reasons page (Some pair) Certified = None
+abbrev pub of_report : Row → Page → PageWords → Option Asked
+of_report row page words = if fits row words then Some (OfReport page words) else None
 
--- what is found for each name and option, and which values
-abbrev pub reasons_of : (Text → Option Text) → (Text → Option (List Text)) → Option Asked
-reasons_of found values = option_and_then (λ page. option_and_then (λ pair. option_and_then (λ writing. of_reasons page pair (unwrap_or writing ForPeople))
-    (if_given writing_of (found (codes "as")))) (pair_in values)) (words_with found forms.Text)
-
-unfoldable pub reasons_in : List (List ℕ) → Option Asked
-reasons_in words = if length (fault_of reasons_app words) == 0
-    then reasons_of (λ id. first_of id (matches_of reasons_app words)) (λ id. all_of id (matches_of reasons_app words)) else None
-
-abbrev pub asked_by : Shown → List (List ℕ) → Option Asked
-asked_by (Report page) words = option_and_then (of_report page) (given_in words)
-asked_by Sheet words = option_map OfFiles (sheet_in words)
-asked_by Reasons words = reasons_in words
-asked_by Check words = option_map OfCheck (check_in words)
+abbrev pub asked_by : Row → Shown → List (List ℕ) → Option Asked
+asked_by row (Report page) words = option_and_then (of_report row page) (given_in words)
+asked_by row Sheet words = option_map OfFiles (sheet_in words)
+asked_by row Check words = option_map OfCheck (check_in words)
 
 -- None of words that ask for nothing
 unfoldable pub asked : List (List ℕ) → Option Asked
 asked [] = None
-asked (word ∷ words) = option_and_then (λ row. asked_by row.shown words) (row_for word)
+asked (word ∷ words) = option_and_then (λ row. asked_by row row.shown words) (row_for word)

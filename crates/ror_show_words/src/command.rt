@@ -2,7 +2,7 @@
 
 ghost use Rattle.std.specs.Prelude.{◌≡◌, IfOk};
 ghost use Rattle.clap.specs.Words.{app_of, with_rule};
-ghost use Rattle.ror_show_words.specs.Words.{name_rule, spare_rule, option_rule, flag_rule, pair_rule, bare_app, named_app, page_app, reasons_app, check_app, sheet_app};
+ghost use Rattle.ror_show_words.specs.Words.{name_rule, spare_rule, option_rule, flag_rule, pair_rule, bare_app, named_app, single_app, page_app, check_app, sheet_app};
 
 use clap::{Arg, ArgAction, Command};
 use std::alloc::{AllocError, Global};
@@ -12,18 +12,18 @@ use std::alloc::{AllocError, Global};
 pub(crate) fn page_command<'a>(alloc: Global) -> Result<Command<'a>, AllocError>
     ensures { IfOk result (λ c. app_of c ≡ page_app) }
 {
+    with_pair(alloc, single_command(alloc)?, "pair")
+}
+
+/// The same, without the option that has two values.
+#[tactic(auto, unfolding(crate::specs::Words::single_app))]
+fn single_command<'a>(alloc: Global) -> Result<Command<'a>, AllocError>
+    ensures { IfOk result (λ c. app_of c ≡ single_app) }
+{
     let command = with_flag(alloc, named_command(alloc)?, "best-first")?;
     let command = with_option(alloc, command, "line")?;
     let command = with_option(alloc, command, "desk")?;
     with_option(alloc, command, "as")
-}
-
-/// The same after the word of the page of reasons, which may be of two alternatives.
-#[tactic(auto, unfolding(crate::specs::Words::reasons_app))]
-pub(crate) fn reasons_command<'a>(alloc: Global) -> Result<Command<'a>, AllocError>
-    ensures { IfOk result (λ c. app_of c ≡ reasons_app) }
-{
-    with_pair(alloc, page_command(alloc)?, "pair")
 }
 
 /// The names and options after the word of the check of certificates.

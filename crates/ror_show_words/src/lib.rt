@@ -1,7 +1,8 @@
 //! The words of a command line: which page they ask for, and of what.
 //!
-//! [`read_words`] gives what words ask for ([`Asked`]), as `clap` reads them: a [`Page`] of a report or the reasons of its answers,
-//! with their [`PageWords`], or the page of what was read with its [`SheetWords`].
+//! [`read_words`] gives what words ask for ([`Asked`]), as `clap` reads them: a [`Page`] of a report with its [`PageWords`], the page of
+//! what was read with its [`SheetWords`], or the check of certificates with its [`CheckWords`]. A table says of each page its word, its
+//! forms, of which lines it is, and whether it may be of two alternatives.
 //!
 //! ```text
 //! relation t s r --as=csv           the page of the relation, of the files t, s and r, as csv
@@ -9,6 +10,7 @@
 //! read t                            what was read of t
 //! relation t s, relation t s r q    Err(Unknown): these words ask for nothing
 //! changes t s r --line 3            the same: what changed is of no one line
+//! relation t s r --pair a b         the same: that page isn't of two alternatives
 //! ```
 #![tactic(auto)]
 
@@ -18,5 +20,5 @@ mod words;
 
 pub use table::{Page, usage};
 pub use words::{
-    Asked, CheckWords, Form, PageWords, PairWords, ReasonWords, SheetWords, WordsFault, read_words,
+    Asked, CheckWords, Form, PageWords, PairWords, SheetWords, WordsFault, read_words,
 };

@@ -7,6 +7,8 @@ ghost use Rattle.std.specs.Str.{bytes_eq};
 ghost use Rattle.ror_show_words.specs.Commands.{row_for, usage_text};
 ghost use Rattle.ror_show_words.specs.Named.{row_with};
 
+use crate::words::Form;
+
 /// What is shown of a report.
 #[derive(Clone, Copy, Debug, PartialEq, Eq)]
 pub enum Page {
@@ -20,6 +22,8 @@ pub enum Page {
     Standing,
     /// The value functions that stand in the answers to one line.
     Functions,
+    /// Why the answers are what they are, and why repairs dropped what they did.
+    Reasons,
 }
 
 /// What is shown.
@@ -29,52 +33,90 @@ pub(crate) enum Shown {
     Report(Page),
     /// What was read of a table, and of a session.
     Sheet,
-    /// Why the answers of a report are what they are.
-    Reasons,
-    /// Whether certificates of that are proved.
+    /// Whether certificates of reasons are proved.
     Check,
 }
 
-/// A row of the table of pages.
+/// Of which lines of the session a page may be.
 #[derive(Clone, Copy, Debug)]
+pub(crate) enum Lines {
+    /// It is of no one line.
+    NoLine,
+    /// Of all, or of the one that is named.
+    ALine,
+    /// Of the one that is named.
+    OneLine,
+}
+
+/// A row of the table of pages.
+#[derive(Clone, Copy)]
 pub(crate) struct Row {
     pub(crate) shown: Shown,
     /// The word that asks for it.
     pub(crate) word: &'static str,
+    pub(crate) lines: Lines,
+    /// Whether it may be of two alternatives.
+    pub(crate) pair: bool,
+    /// Its forms, of which it has the first where none is named.
+    pub(crate) forms: &'static [Form],
 }
 
 const TABLE: [Row; 8] = [
     Row {
         shown: Shown::Sheet,
         word: "read",
+        lines: Lines::NoLine,
+        pair: false,
+        forms: &[Form::Text],
     },
     Row {
         shown: Shown::Report(Page::Relation),
         word: "relation",
+        lines: Lines::ALine,
+        pair: false,
+        forms: &[Form::Text, Form::Csv, Form::Dot],
     },
     Row {
         shown: Shown::Report(Page::Changes),
         word: "changes",
+        lines: Lines::NoLine,
+        pair: false,
+        forms: &[Form::Text, Form::Csv],
     },
     Row {
         shown: Shown::Report(Page::Classes),
         word: "classes",
+        lines: Lines::NoLine,
+        pair: false,
+        forms: &[Form::Text, Form::Csv],
     },
     Row {
         shown: Shown::Report(Page::Standing),
         word: "standing",
+        lines: Lines::ALine,
+        pair: false,
+        forms: &[Form::Text],
     },
     Row {
         shown: Shown::Report(Page::Functions),
         word: "functions",
+        lines: Lines::OneLine,
+        pair: false,
+        forms: &[Form::Text, Form::Csv],
     },
     Row {
-        shown: Shown::Reasons,
+        shown: Shown::Report(Page::Reasons),
         word: "why",
+        lines: Lines::ALine,
+        pair: true,
+        forms: &[Form::Text, Form::Certificates],
     },
     Row {
         shown: Shown::Check,
         word: "check-why",
+        lines: Lines::NoLine,
+        pair: false,
+        forms: &[Form::Text],
     },
 ];
 

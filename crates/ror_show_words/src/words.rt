@@ -1,20 +1,20 @@
 //! The words of a command line, and what they ask for.
 
-ghost use Rattle.std.specs.Prelude.{◌≡◌, ◌≢◌, MatchResult, Some, None, map, unwrap_or, if◌then◌else◌};
+ghost use Rattle.std.specs.Prelude.{◌≡◌, ◌≢◌, MatchResult, Some, None, map};
 ghost use Rattle.std.specs.Option.{option_map};
 ghost use Rattle.std.specs.String.{string_bytes};
 ghost use Rattle.clap.specs.declared.error.kind.ErrorKind.TheVariants.{OutOfMemory};
 ghost use Rattle.clap.specs.Words.{found_of, first_value, matched_of, raw_values, kind_of};
-ghost use Rattle.ror_show_words.specs.declared.table.Shown.TheVariants.{Report, Reasons};
-ghost use Rattle.ror_show_words.specs.Commands.{has_form};
+ghost use Rattle.ror_show_words.specs.declared.table.Shown.TheVariants.{Report};
+ghost use Rattle.ror_show_words.specs.Commands as commands;
 ghost use Rattle.ror_show_words.specs.Words as spec;
-ghost use Rattle.ror_show_words.specs.Words.{line_of, form_of, if_given, words_of, given_in, sheet_in, ForPeople, Certified, fits_line, fits, reasons_of, reasons_in, check_in, asked_by, asked};
+ghost use Rattle.ror_show_words.specs.Words.{line_of, form_of, if_given, words_of, given_in, sheet_in, fits, check_in, asked_by, asked};
 ghost use Rattle.ror_show_words.specs.Named as named;
-ghost use Rattle.ror_show_words.specs.Named.{page_words_of, asked_with};
+ghost use Rattle.ror_show_words.specs.Named.{row_with, page_words_of, asked_with};
 ghost use Rattle.ror_show_words.specs.declared.words.WordsFault.TheVariants.{Unknown};
 
-use crate::command::{check_command, page_command, reasons_command, sheet_command};
-use crate::table::{Page, Shown, row_for};
+use crate::command::{check_command, page_command, sheet_command};
+use crate::table::{Lines, Page, Row, Shown, row_for};
 use clap::error::ErrorKind;
 use clap::{ArgMatches, Error};
 use ror_text::numbers::read_count;
@@ -30,9 +30,18 @@ pub enum Form {
     Csv,
     /// For the programs that draw graphs.
     Dot,
+    /// For a check of it.
+    Certificates,
 }
 
-/// The names and options of a page.
+/// The names of two alternatives.
+#[derive(Clone, Copy, Debug)]
+pub struct PairWords<'a> {
+    pub first: &'a str,
+    pub second: &'a str,
+}
+
+/// The names and options of a page of a report: all that such pages take. The table says which of them its page does.
 #[derive(Debug, Drop)]
 pub struct PageWords<'a> {
     /// The file with the table.
@@ -47,24 +56,10 @@ pub struct PageWords<'a> {
     pub line: Option<u32>,
     /// The desk that is meant, by its name.
     pub desk: Option<&'a str>,
-    /// The form, which is text where none is given.
-    pub form: Form,
-}
-
-/// The names of two alternatives.
-#[derive(Clone, Copy, Debug)]
-pub struct PairWords<'a> {
-    pub first: &'a str,
-    pub second: &'a str,
-}
-
-/// The names and options of the page of reasons.
-#[derive(Debug, Drop)]
-pub struct ReasonWords<'a> {
-    /// Those that it has as any page of a report; the form is text.
-    pub page: PageWords<'a>,
     /// The alternatives between which answers are meant, where not all are.
     pub pair: Option<PairWords<'a>>,
+    /// The form, which is text where none is given.
+    pub form: Form,
 }
 
 /// The names of the check of certificates.
@@ -100,10 +95,6 @@ pub enum Asked<'a> {
     OfReport(Page, PageWords<'a>),
     /// What was read of files.
     OfFiles(SheetWords<'a>),
-    /// Why the answers of a report are what they are.
-    OfReasons(ReasonWords<'a>),
-    /// The same as certificates; the form is text.
-    OfCertificates(PageWords<'a>),
     /// Whether certificates are proved.
     OfCheck(CheckWords<'a>),
 }
@@ -144,77 +135,80 @@ pub fn read_words(alloc: Global, words: &[String]) -> Result<Asked<'_>, WordsFau
         return Err(WordsFault::Unknown);
     };
     match row.shown {
-        Shown::Report(page) => report_asked(alloc, page, rest),
+        Shown::Report(page) => report_asked(alloc, &row, page, rest),
         Shown::Sheet => Ok(Asked::OfFiles(sheet_words(alloc, rest)?)),
-        Shown::Reasons => reasons_asked(alloc, rest),
         Shown::Check => Ok(Asked::OfCheck(check_words(alloc, rest)?)),
     }
 }
 
-/// What the words after that of a page of a report ask for.
-fn report_asked(alloc: Global, page: Page, words: &[String]) -> Result<Asked<'_>, WordsFault>
-    ensures { MatchResult result (λ a. asked_by (Report page) (map string_bytes words.now) ≡ Some (asked_with a))
-        (λ e. e ≡ Unknown → asked_by (Report page) (map string_bytes words.now) ≡ None) }
+/// What the words after that of a page of a report ask for, whose row this is.
+fn report_asked<'w>(
+    alloc: Global,
+    row: &Row,
+    page: Page,
+    words: &'w [String],
+) -> Result<Asked<'w>, WordsFault>
+    ensures { MatchResult result (λ a. asked_by (row_with row.now) (Report page) (map string_bytes words.now) ≡ Some (asked_with a))
+        (λ e. e ≡ Unknown → asked_by (row_with row.now) (Report page) (map string_bytes words.now) ≡ None) }
 {
     let words = page_words(alloc, words)?;
-    if !fits(page, &words) {
+    if !fits(row, &words) {
         return Err(WordsFault::Unknown);
     }
     Ok(Asked::OfReport(page, words))
 }
 
-/// What the words after that of the page of reasons ask for.
-#[tactic(auto, unfolding(crate::specs::Words::reasons_in))]
-fn reasons_asked(alloc: Global, words: &[String]) -> Result<Asked<'_>, WordsFault>
-    ensures { MatchResult result (λ a. reasons_in (map string_bytes words.now) ≡ Some (asked_with a))
-        (λ e. e ≡ Unknown → reasons_in (map string_bytes words.now) ≡ None) }
+/// Whether the page of this row takes these.
+fn fits(row: &Row, words: &PageWords<'_>) -> bool
+    ensures { result ≡ fits (row_with row.now) (page_words_of words.now) }
 {
-    match reasons_command(alloc)?.try_get_matches_from(words) {
-        Ok(matches) => reasons_found(&matches).ok_or(WordsFault::Unknown),
-        Err(error) => Err(fault_with(&error)),
+    fits_line(row.lines, words.line)
+        && fits_pair(row.pair, words.form, &words.pair)
+        && has_form(row.forms, words.form)
+}
+
+/// Whether the page may be of this line, or of no one line.
+fn fits_line(lines: Lines, line: Option<u32>) -> bool
+    ensures { result ≡ spec.fits_line lines line }
+{
+    match line {
+        Some(_) => !matches!(lines, Lines::NoLine),
+        None => !matches!(lines, Lines::OneLine),
     }
 }
 
-/// What was found.
-fn reasons_found<'w>(matches: &ArgMatches<'w>) -> Option<Asked<'w>>
-    ensures { option_map asked_with result ≡ reasons_of (first_value (found_of matches.now))
-        (λ id. option_map raw_values (matched_of (found_of matches.now) id)) }
+/// Whether the page may be of these two alternatives in this form, or of no two.
+fn fits_pair(takes: bool, form: Form, pair: &Option<PairWords<'_>>) -> bool
+    ensures { result ≡ spec.fits_pair takes form (option_map named.pair_words_of pair.now) }
 {
-    let page = words_with(matches, Form::Text)?;
-    let pair = pair_found(matches)?;
-    let is_certified = is_certified(matches.get_str("as"))?;
-    reasons_with(page, pair, is_certified)
-}
-
-fn reasons_with<'w>(
-    page: PageWords<'w>,
-    pair: Option<PairWords<'w>>,
-    is_certified: bool,
-) -> Option<Asked<'w>>
-    ensures { option_map asked_with result ≡ spec.of_reasons (page_words_of page.entry)
-        (option_map named.pair_words_of pair.entry) (if is_certified then Certified else ForPeople) }
-{
-    match (pair, is_certified) {
-        (pair, false) => Some(Asked::OfReasons(ReasonWords { page, pair })),
-        (None, true) => Some(Asked::OfCertificates(page)),
-        (Some(_), true) => None,
+    match pair {
+        Some(_) => takes && !matches!(form, Form::Certificates),
+        None => true,
     }
 }
 
-/// Whether reasons are written as certificates; `None` where the word is that of no form in which they are.
-fn is_certified(word: Option<&str>) -> Option<bool>
-    ensures { option_map (λ certified. if certified then Certified else ForPeople) result
-        ≡ option_map (λ writing. unwrap_or writing ForPeople) (if_given spec.writing_of (option_map (λ w. w.now) word.entry)) }
+/// Whether the form is one of these.
+fn has_form(forms: &[Form], form: Form) -> bool
+    ensures { result ≡ spec.has_form forms.now form }
 {
-    let Some(word) = word else {
-        return Some(false);
-    };
-    if word == "text" {
-        Some(false)
-    } else if word == "certificates" {
-        Some(true)
-    } else {
-        None
+    forms.iter().any(|other| is_same(form, *other))
+}
+
+fn is_same(form: Form, other: Form) -> bool
+    ensures { result ≡ spec.is_same form other }
+{
+    form_word(form) == form_word(other)
+}
+
+/// How a form is written.
+fn form_word(form: Form) -> &'static str
+    ensures { result.now ≡ commands.form_text form }
+{
+    match form {
+        Form::Text => "text",
+        Form::Csv => "csv",
+        Form::Dot => "dot",
+        Form::Certificates => "certificates",
     }
 }
 
@@ -235,34 +229,6 @@ fn pair_of<'w>(words: &[&'w str]) -> Option<PairWords<'w>>
     match words {
         [first, second] => Some(PairWords { first, second }),
         _ => None,
-    }
-}
-
-/// Whether the page takes these.
-fn fits(page: Page, words: &PageWords<'_>) -> bool
-    ensures { result ≡ fits page (page_words_of words.now) }
-{
-    fits_line(page, words.line) && has_form(page, words.form)
-}
-
-/// Whether the page may be of this line, or of no one line.
-fn fits_line(page: Page, line: Option<u32>) -> bool
-    ensures { result ≡ fits_line page line }
-{
-    match line {
-        Some(_) => !matches!(page, Page::Changes | Page::Classes),
-        None => !matches!(page, Page::Functions),
-    }
-}
-
-/// Whether the page is written in this form.
-fn has_form(page: Page, form: Form) -> bool
-    ensures { result ≡ has_form page form }
-{
-    match form {
-        Form::Text => true,
-        Form::Csv => !matches!(page, Page::Standing),
-        Form::Dot => matches!(page, Page::Relation),
     }
 }
 
@@ -328,15 +294,22 @@ fn page_words(alloc: Global, words: &[String]) -> Result<PageWords<'_>, WordsFau
 
 /// What was found.
 fn words_found<'w>(matches: &ArgMatches<'w>) -> Option<PageWords<'w>>
-    ensures { option_map page_words_of result ≡ words_of (first_value (found_of matches.now)) }
+    ensures { option_map page_words_of result ≡ words_of (first_value (found_of matches.now))
+        (λ id. option_map raw_values (matched_of (found_of matches.now) id)) }
 {
     let form = form_given(matches.get_str("as"))?;
-    words_with(matches, form.unwrap_or(Form::Text))
+    let pair = pair_found(matches)?;
+    words_with(matches, pair, form.unwrap_or(Form::Text))
 }
 
-/// What was found, in this form.
-fn words_with<'w>(matches: &ArgMatches<'w>, form: Form) -> Option<PageWords<'w>>
-    ensures { option_map page_words_of result ≡ spec.words_with (first_value (found_of matches.now)) form }
+/// What was found, between these alternatives and in this form.
+fn words_with<'w>(
+    matches: &ArgMatches<'w>,
+    pair: Option<PairWords<'w>>,
+    form: Form,
+) -> Option<PageWords<'w>>
+    ensures { option_map page_words_of result ≡ spec.words_with (first_value (found_of matches.now))
+        (option_map named.pair_words_of pair.entry) form }
 {
     Some(PageWords {
         table: matches.get_str("TABLE")?,
@@ -345,6 +318,7 @@ fn words_with<'w>(matches: &ArgMatches<'w>, form: Form) -> Option<PageWords<'w>>
         best_first: matches.get_str("best-first") == Some("true"),
         line: line_given(matches.get_str("line"))?,
         desk: matches.get_str("desk"),
+        pair,
         form,
     })
 }
@@ -393,6 +367,8 @@ fn form_of(word: &str) -> Option<Form>
         Some(Form::Csv)
     } else if word == "dot" {
         Some(Form::Dot)
+    } else if word == "certificates" {
+        Some(Form::Certificates)
     } else {
         None
     }

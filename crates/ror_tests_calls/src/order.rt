@@ -2,7 +2,7 @@
 
 ghost use Rattle.std.specs.Prelude.{◌≤◌, length, IfSome};
 
-use ror_order::{Relation, levels};
+use ror_show_find_relation::{Relation, levels};
 use ror_text::Items;
 use std::alloc::Global;
 use std::test::Fail;

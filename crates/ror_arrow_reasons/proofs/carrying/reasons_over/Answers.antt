@@ -1,8 +1,0 @@
-use Rattle.std.proofs.lemmas.Result.{IfOk-weaker}
-use Rattle.ror_arrow_reasons.proofs.carrying.reasons_over.Goals as goal
-
-pub returns : goal.returns
-returns c =
-    IfOk-weaker c.alone.result _ _
-    (λ reasons h. (c.in_ok-reason.reason, c.in_ok-reason.ensures, h))
-    c.alone.ensures

@@ -1,4 +1,0 @@
-pub mod Carrying
-pub mod Text
-pub mod Section
-pub mod Laws

@@ -1,6 +1,0 @@
-pub mod Convex
-pub mod OneSide
-pub mod Within
-pub mod Settled
-pub mod Named
-pub mod Lines

@@ -1,5 +1,0 @@
-pub mod Text
-pub mod Bounds
-pub mod Section
-pub mod Page
-pub mod Laws

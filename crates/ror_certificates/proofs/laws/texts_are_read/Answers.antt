@@ -1,5 +1,0 @@
-use Rattle.ror_certificates.proofs.ListTexts.{texts_are_read}
-use Rattle.ror_certificates.proofs.laws.texts_are_read.Goals as goal
-
-pub returns : goal.returns
-returns c = texts_are_read

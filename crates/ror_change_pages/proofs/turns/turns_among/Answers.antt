@@ -1,8 +1,0 @@
--- That of one line more.
-use Rattle.std.proofs.Common.{[]}
-use Rattle.ror_change_pages.specs.Turns.{turn_of}
-use Rattle.ror_order.proofs.Tests.{pieces_more}
-use Rattle.ror_change_pages.proofs.turns.turns_among.Goals as goal
-
-pub loop-n-preserved : goal.loop-n-preserved
-loop-n-preserved c = pieces_more (turn_of c.args.session.now c.args.kept.now) c.loop-n.n [] c.loop-n.made.items c.push_turn_of.new.made.items c.loop-n.invariant c.in_ok-push_turn_of.ensures

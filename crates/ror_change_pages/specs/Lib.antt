@@ -1,4 +1,0 @@
-pub mod Turns
-pub mod Text
-pub mod Csv
-pub mod Laws

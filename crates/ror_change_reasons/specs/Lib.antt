@@ -1,3 +1,0 @@
-pub mod Section
-pub mod Page
-pub mod Laws

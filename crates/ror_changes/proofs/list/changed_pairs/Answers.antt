@@ -1,8 +1,0 @@
--- The pairs from one alternative more.
-use Rattle.std.proofs.Common.{[]}
-use Rattle.ror_changes.specs.Changes.{pairs_from}
-use Rattle.ror_order.proofs.Tests.{pieces_more}
-use Rattle.ror_changes.proofs.list.changed_pairs.Goals as goal
-
-pub loop-a-preserved : goal.loop-a-preserved
-loop-a-preserved c = pieces_more (pairs_from c.args.before.now c.args.now.now c.args.change _) c.loop-a.a [] c.loop-a.made.items c.push_from.new.made.items c.loop-a.invariant c.in_ok-push_from.ensures

@@ -1,7 +1,0 @@
-use Rattle.std.proofs.Common.{◌≡◌}
-use Rattle.std.specs.List.{flat_map, range_with_len}
-use Rattle.ror_changes.specs.Changes.{pairs_from}
-use Rattle.ror_changes.proofs.list.changed_pairs.Given as goal
-
-abbrev pub invariant-loop-a : goal.invariant-loop-a
-invariant-loop-a l = l.made.items ≡ flat_map (pairs_from l.before l.now l.change l.size) (range_with_len 0 l.a)

@@ -1,7 +1,0 @@
--- One pair more.
-use Rattle.ror_order.proofs.Tests.{pieces_more}
-use Rattle.ror_changes.specs.Changes.{pair_of}
-use Rattle.ror_changes.proofs.list.push_from.Goals as goal
-
-pub loop-b-preserved : goal.loop-b-preserved
-loop-b-preserved c = pieces_more (pair_of c.args.before.now c.args.now.now c.args.change c.args.a) c.loop-b.b c.args.made.now.items c.loop-b.made.items c.push_pair.new.made.items c.loop-b.invariant c.in_ok-push_pair.ensures

@@ -1,8 +1,0 @@
--- That of one time more.
-use Rattle.std.proofs.Common.{[]}
-use Rattle.ror_class_changes.specs.Turns.{turn_of}
-use Rattle.ror_order.proofs.Tests.{pieces_more}
-use Rattle.ror_class_changes.proofs.turns.turns_among.Goals as goal
-
-pub loop-place-preserved : goal.loop-place-preserved
-loop-place-preserved c = pieces_more (turn_of c.args.times.now) c.loop-place.place [] c.loop-place.made.items c.push_turn_of.new.made.items c.loop-place.invariant c.in_ok-push_turn_of.ensures

@@ -1,4 +1,0 @@
-pub mod Changes
-pub mod Turns
-pub mod Text
-pub mod Laws

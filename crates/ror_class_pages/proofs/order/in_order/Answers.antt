@@ -1,8 +1,0 @@
--- One alternative more.
-use Rattle.std.proofs.Common.{[]}
-use Rattle.ror_class_pages.specs.Rows.{places_of}
-use Rattle.ror_order.proofs.Tests.{pieces_more}
-use Rattle.ror_class_pages.proofs.order.in_order.Goals as goal
-
-pub loop-a-preserved : goal.loop-a-preserved
-loop-a-preserved c = pieces_more (places_of c.args.kept.now c.args.places.now) c.loop-a.a [] c.loop-a.made.items c.push_of.new.made.items c.loop-a.invariant c.in_ok-push_of.ensures

@@ -1,7 +1,0 @@
-use Rattle.std.proofs.Common.{◌≡◌, ◌++◌}
-use Rattle.std.specs.List.{flat_map, range_with_len}
-use Rattle.ror_class_pages.specs.Text.{cell_text}
-use Rattle.ror_class_pages.proofs.table.write_cells.Given as goal
-
-abbrev pub invariant-loop-h : goal.invariant-loop-h
-invariant-loop-h l = l.text.items ≡ l.fn.text.items ++ flat_map (cell_text l.line l.part) (range_with_len 0 l.h)

@@ -1,7 +1,0 @@
-use Rattle.std.proofs.Common.{◌≡◌, ◌++◌}
-use Rattle.std.specs.List.{flat_map, range_with_len}
-use Rattle.ror_class_pages.specs.Text.{part_text_at}
-use Rattle.ror_class_pages.proofs.table.write_matrix.Given as goal
-
-abbrev pub invariant-loop-place : goal.invariant-loop-place
-invariant-loop-place l = l.text.items ≡ l.fn.text.items ++ flat_map (part_text_at l.table l.kept l.places l.width) (range_with_len 0 l.place)

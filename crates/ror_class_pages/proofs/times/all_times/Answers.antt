@@ -1,8 +1,0 @@
--- One more.
-use Rattle.std.proofs.Common.{[]}
-use Rattle.ror_class_pages.specs.Times.{if_begins}
-use Rattle.ror_order.proofs.Tests.{pieces_more}
-use Rattle.ror_class_pages.proofs.times.all_times.Goals as goal
-
-pub loop-n-preserved : goal.loop-n-preserved
-loop-n-preserved c = pieces_more (if_begins c.args.session.now c.args.kept.now) c.loop-n.n [] c.loop-n.made.items c.push_time.new.made.items c.loop-n.invariant c.in_ok-push_time.ensures

@@ -1,7 +1,0 @@
-use Rattle.std.proofs.Common.{◌≡◌}
-use Rattle.std.specs.List.{flat_map, range_with_len}
-use Rattle.ror_class_pages.specs.Times.{if_begins}
-use Rattle.ror_class_pages.proofs.times.all_times.Given as goal
-
-abbrev pub invariant-loop-n : goal.invariant-loop-n
-invariant-loop-n l = l.made.items ≡ flat_map (if_begins l.session l.kept) (range_with_len 0 l.n)

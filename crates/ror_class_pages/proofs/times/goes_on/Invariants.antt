@@ -1,9 +1,0 @@
-use Rattle.std.proofs.Common.{◌≡◌}
-use Rattle.ror_class_pages.specs.Times.{answers_at, revises_at, goes_on}
-use Rattle.ror_class_pages.proofs.times.goes_on.Given as goal
-
-abbrev pub invariant-places : goal.invariant-places
-invariant-places l = goes_on (answers_at l.session l.kept l.desk) (revises_at l.session l.kept l.desk) l.end ≡ goes_on (answers_at l.session l.kept l.desk) (revises_at l.session l.kept l.desk) l.place
-
-abbrev pub decreases-places : goal.decreases-places
-decreases-places l = l.place

@@ -1,7 +1,0 @@
-use Rattle.std.proofs.Common.{◌≡◌, take}
-use Rattle.std.specs.List.{flat_map}
-use Rattle.ror_class_pages.specs.Values.{time_at}
-use Rattle.ror_class_pages.proofs.value.times_at.Given as goal
-
-abbrev pub invariant-starts : goal.invariant-starts
-invariant-starts l = l.made.items ≡ flat_map (time_at l.table l.session l.kept) (take l.place-index l.starts)

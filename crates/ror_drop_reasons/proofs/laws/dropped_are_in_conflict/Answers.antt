@@ -1,5 +1,0 @@
-use Rattle.ror_drop_reasons.proofs.Conflicts.{dropped_are_in_conflict}
-use Rattle.ror_drop_reasons.proofs.laws.dropped_are_in_conflict.Goals as goal
-
-pub returns : goal.returns
-returns c = dropped_are_in_conflict

@@ -1,3 +1,0 @@
-pub mod Clash
-pub mod Drops
-pub mod Laws

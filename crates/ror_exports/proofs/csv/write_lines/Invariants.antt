@@ -1,8 +1,0 @@
-use Rattle.std.proofs.Common.{◌≡◌, ◌++◌}
-use Rattle.std.specs.List.{flat_map, range_with_len}
-use Rattle.ror_pages.specs.Heads.{head_of}
-use Rattle.ror_exports.specs.Csv.{csv_line}
-use Rattle.ror_exports.proofs.csv.write_lines.Given as goal
-
-abbrev pub invariant-loop-b : goal.invariant-loop-b
-invariant-loop-b l = l.text.items ≡ l.fn.text.items ++ flat_map (csv_line l.table (head_of l.heading) l.rows l.fn.a) (range_with_len 0 l.b)

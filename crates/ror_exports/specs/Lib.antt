@@ -1,3 +1,0 @@
-pub mod Csv
-pub mod Dot
-pub mod Laws

@@ -1,7 +1,0 @@
-use Rattle.std.proofs.Common.{◌≡◌, ◌++◌, take}
-use Rattle.std.specs.List.{flat_map}
-use Rattle.ror_function_pages.specs.Pages.{csv_section}
-use Rattle.ror_function_pages.proofs.page.write_line_functions_csv.Given as goal
-
-abbrev pub invariant-kept : goal.invariant-kept
-invariant-kept l = l.text.items ≡ l.initial.text.items ++ flat_map (csv_section l.table l.session) (take l.line-index l.kept)

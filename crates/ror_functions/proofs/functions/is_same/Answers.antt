@@ -1,5 +1,0 @@
-use Rattle.ror_functions.proofs.Accepted.{is_same_numbers}
-use Rattle.ror_functions.proofs.functions.is_same.Goals as goal
-
-pub returns : goal.returns
-returns c = is_same_numbers c.args.numbers.now c.args.steps.now c.is_same.result c.is_same.ensures

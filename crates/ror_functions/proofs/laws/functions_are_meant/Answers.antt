@@ -1,5 +1,0 @@
-use Rattle.ror_functions.proofs.MeaningProofs.{functions_are_meant}
-use Rattle.ror_functions.proofs.laws.functions_are_meant.Goals as goal
-
-pub returns : goal.returns
-returns c = functions_are_meant

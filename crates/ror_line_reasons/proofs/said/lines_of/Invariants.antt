@@ -1,6 +1,0 @@
-use Rattle.std.proofs.Common.{◌≡◌, map, take}
-use Rattle.ror_line_reasons.specs.Said.{said_by}
-use Rattle.ror_line_reasons.proofs.said.lines_of.Given as goal
-
-abbrev pub invariant-loop-entry : goal.invariant-loop-entry
-invariant-loop-entry l = l.said.items ≡ map (λ e. said_by l.lines e.said) (take l.entry-index l.entries)

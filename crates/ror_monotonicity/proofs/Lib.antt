@@ -1,3 +1,0 @@
-pub mod SpanLemmas
-pub mod Sufficing
-pub mod Systems

@@ -1,5 +1,0 @@
-use Rattle.ror_monotonicity.proofs.Sufficing.{used_are_below}
-use Rattle.ror_monotonicity.proofs.laws.used_are_below.Goals as goal
-
-pub returns : goal.returns
-returns c = used_are_below

@@ -1,4 +1,0 @@
-pub mod Sums
-pub mod Spans
-pub mod Text
-pub mod Laws

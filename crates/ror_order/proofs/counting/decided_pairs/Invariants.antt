@@ -1,6 +1,0 @@
-use Rattle.std.proofs.Common.{◌≡◌, ◌*◌, ◌≤◌}
-use Rattle.ror_order.specs.Relations.{decided_among}
-use Rattle.ror_order.proofs.counting.decided_pairs.Given as goal
-
-abbrev pub invariant-loop-a : goal.invariant-loop-a
-invariant-loop-a l = record { counted : l.count ≡ decided_among l.relation l.a; few : l.count ≤ 200 * l.a }

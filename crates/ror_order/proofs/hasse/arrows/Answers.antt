@@ -1,8 +1,0 @@
--- The arrows from one alternative more.
-use Rattle.std.proofs.Common.{[]}
-use Rattle.ror_order.specs.Arrows.{arrows_from}
-use Rattle.ror_order.proofs.Tests.{pieces_more}
-use Rattle.ror_order.proofs.hasse.arrows.Goals as goal
-
-pub loop-a-preserved : goal.loop-a-preserved
-loop-a-preserved c = pieces_more (arrows_from c.args.relation.now) c.loop-a.a [] c.loop-a.made.items c.push_from.new.made.items c.loop-a.invariant c.in_ok-push_from.ensures

@@ -1,9 +1,0 @@
-use Rattle.std.proofs.Common.{◌+◌, ◌≤◌, length}
-use Rattle.ror_order.proofs.Passing.{Upto, left}
-use Rattle.ror_order.proofs.level.levels.Given as goal
-
-abbrev pub invariant-loop-before : goal.invariant-loop-before
-invariant-loop-before l = record {
-  found : Upto l.relation l.found.items l.before;
-  room : left l.found.items + l.before ≤ length l.relation;
-}

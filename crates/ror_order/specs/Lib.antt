@@ -1,5 +1,0 @@
-pub mod Relations
-pub mod Arrows
-pub mod Levels
-pub mod Laws
-pub mod Passes

@@ -1,8 +1,0 @@
-pub mod SaidLemmas
-pub mod CellLemmas
-pub mod OneCell
-pub mod DominanceLemmas
-pub mod Mirror
-pub mod Known
-pub mod CountLemmas
-pub mod Pieces

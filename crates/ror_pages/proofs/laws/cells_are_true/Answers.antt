@@ -1,5 +1,0 @@
-use Rattle.ror_pages.proofs.CellLemmas.{cells-true}
-use Rattle.ror_pages.proofs.laws.cells_are_true.Goals as goal
-
-pub returns : goal.returns
-returns c t list xs n a b all = cells-true t list xs n a b all

@@ -1,6 +1,0 @@
-use Rattle.std.proofs.Common.{◌≡◌, ◌++◌}
-use Rattle.ror_pages.specs.Layout.{spaces}
-use Rattle.ror_pages.proofs.layout.write_spaces.Given as goal
-
-abbrev pub invariant-loop : goal.invariant-loop
-invariant-loop l = l.text.items ≡ l.fn.text.items ++ spaces l.counter

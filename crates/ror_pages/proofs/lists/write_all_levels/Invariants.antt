@@ -1,7 +1,0 @@
-use Rattle.std.proofs.Common.{◌≡◌, ◌++◌}
-use Rattle.std.specs.List.{flat_map, range_with_len}
-use Rattle.ror_pages.specs.Text.{some_level_text}
-use Rattle.ror_pages.proofs.lists.write_all_levels.Given as goal
-
-abbrev pub invariant-loop-k : goal.invariant-loop-k
-invariant-loop-k l = l.text.items ≡ l.fn.text.items ++ flat_map (some_level_text l.table l.levels) (range_with_len 0 l.k)

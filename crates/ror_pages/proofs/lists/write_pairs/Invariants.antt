@@ -1,7 +1,0 @@
-use Rattle.std.proofs.Common.{◌≡◌, ◌++◌}
-use Rattle.std.specs.List.{flat_map, range_with_len}
-use Rattle.ror_pages.specs.Text.{from_text}
-use Rattle.ror_pages.proofs.lists.write_pairs.Given as goal
-
-abbrev pub invariant-loop-a : goal.invariant-loop-a
-invariant-loop-a l = l.text.items ≡ l.fn.text.items ++ flat_map (from_text l.table l.pairs) (range_with_len 0 l.a)

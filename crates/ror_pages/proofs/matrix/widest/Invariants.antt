@@ -1,6 +1,0 @@
-use Rattle.std.proofs.Common.{◌≡◌}
-use Rattle.ror_pages.specs.Matrix.{widest}
-use Rattle.ror_pages.proofs.matrix.widest.Given as goal
-
-abbrev pub invariant-loop-a : goal.invariant-loop-a
-invariant-loop-a l = l.widest ≡ widest l.table l.a

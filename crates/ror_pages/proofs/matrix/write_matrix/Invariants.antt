@@ -1,8 +1,0 @@
-use Rattle.std.proofs.Common.{◌≡◌, ◌++◌, length}
-use Rattle.std.specs.List.{flat_map, range_with_len}
-use Rattle.ror_pages.specs.Matrix.{part_text_at, widest}
-use Rattle.ror_pages.proofs.matrix.write_matrix.Given as goal
-
-abbrev pub invariant-loop-place : goal.invariant-loop-place
-invariant-loop-place l =
-    l.text.items ≡ l.fn.text.items ++ flat_map (part_text_at l.table l.rows (widest l.table (length l.table.alternatives))) (range_with_len 0 l.place)

@@ -1,7 +1,0 @@
-use Rattle.std.proofs.Common.{◌≡◌, ◌≤◌}
-use Rattle.ror_order.specs.Relations.{count_below}
-use Rattle.ror_pages.specs.Rows.{is_under_at}
-use Rattle.ror_pages.proofs.places.under_count.Given as goal
-
-abbrev pub invariant-loop-b : goal.invariant-loop-b
-invariant-loop-b l = record { counted : l.count ≡ count_below (is_under_at l.rows l.a) l.b; few : l.count ≤ l.b }

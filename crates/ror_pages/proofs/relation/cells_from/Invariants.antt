@@ -1,7 +1,0 @@
-use Rattle.std.proofs.Common.{◌≡◌, map}
-use Rattle.std.specs.List.{range_with_len}
-use Rattle.ror_pages.specs.Cells.{cell_at}
-use Rattle.ror_pages.proofs.relation.cells_from.Given as goal
-
-abbrev pub invariant-loop-b : goal.invariant-loop-b
-invariant-loop-b l = l.made.items ≡ map (cell_at l.size l.answers l.a) (range_with_len 0 l.b)

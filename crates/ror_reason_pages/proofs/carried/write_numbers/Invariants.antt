@@ -1,7 +1,0 @@
-use Rattle.std.proofs.Common.{◌≡◌, ◌++◌, take}
-use Rattle.std.specs.List.{flat_map}
-use Rattle.ror_sentences.specs.Words.{number}
-use Rattle.ror_reason_pages.proofs.carried.write_numbers.Given as goal
-
-abbrev pub invariant-numbers : goal.invariant-numbers
-invariant-numbers l = l.text.items ≡ l.initial.text.items ++ flat_map number (take l.number-index l.numbers)

@@ -1,7 +1,0 @@
-use Rattle.std.proofs.Common.{◌≡◌, ◌++◌, take}
-use Rattle.std.specs.List.{flat_map}
-use Rattle.ror_reason_pages.specs.Met.{met_row}
-use Rattle.ror_reason_pages.proofs.met.write_each.Given as goal
-
-abbrev pub invariant-list : goal.invariant-list
-invariant-list l = l.text.items ≡ l.fn.text.items ++ flat_map (met_row l.table l.function) (take l.k l.list)

@@ -1,7 +1,0 @@
-use Rattle.std.proofs.Common.{◌≡◌, ◌++◌, take}
-use Rattle.std.specs.List.{flat_map}
-use Rattle.ror_reason_pages.specs.Parts.{more_times}
-use Rattle.ror_reason_pages.proofs.parts.write_more.Given as goal
-
-abbrev pub invariant-counts : goal.invariant-counts
-invariant-counts l = l.text.items ≡ l.initial.text.items ++ flat_map more_times (take l.count-index l.counts)

@@ -1,6 +1,0 @@
-pub mod AnswerLoops
-pub mod HeadLines
-pub mod CertificateLemmas
-pub mod ListLemmas
-pub mod Utf8Lemmas
-pub mod FaultLemmas

@@ -1,6 +1,0 @@
-use Rattle.std.proofs.Common.{◌≡◌}
-use Rattle.ror_roll.specs.Roll.{opened}
-use Rattle.ror_roll.proofs.entries.opened.Given as goal
-
-abbrev pub invariant-loop-k : goal.invariant-loop-k
-invariant-loop-k l = l.entries.items ≡ opened l.k

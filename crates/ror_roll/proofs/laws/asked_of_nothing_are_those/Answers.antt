@@ -1,5 +1,0 @@
-use Rattle.ror_roll.proofs.LineLemmas.{asked_those}
-use Rattle.ror_roll.proofs.laws.asked_of_nothing_are_those.Goals as goal
-
-pub returns : goal.returns
-returns c = asked_those

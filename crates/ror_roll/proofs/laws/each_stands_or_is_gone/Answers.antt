@@ -1,5 +1,0 @@
-use Rattle.ror_roll.proofs.GoneLemmas.{each_once}
-use Rattle.ror_roll.proofs.laws.each_stands_or_is_gone.Goals as goal
-
-pub returns : goal.returns
-returns c = each_once

@@ -1,5 +1,0 @@
-use Rattle.ror_roll.proofs.LineLemmas.{each_line_once}
-use Rattle.ror_roll.proofs.laws.each_survives_or_is_taken_back.Goals as goal
-
-pub returns : goal.returns
-returns c = each_line_once

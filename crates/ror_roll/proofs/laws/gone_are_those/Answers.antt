@@ -1,5 +1,0 @@
-use Rattle.ror_roll.proofs.GoneLemmas.{gone_those}
-use Rattle.ror_roll.proofs.laws.gone_are_those.Goals as goal
-
-pub returns : goal.returns
-returns c = gone_those

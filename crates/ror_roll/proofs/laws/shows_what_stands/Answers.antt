@@ -1,5 +1,0 @@
-use Rattle.ror_roll.proofs.LawProofs.{shows_what_stands}
-use Rattle.ror_roll.proofs.laws.shows_what_stands.Goals as goal
-
-pub returns : goal.returns
-returns c = shows_what_stands

@@ -1,5 +1,0 @@
-use Rattle.ror_roll.proofs.LineLemmas.{taken_back_those}
-use Rattle.ror_roll.proofs.laws.taken_back_are_those.Goals as goal
-
-pub returns : goal.returns
-returns c = taken_back_those

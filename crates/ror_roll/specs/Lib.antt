@@ -1,9 +1,0 @@
-pub mod Became
-pub mod Laws
-pub mod Page
-pub mod Refusals
-pub mod Roll
-pub mod Shown
-pub mod Steps
-pub mod Turns
-pub mod Words

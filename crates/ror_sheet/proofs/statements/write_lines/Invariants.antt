@@ -1,7 +1,0 @@
-use Rattle.std.proofs.Common.{◌≡◌, ◌++◌}
-use Rattle.ror_sheet.specs.Pieces.{pieces}
-use Rattle.ror_sheet.specs.Sheet.{statement_line}
-use Rattle.ror_sheet.proofs.statements.write_lines.Given as goal
-
-abbrev pub invariant-loop-place : goal.invariant-loop-place
-invariant-loop-place l = l.text.items ≡ l.fn.text.items ++ pieces (statement_line l.table l.list) l.place

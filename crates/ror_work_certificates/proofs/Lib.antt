@@ -1,6 +1,0 @@
-pub mod Kept
-pub mod Stood
-pub mod Fetching
-pub mod Showing
-pub mod Checking
-pub mod Written

@@ -1,3 +1,0 @@
-pub mod Choosing
-pub mod Showing
-pub mod Laws
