@@ -33,7 +33,6 @@ import tempfile
 from dataclasses import dataclass, fields
 from decimal import Decimal
 from fractions import Fraction
-from math import gcd, lcm
 from numbers import Integral
 from pathlib import Path
 from typing import (
@@ -779,6 +778,7 @@ class _Runner:
             raise TableError(f"no Table: {table!r}")
         if session is not None and not isinstance(session, Session):
             raise SessionError(f"no Session: {session!r}")
+        self.table = table
         self.program = Program.find(program)
         self.files: Dict[str, bytes] = {"table.xml" if table.is_xmcda else "table.txt": table.to_bytes()}
         if session is not None:
@@ -1353,15 +1353,7 @@ class Report:
         shown there are left out."""
         self._answered(line)
         page = self._runner.show(["functions", "--line", str(line), "--as", "csv"], {"report.txt": self.plain})
-        rows = list(csv.DictReader(io.StringIO(page.decode("utf-8"), newline="")))
-        found: Dict[Tuple[str, str], ValueFunction] = {}
-        for row in rows:
-            key = row["answer"], row["function"]
-            if key not in found:
-                found[key] = ValueFunction(key[1], int(row["total"]), {}, line, int(key[0]))
-            levels = found[key].marginals.setdefault(row["criterion"], {})
-            levels[Fraction(row["level"])] = Fraction(int(row["marginal"]), found[key].total)
-        return tuple(found.values())
+        return _functions_of(page, line)
 
     def certificates(self, line: Optional[int] = None) -> bytes:
         """The certificates of reasons that `ror_show why` writes for a line, or for all, once `check-why` accepted them."""
@@ -1461,8 +1453,10 @@ class _History:
 
     def take(self, line: Line) -> None:
         if line.outcome in ("added", "replaced") and line.statement is not None:
-            words = line.text.split(" ")
-            said = Statement(line.statement, " ".join(words[2:] if line.outcome == "replaced" else words), line.number, line.desk)
+            words = line.text.split(" ")[2 if line.outcome == "replaced" else 0 :]
+            if words[0] == "class":
+                words[2:] = [str(int(word)) for word in words[2:]]
+            said = Statement(line.statement, " ".join(words), line.number, line.desk)
             self._change([line.statement] if line.outcome == "replaced" else [], said)
         elif line.outcome == "withdrawn" and line.statement is not None:
             self._change([line.statement], None)
@@ -1733,47 +1727,53 @@ def discriminate(
     """A most discriminating function for each desk, over what stands there in the end."""
     runner = _Runner(table, session, program)
     text, _ = _checked(runner, "discriminate", bits, {})
-    sheet = read_sheet(table, runner.program)
     found: List[Discrimination] = []
-    desk = outcome = ""
-    margin = Fraction(0)
+    desk = ""
+    margin, total = Fraction(0), 1
     for words in (line.split(" ") for line in text.decode("utf-8").split("\n")):
         if words[0] == "desk":
             desk = words[1] if len(words) == 2 else ""
         elif words[0] == "margin":
-            margin, outcome = Fraction(int(words[1]), int(words[2])), words[2]
+            margin, total = Fraction(int(words[1]), int(words[2])), int(words[2])
         elif words[0] == "solution":
-            function = _function_of(sheet, [int(word) for word in words[1:]], int(outcome), "most discriminating")
-            found.append(Discrimination(desk, "margin", margin, function))
+            found.append(Discrimination(desk, "margin", margin, _function_at(runner, desk, words[1:], total)))
         elif words[0] in ("none", "contradiction", "wide"):
             found.append(Discrimination(desk, words[0]))
     return Listing(found, _columns_of(Discrimination))
 
 
-def _function_of(sheet: Sheet, gains: List[int], total: int, label: str) -> ValueFunction:
-    """The function of a solution: a gain for each step, or one for the whole of a linear criterion."""
-    marginals: Dict[str, Dict[Fraction, Fraction]] = {}
-    best = 0
-    for criterion in sheet.criteria:
-        worth = [0]
-        if not criterion.linear:
-            for _ in criterion.levels[1:]:
-                worth.append(worth[-1] + gains.pop(0))
-        elif len(criterion.levels) > 1:
-            gain = gains.pop(0)
-            worth = [gain * distance for distance in _distances(criterion.levels)]
-        best += worth[-1]
-        marginals[criterion.name] = {level: Fraction(it, total) for level, it in zip(criterion.levels, worth)}
-    if gains or best != total:
-        raise ProgramError("a solution has other numbers than the table's columns")
-    return ValueFunction(label, total, marginals)
+def _function_at(runner: _Runner, desk: str, solution: List[str], total: int) -> ValueFunction:
+    """The function of a solution over what stands at a desk in the end, by the page of functions of `ror_show`.
+
+    The page is of a report whose last line asks whether the statements are consistent, and whose answer has this solution. So the
+    page's check accepts it, or it isn't shown.
+    """
+    lines = runner.files["session.txt"].split(b"\n")
+    for place, words in enumerate(_cut_lines(runner.files["session.txt"])):
+        if words and words[1 if words[0].startswith("@") else 0] == "ask":
+            lines[place] = b"#"
+    session = Session.from_bytes(b"\n".join(lines))
+    number = session.desk(desk).ask_consistent()
+    own = _Runner(runner.table, session, runner.program)
+    blocks = json.loads(own.ror(["replay-json"])[1].decode("utf-8"))["blocks"]
+    answer = {"question": "consistent", "verdict": "yes", "base": {"solution": solution}, "parts": []}
+    blocks[-1] = {"line": number, "answers": [answer]}
+    found = _functions_of(own.show(["functions", "--line", str(number), "--as", "csv"], {"report.txt": _text_of(blocks)}))
+    if len(found) != 1 or found[0].total != total:
+        raise ProgramError("the page of functions shows another function than the one that was found")
+    return ValueFunction("most discriminating", total, found[0].marginals)
 
 
-def _distances(levels: Sequence[Fraction]) -> List[int]:
-    """The distances of levels from the worst one, as least whole numbers in the same ratios."""
-    distances = [abs(level - levels[0]) for level in levels]
-    whole = [int(it * lcm(*(one.denominator for one in distances))) for it in distances]
-    return [it // gcd(*whole) for it in whole]
+def _functions_of(page: bytes, line: Optional[int] = None) -> Tuple[ValueFunction, ...]:
+    """The functions on a page of functions in CSV."""
+    found: Dict[Tuple[str, str], ValueFunction] = {}
+    for row in csv.DictReader(io.StringIO(page.decode("utf-8"), newline="")):
+        key = row["answer"], row["function"]
+        if key not in found:
+            found[key] = ValueFunction(key[1], int(row["total"]), {}, line, int(key[0]))
+        levels = found[key].marginals.setdefault(row["criterion"], {})
+        levels[Fraction(row["level"])] = Fraction(int(row["marginal"]), found[key].total)
+    return tuple(found.values())
 
 
 @dataclass(frozen=True)

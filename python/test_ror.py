@@ -1,0 +1,605 @@
+"""Tests of ror.py: `python3 python/test_ror.py`. The last line says how many passed and failed."""
+
+import contextlib
+import csv
+import importlib.util
+import io
+import os
+import pathlib
+import re
+import stat
+import subprocess
+import sys
+import tempfile
+import unittest
+import zipfile
+from decimal import Decimal
+from fractions import Fraction
+
+sys.dont_write_bytecode = True
+HERE = pathlib.Path(__file__).resolve().parent
+TOP = HERE.parent
+sys.path.insert(0, str(HERE))
+
+import build_backend  # noqa: E402
+import ror  # noqa: E402
+
+HAS_PANDAS = importlib.util.find_spec("pandas") is not None
+CARS = TOP / "examples" / "five-cars"
+
+
+def example(name, table="table.txt"):
+    folder = TOP / "examples" / name
+    best_first = (folder / "options").is_file()
+    return ror.Table.read(folder / table, best_first), ror.Session.read(folder / "session.txt")
+
+
+def folders():
+    """Each example with each of its tables."""
+    for folder in sorted((TOP / "examples").iterdir()):
+        for table in sorted(folder.glob("table.*")):
+            yield folder, table.name
+
+
+def stated(page):
+    """What stands by a page of `standing`: for each desk the number, the words and the line of each statement."""
+    desks, desk = {}, None
+    for line in page.split("\n"):
+        head = re.fullmatch(r"(\S+|\(no name\))  after line \d+", line)
+        if head:
+            desk = "" if head.group(1) == "(no name)" else head.group(1)[1:]
+            desks[desk] = []
+        row = re.fullmatch(r" +(\d+)  (.*?)  +(?:line (\d+)|the table's file)(?: \(.*\))?", line)
+        if row:
+            desks[desk].append((int(row.group(1)), row.group(2), int(row.group(3)) if row.group(3) else None))
+    return desks
+
+
+class Examples(unittest.TestCase):
+    def test_reports_are_those_of_the_examples(self):
+        for folder, table in folders():
+            with self.subTest(folder.name, table=table):
+                report = ror.replay(*example(folder.name, table))
+                self.assertEqual(report.plain, (folder / "report.txt").read_bytes())
+                line = re.search(r"^accepted (\d+) wide (\d+)$", (folder / "README.md").read_text(encoding="utf-8"), re.M)
+                self.assertEqual((report.accepted, report.wide), (int(line.group(1)), int(line.group(2))))
+                self.assertEqual(report.status, 9 if report.wide else 0)
+
+    def test_plain_reports_are_checked_and_read_as_those_in_json(self):
+        for folder, table in folders():
+            with self.subTest(folder.name, table=table):
+                pair = example(folder.name, table)
+                replayed, checked = ror.replay(*pair), ror.check(*pair, folder / "report.txt")
+                self.assertEqual(checked.json, replayed.json)
+                self.assertEqual(list(checked.lines), list(replayed.lines))
+                self.assertEqual(ror.check(*pair, replayed.json).plain, replayed.plain)
+
+    def test_narrow_reports_have_the_bytes_of_replay(self):
+        for name in ("twenty-cars", "lexicographic", "hidden-contradiction", "six-flats"):
+            for bits in (15, 31):
+                with self.subTest(name, bits=bits):
+                    folder = TOP / "examples" / name
+                    report = ror.replay(*example(name), bits=bits)
+                    words = [ror.Program.find().ror, "replay", "table.txt", "session.txt", "--bits", str(bits)]
+                    plain = subprocess.run(words, cwd=folder, capture_output=True).stdout
+                    self.assertEqual(report.plain, plain)
+                    self.assertEqual(ror.check(*example(name), plain).json, report.json)
+
+    def test_what_stands_is_on_the_page(self):
+        for folder, table in folders():
+            with self.subTest(folder.name, table=table):
+                report = ror.replay(*example(folder.name, table))
+                for desk, rows in stated((folder / "standing.txt").read_text(encoding="utf-8")).items():
+                    self.assertEqual([(it.number, it.text, it.line) for it in report.standing(desk=desk)], rows)
+
+    def test_relations_are_those_of_the_csv(self):
+        for name in ("one-relation", "twenty-cars"):
+            report = ror.replay(*example(name))
+            with open(TOP / "examples" / name / "relation.csv", newline="", encoding="utf-8") as file:
+                rows = list(csv.DictReader(file))
+            for line in {int(row["line"]) for row in rows}:
+                pairs = [(row["from"], row["to"]) for row in rows if int(row["line"]) == line]
+                self.assertEqual(list(report.relation(line).necessary), pairs)
+
+    def test_classes_are_those_of_the_csv(self):
+        report = ror.replay(*example("twelve-firms"))
+        with open(TOP / "examples" / "twelve-firms" / "classes.csv", newline="", encoding="utf-8") as file:
+            rows = list(csv.DictReader(file))
+        signs = {(int(row["line"]), row["alternative"], int(row["class"])): row["sign"] for row in rows}
+        found = {}
+        for it in report.classes():
+            for number in range(1, 5):
+                sign = "#" if number in it.necessary else "+" if number in it.possible else "."
+                found[it.line, it.alternative, number] = sign
+        self.assertEqual(found, signs)
+        self.assertEqual([(it.lowest, it.highest) for it in report.classes(14)], [(2, 4)])
+
+    def test_functions_are_those_of_the_csv(self):
+        report = ror.replay(*example("five-cars"))
+        with open(CARS / "functions-4.csv", newline="", encoding="utf-8") as file:
+            rows = [(it["function"], it["criterion"], Fraction(it["level"]), Fraction(int(it["marginal"]), int(it["total"])))
+                    for it in csv.DictReader(file)]
+        functions = report.functions(4)
+        self.assertEqual([(f.label, it.criterion, it.level, it.marginal) for f in functions for it in f.rows], rows)
+        self.assertEqual(functions[1].weights, {"price": Fraction(1, 2), "power": Fraction(1, 2), "noise": 0})
+        values = functions[1].values(example("five-cars")[0])
+        self.assertEqual((values["c01"] * 12, values["c09"] * 12), (6, 7))
+        self.assertEqual((functions[1].line, functions[1].place), (4, 1))
+
+    def test_reasons_name_the_statements(self):
+        report = ror.replay(*example("five-cars"))
+        reason = report.reasons(6)[0]
+        self.assertEqual(reason.numbers, (1, 4))
+        self.assertEqual([(it.text, it.line) for it in reason.statements], [("prefer c10 c14", 1), ("stronger c01 c09 c10 c14", 5)])
+        self.assertEqual((reason.question, reason.verdict), ("necessary c01 c09", "yes"))
+        self.assertEqual(report.certificates(6).split(b"\n")[1], b"reduct 6 1 1 4")
+        self.assertEqual(len(report.reasons(4)), 0)
+        flats = ror.replay(*example("six-flats"))
+        self.assertEqual([(it.line, it.numbers) for it in flats.reasons()],
+                         [(7, (1, 2, 4)), (10, (1, 2)), (11, (1, 2, 5)), (16, (4,)), (17, (4,))])
+        self.assertEqual(flats.reasons(10)[0].statements[1].text, "prefer castle station")
+
+    def test_a_repair_names_what_it_dropped(self):
+        report = ror.replay(*example("six-flats"))
+        repair = report.repairs[0]
+        self.assertEqual((repair.line, [(it.number, it.text, it.line) for it in repair.dropped]), (9, [(4, "prefer bridge mill", 5)]))
+        self.assertEqual([it.number for it in report.standing(9)], [1, 2, 3, 5])
+        self.assertEqual([it.number for it in report.standing(13)], [1, 2, 3, 4, 5])
+        self.assertEqual(report.line(13).outcome, "undone")
+        self.assertFalse(report.answer(7).holds)
+        self.assertTrue(report.answer(15).holds)
+
+    def test_xmcda(self):
+        table, session = example("twelve-firms-in-xmcda", "table.xml")
+        report = ror.replay(table, session)
+        sheet = ror.read_sheet(table)
+        self.assertEqual((sheet.classes, len(sheet.alternatives)), (4, 12))
+        self.assertEqual(sheet.criteria[1], ror.SheetCriterion("debt", "min", False, (80, 65, 50, 35)))
+        self.assertEqual(sheet.statements[6], "class oak 2 3")
+        self.assertEqual((report.standing()[0].text, report.standing()[0].line), ("prefer maple fir", None))
+        self.assertTrue(any(it.line is None for reason in report.reasons() for it in reason.statements))
+        worst_first = ror.replay(ror.Table.from_bytes(table.to_bytes()), session)
+        self.assertNotEqual(worst_first.plain, report.plain)
+        with self.assertRaises(ror.TableError):
+            table.alternatives
+
+    def test_a_group(self):
+        group = ror.group(*example("two-judges"))
+        self.assertEqual((group.desks, group.accepted, group.wide), (("anna", "bert"), 80, 0))
+        self.assertEqual(group.plain, (TOP / "examples" / "two-judges" / "group.txt").read_bytes())
+        both = {("c05", "c09"), ("c05", "c10"), ("c14", "c09"), ("c14", "c10"), ("c09", "c10")}
+        self.assertEqual(set(group.those("necessary_for_all")), both)
+        pair = next(it for it in group if (it.first, it.second) == ("c05", "c14"))
+        self.assertEqual((pair.necessary, pair.possible), ({"anna": "no", "bert": "yes"}, {"anna": "no", "bert": "yes"}))
+        self.assertEqual((pair.necessary_for_some, pair.possible_for_all), ("yes", "no"))
+
+    def test_a_most_discriminating_function(self):
+        table, session = example("one-function")
+        found = ror.discriminate(table, session)[0]
+        self.assertEqual((found.desk, found.outcome, found.margin), ("", "margin", Fraction(1, 6)))
+        marginals = [[value * 6 for value in levels.values()] for levels in found.function.marginals.values()]
+        self.assertEqual(marginals, [[0, 0, 0, 2, 3], [0, 2, 2, 3, 3], [0, 0, 0]])
+        values = {name: value * 6 for name, value in found.function.values(table).items()}
+        self.assertEqual(values, {"c05": 4, "c01": 3, "c09": 3, "c14": 3, "c10": 2})
+
+    def test_a_function_on_a_linear_criterion(self):
+        table = ror.Table({"q": "max linear", "p": "min linear"}, {"a": ("1/3", 5), "b": ("1/2", 5), "c": (Fraction(3, 4), 5)})
+        session = ror.Session(["prefer c b", "prefer b a"])
+        found = ror.discriminate(table, session)[0]
+        self.assertEqual(list(found.function.marginals["q"].values()), [0, Fraction(2, 5), 1])
+        self.assertEqual(list(found.function.marginals["p"].values()), [0])
+        self.assertEqual(found.margin, Fraction(2, 5))
+        functions = ror.replay(table, ror.Session(["prefer c b", "ask consistent"])).functions(2)
+        self.assertEqual(functions[0].marginals, found.function.marginals)
+
+    def test_outcomes_of_discriminate(self):
+        table = example("two-judges")[0]
+        session = ror.Session(["@x atleast c01 c05", "@y prefer c01 c05", "@y prefer c05 c01"])
+        self.assertEqual([(it.desk, it.outcome) for it in ror.discriminate(table, session)], [("x", "none"), ("y", "contradiction")])
+
+    def test_levels(self):
+        spans = ror.levels(*example("three-levels"), 3, {3: 2, 4: 2, 5: 3})
+        rows = {(it.first, it.second): (it.necessary, it.possible, it.contradictory, it.wide) for it in spans}
+        self.assertEqual(rows["c05", "c10"], (2, 3, 4, None))
+        self.assertEqual(rows["c09", "c01"], (4, 2, 4, None))
+        self.assertEqual(len(rows), 20)
+
+    def test_generate(self):
+        self.assertEqual(ror.generate(7), ror.Generated(7, 18, 1168, 1041, 0, 0, 2209))
+
+
+class Sessions(unittest.TestCase):
+    def test_each_method_writes_its_line(self):
+        session = ror.Session()
+        anna = session.desk("anna")
+        numbers = [
+            session.prefer("a", "b"), session.atleast("a", "b"), session.same("a", "b"), session.stronger("a", "b", "c", "d"),
+            session.asstrong("a", "b", "c", "d", on="q"), session.equal("a", "b", "c", "d"), session.assign("a", 2),
+            session.assign("a", 1, 2), session.withdraw(3), session.replace(2, "stronger", "a", "b", "c", "d", on="q"),
+            session.replace(2, "class", "a", 1, 2), session.repair(), session.undo(), session.ask_consistent(),
+            session.ask_necessary("a", "b"), session.ask_necessary("a", "b", "c", "d", on="q"), session.ask_possible("a", "b"),
+            anna.ask_possible("a", "b", "c", "d"), anna.ask_relation(), anna.ask_classes("a"), anna.ask_possible_class("a", 1),
+            anna.ask_necessary_class("a", 2), session.comment("said on Monday"),
+        ]
+        self.assertEqual(numbers, list(range(1, 24)))
+        self.assertEqual(session.lines, (
+            "prefer a b", "atleast a b", "same a b", "stronger a b c d", "asstrong a b c d on q", "equal a b c d", "class a 2 2",
+            "class a 1 2", "withdraw 3", "replace 2 stronger a b c d on q", "replace 2 class a 1 2", "repair", "undo",
+            "ask consistent", "ask necessary a b", "ask necessary a b c d on q", "ask possible a b", "@anna ask possible a b c d",
+            "@anna ask relation", "@anna ask classes a", "@anna ask possible-class a 1", "@anna ask necessary-class a 2",
+            "# said on Monday"))
+        table = ror.Table({"q": "max"}, {"a": [1], "b": [2], "c": [3], "d": [4]}, classes=2)
+        self.assertEqual([it.refusal for it in ror.replay(table, session).refused], [])
+
+    def test_no_name_slips_in_as_something_else(self):
+        session = ror.Session()
+        for name in ("Fiat 500", "a\tb", "a\n", "a\nundo", "", "#a", "@a", "x" * 65, "é" * 33, "\ud800", "a\x7f", "a\x00", 7, None):
+            for call in (lambda: session.prefer(name, "b"), lambda: session.ask_classes(name), lambda: session.replace(1, "same", "b", name),
+                         lambda: session.stronger("a", "b", "c", "d", on="" if name is None else name)):
+                with self.assertRaises(ror.SessionError):
+                    call()
+        for name in ("a b", "a\n", "x" * 65, 7):
+            with self.assertRaises(ror.SessionError):
+                session.desk(name)
+        for number in (-1, 1.0, True, "1", 10**9):
+            with self.assertRaises(ror.SessionError):
+                session.withdraw(number)
+        for call in (lambda: session.ask_necessary("a", "b", "c"), lambda: session.ask_necessary("a", "b", on="q"),
+                     lambda: session.replace(1, "prefer", "a"), lambda: session.replace(1, "ask", "relation", "a"),
+                     lambda: session.replace(1, "prefer", "a", "b", on="q"), lambda: session.add_line("prefer a b\nundo"),
+                     lambda: ror.Session("prefer a b")):
+            with self.assertRaises(ror.SessionError):
+                call()
+        self.assertEqual(session.lines, ())
+
+    def test_bytes_stay_as_they_are(self):
+        data = b"# x\r\nprefer a b\r\n\n\t@j  ask\tconsistent"
+        session = ror.Session.from_bytes(data)
+        self.assertEqual(session.to_bytes(), data)
+        self.assertEqual(session.ask_relation(), 5)
+        report = ror.replay(ror.Table({"q": "max"}, {"a": [1], "b": [0]}), session)
+        self.assertEqual([(it.number, it.desk, it.text) for it in report.lines],
+                         [(2, "", "prefer a b"), (4, "j", "ask consistent"), (5, "", "ask relation")])
+
+
+class Tables(unittest.TestCase):
+    def test_amounts_are_exact(self):
+        given = ["0.1", 0.1, Decimal("0.10"), Fraction(1, 10), "1/10", "+01/010"]
+        table = ror.Table({"q": "max"}, {f"a{place}": [amount] for place, amount in enumerate(given)})
+        self.assertEqual({table.performances(name)["q"] for name in table.alternatives}, {Fraction(1, 10)})
+        self.assertEqual(ror.read_sheet(table).criteria[0].levels, (Fraction(1, 10),))
+        exact = ror.Table({"q": "max"}, {
+            "a": [999999999999999999], "b": [Decimal("1E+5")], "c": [1e-07], "d": [0.1 + 0.2], "e": [Decimal("-0.50")], "f": [1e16]})
+        self.assertEqual(exact.to_bytes().decode().split("\n")[2:-1], [
+            "alternative a 999999999999999999", "alternative b 100000", "alternative c 0.0000001", "alternative d 0.30000000000000004",
+            "alternative e -0.50", "alternative f 10000000000000000"])
+        self.assertEqual(len(ror.read_sheet(exact).criteria[0].levels), 6)
+
+    def test_what_is_no_amount_is_refused(self):
+        for amount in ("3,5", "1e5", "", " 1", "1.", ".5", "1/0", "1/-2", "1 2", "٣", "1\n", 10**18, 1e-20, float("nan"), float("inf"),
+                       Decimal("NaN"), Fraction(1, 10**18), True, None, b"1", 1j, [1]):
+            with self.subTest(repr(amount)), self.assertRaises(ror.TableError) as raised:
+                ror.Table({"q": "max"}, {"a": [amount]})
+            self.assertEqual(raised.exception.word, "BadNumber")
+
+    def test_tables_are_read_back(self):
+        table = ror.Table([ror.Criterion("p", "min", True), ror.Criterion("q", "max")], {"a": {"q": 1, "p": "2.5"}, "b": (3, 4)}, 3)
+        again = ror.Table.from_bytes(table.to_bytes())
+        self.assertEqual((again.criteria, again.alternatives, again.classes), (table.criteria, ("a", "b"), 3))
+        self.assertEqual(again.performances("a"), {"p": Fraction(5, 2), "q": 1})
+        for name in ("five-cars", "six-vans", "twelve-firms", "lexicographic"):
+            plain, sheet = example(name)[0], ror.read_sheet(example(name)[0])
+            self.assertEqual(plain.alternatives, sheet.alternatives)
+            self.assertEqual([(it.name, it.direction, it.linear) for it in plain.criteria],
+                             [(it.name, it.direction, it.linear) for it in sheet.criteria])
+            for place, criterion in enumerate(sheet.criteria):
+                amounts = {plain.performances(it)[criterion.name] for it in plain.alternatives}
+                self.assertEqual(amounts, set(sheet.criteria[place].levels))
+            self.assertEqual(plain.classes, sheet.classes)
+
+    def test_faults_are_named(self):
+        q = {"q": "max"}
+        for word, call in (
+            ("BadLine", lambda: ror.Table({"q": "more"}, {})), ("BadLine", lambda: ror.Table([ror.Criterion("q", "up")], {})),
+            ("RepeatedId", lambda: ror.Table([ror.Criterion("q", "max"), ror.Criterion("q", "min")], {})),
+            ("MissingPerformance", lambda: ror.Table(q, {"a": []})), ("BadLine", lambda: ror.Table(q, {"a": [1, 2]})),
+            ("MissingPerformance", lambda: ror.Table(q, {"a": {}})), ("BadLine", lambda: ror.Table(q, {"a": {"q": 1, "r": 2}})),
+            ("BadLine", lambda: ror.Table(q, {"a": "1"})), ("BadLine", lambda: ror.Table(q, {"a b": [1]})),
+            ("BadLine", lambda: ror.Table({"q r": "max"}, {})), ("BadNumber", lambda: ror.Table(q, {"a": [1]}, classes=-1)),
+            ("UnknownAlternative", lambda: ror.Table(q, {"a": [1]}).performances("b")),
+            ("Form", lambda: ror.Table.from_bytes(b"").alternatives), ("BadNumber", lambda: ror.Table.from_bytes(b"ror-table 1\ncriterion q max\nalternative a x\n").criteria),
+        ):
+            with self.assertRaises(ror.TableError) as raised:
+                call()
+            self.assertEqual(raised.exception.word, word)
+
+    def test_hostile_names(self):
+        names = ["on", "undo", "a,b\"c", "--", "é\u0085x", "p\u2028q", "NA", "\ufeffz", "L" * 64, "\"", "=1+2", "line", "it's", "\\n",
+                 "a\u00a0b", "<&>", "\U0001f697", "\u202ex", "yes", "wide", "|", "end", "base", "%s", "${x}", "{0}"]
+        criteria = ["on", "q,\"r", "\u00a0", "M" * 64]
+        table = ror.Table(dict.fromkeys(criteria, "max"),
+                          {name: [place, -place, place % 3, place % 5] for place, name in enumerate(names)}, classes=2)
+        session = ror.Session()
+        for place, name in enumerate(names[1:]):
+            session.desk(name).stronger(name, names[place], names[place], name, on=criteria[place % 4])
+            session.desk(name).ask_necessary(name, names[place])
+            session.desk(name).assign(name, 1, 2)
+            session.desk(name).ask_classes(name)
+        line = session.ask_relation()
+        report = ror.replay(table, session)
+        self.assertEqual(len(report.refused), 0)
+        self.assertEqual(list(dict.fromkeys(it.first for it in report.relation(line))), names)
+        self.assertEqual([it.alternative for it in report.classes()], names[1:])
+        self.assertEqual(report.desks[:-1], tuple(names[1:]))
+        self.assertEqual(ror.read_sheet(table).alternatives, tuple(names))
+        self.assertEqual(list(report.functions(line)[0].marginals), criteria)
+        self.assertEqual(ror.check(table, session, report.plain).json, report.json)
+        for place, name in enumerate(names[1:]):
+            self.assertEqual(report.standing(desk=name)[1].text, f"class {name} 1 2")
+            self.assertEqual(report.answer(4 * place + 2).alternatives, (name, names[place]))
+        report.reasons(2)
+        self.assertEqual(ror.group(table, session).desks[:-1], tuple(names[1:]))
+
+
+class Faults(unittest.TestCase):
+    table, session = example("five-cars")
+
+    def test_a_bad_table_is_raised_with_line_word_and_advice(self):
+        bad = ror.Table.from_bytes(b"ror-table 1\ncriterion q max\nalternative a 3,5\n")
+        for call in (lambda: ror.replay(bad, self.session), lambda: ror.read_sheet(bad), lambda: ror.group(bad, self.session)):
+            with self.assertRaises(ror.TableError) as raised:
+                call()
+            error = raised.exception
+            self.assertEqual((error.status, error.said, error.word, error.line), (3, "bad table: BadNumber line 3", "BadNumber", 3))
+            self.assertIn("a comma in a number", error.advice)
+            self.assertIn("a comma in a number", str(error))
+        with self.assertRaises(ror.TableError) as raised:
+            ror.replay(ror.Table.from_bytes(b"<XMCDA><a></XMCDA>"), self.session)
+        self.assertEqual((raised.exception.word, raised.exception.line), ("Mismatched", 1))
+        with self.assertRaises(ror.TableError) as raised:
+            ror.replay(ror.Table({"q": "max"}, {str(place): [place] for place in range(201)}), self.session)
+        self.assertEqual((raised.exception.word, raised.exception.line), ("TooMany Alternatives", 203))
+
+    def test_a_bad_session(self):
+        with self.assertRaises(ror.SessionError) as raised:
+            ror.replay(self.table, ror.Session(["prefer c01 c05", "prefer c01"]))
+        error = raised.exception
+        self.assertEqual((error.status, error.word, error.line), (4, "BadLine", 2))
+        self.assertIn("a name is missing", error.advice)
+        with self.assertRaises(ror.SessionError) as raised:
+            ror.replay(self.table, ror.Session.from_bytes(b"\xff"))
+        self.assertEqual((raised.exception.word, raised.exception.line), ("NotUtf8", None))
+
+    def test_a_rejected_report(self):
+        report = (CARS / "report.txt").read_bytes()
+        forged = report.replace(b"answer necessary c01 c09 yes", b"answer necessary c01 c09 no", 1)
+        with self.assertRaises(ror.ReportError) as raised:
+            ror.check(self.table, self.session, forged)
+        error = raised.exception
+        self.assertEqual((error.status, error.block, error.word, error.line), (5, 6, "answer 1 WrongVerdict", None))
+        self.assertTrue(error.advice)
+        with self.assertRaises(ror.ReportError) as raised:
+            ror.check(self.table, self.session, b"")
+        self.assertEqual((raised.exception.block, raised.exception.word, raised.exception.line), (0, "BadLine", 1))
+        for data, word in ((b"{", "BadJson"), (b'{"blocks":[],"report":1.0}', "BadShape"), (b'{"blocks":[],"report":1}', "WrongBlock")):
+            with self.assertRaises(ror.ReportError) as raised:
+                ror.check(self.table, self.session, data)
+            self.assertEqual(raised.exception.word, word)
+        with self.assertRaises(ror.ReportError):
+            ror.check(self.table, ror.Session(["prefer c01 c05"]), report)
+
+    def test_unsuited_sessions_and_bad_levels(self):
+        with self.assertRaises(ror.UnsuitedError) as raised:
+            ror.group(*example("six-flats"))
+        self.assertEqual((raised.exception.status, raised.exception.line), (10, 9))
+        with self.assertRaises(ror.UnsuitedError):
+            ror.levels(*example("two-judges"), 2, {})
+        for count, put, word in ((2, {9: 1}, "UnknownStatement"), (0, {}, "BadLine"), (2, {1: 3}, "BadLine")):
+            with self.assertRaises(ror.LevelsError) as raised:
+                ror.levels(*example("three-levels"), count, put)
+            self.assertEqual((raised.exception.status, raised.exception.word), (11, word))
+        with self.assertRaises(ror.LevelsError):
+            ror.levels(*example("three-levels"), 2.5, {})
+
+    def test_other_calls_that_fail(self):
+        with self.assertRaises(ror.UsageError) as raised:
+            ror.replay(self.table, self.session, bits=16)
+        self.assertEqual(raised.exception.status, 2)
+        with self.assertRaises(ror.UsageError):
+            ror.generate(-1)
+        with self.assertRaises(ror.TableError):
+            ror.replay("table.txt", self.session)
+        with self.assertRaises(ror.SessionError):
+            ror.replay(self.table, "session.txt")
+
+    def test_refused_lines_are_told(self):
+        report = ror.replay(self.table, ror.Session(["prefer c01 c99", "ask relation", "ask classes c01", "undo"]))
+        self.assertEqual([(it.number, it.text, it.refusal) for it in report.refused], [
+            (1, "prefer c01 c99", "UnknownAlternative"), (3, "ask classes c01", "UnknownClass"), (4, "undo", "NothingToUndo")])
+        with self.assertRaises(ror.NoAnswerError) as raised:
+            report.classes(3)
+        self.assertEqual((raised.exception.word, raised.exception.line), ("UnknownClass", 3))
+
+    def test_what_was_not_asked_is_raised(self):
+        report = ror.replay(*example("one-relation"))
+        for call in (report.relation, lambda: report.relation(1), lambda: report.line(99), lambda: report.answer(5),
+                     lambda: report.classes(5), lambda: report.functions(1), lambda: report.reasons(2),
+                     lambda: report.standing(desk="x"), lambda: report.relation(5).pair("c01", "c01")):
+            with self.assertRaises(ror.NoAnswerError):
+                call()
+
+    def test_a_contradiction_is_no_relation(self):
+        session = ror.Session(["prefer c01 c05", "prefer c05 c01", "ask relation", "ask consistent", "ask necessary c01 c05"])
+        report = ror.replay(self.table, session)
+        relation = report.relation()
+        self.assertEqual({it.necessary for it in relation}, {"contradiction"})
+        for call in (lambda: relation.necessary, lambda: relation.possible, lambda: relation.is_necessary("c01", "c05"),
+                     lambda: report.answer(5).holds):
+            with self.assertRaises(ror.ContradictionError):
+                call()
+        self.assertFalse(report.answer(4).holds)
+
+    def test_what_is_too_wide_concludes_nothing(self):
+        folder = TOP / "cases" / "check-json-of-each-body-and-verdict"
+        pair = ror.Table.read(folder / "table.txt"), ror.Session.read(folder / "session.txt")
+        report = ror.check(*pair, folder / "report.json")
+        self.assertEqual((report.status, report.accepted, report.wide), (9, 3, 2))
+        self.assertEqual(ror.check(*pair, report.plain).lines[-1], report.lines[-1])
+        wide = next(it for it in report.answers() if it.verdict == "wide")
+        with self.assertRaises(ror.WideError) as raised:
+            wide.holds
+        self.assertEqual((raised.exception.status, raised.exception.word, raised.exception.line), (9, "wide", wide.line))
+        self.assertIn("repair-wide", [it.outcome for it in report.lines])
+
+    def test_wide_groups_functions_and_spans(self):
+        def case(name):
+            folder = TOP / "cases" / name
+            return ror.Table.read(folder / "table.txt"), ror.Session.read(folder / "session.txt")
+
+        group = ror.group(*case("group-at-15-bits-with-wide-answers"), bits=15)
+        self.assertEqual((group.accepted, group.wide), (21, 27))
+        with self.assertRaises(ror.WideError):
+            group.those("necessary_for_all")
+        outcomes = [it.outcome for it in ror.discriminate(*case("discriminate-of-four-desks-at-15-bits"), bits=15)]
+        self.assertEqual(outcomes.count("wide"), 1)
+        table, session = case("group-at-15-bits-with-wide-answers")
+        spans = ror.levels(table, ror.Session(session.lines[:2]), 2, {}, bits=15)
+        self.assertTrue(any(it.wide for it in spans))
+        self.assertTrue(all((it.necessary is None) == (it.wide is not None) for it in spans))
+
+    def test_programs_are_looked_for(self):
+        found = ror.Program.find()
+        kept = {name: os.environ.pop(name, None) for name in ("ROR", "ROR_SHOW")}
+        try:
+            self.assertEqual(ror.Program.find(), ror.Program(str(TOP / "ror"), str(TOP / "ror_show")))
+            self.assertEqual(ror.Program.find(TOP), ror.Program.find(TOP / "ror"))
+            os.environ["ROR"] = str(TOP / "programs" / "ror")
+            self.assertEqual(ror.Program.find().ror_show, str(TOP / "programs" / "ror_show"))
+            os.environ["ROR"] = str(TOP / "none")
+            with self.assertRaises(ror.ProgramError):
+                ror.Program.find()
+            with self.assertRaises(ror.ProgramError):
+                ror.replay(self.table, self.session, program=TOP / "README.md")
+        finally:
+            for name, value in kept.items():
+                os.environ.pop(name, None)
+                if value is not None:
+                    os.environ[name] = value
+        with tempfile.TemporaryDirectory() as folder:
+            for name in ("ror", "ror_show"):
+                path = pathlib.Path(folder, name)
+                path.write_text("#!/bin/sh\necho 'ror: the program needs glibc 2.34 or later' >&2\nexit 126\n")
+                path.chmod(0o755)
+            with self.assertRaises(ror.ProgramError) as raised:
+                ror.replay(self.table, self.session, program=folder)
+            self.assertIn("glibc", str(raised.exception))
+            for name, script in (("ror", "kill -9 $$"), ("ror", "echo nonsense")):
+                pathlib.Path(folder, name).write_text(f"#!/bin/sh\n{script}\n")
+                with self.assertRaises(ror.ProgramError):
+                    ror.replay(self.table, self.session, program=folder)
+            pathlib.Path(folder, "ror").chmod(0o644)
+            with self.assertRaises(ror.ProgramError):
+                ror.replay(self.table, self.session, program=folder)
+        self.assertEqual(ror.Program.find(found), found)
+
+
+class Frames(unittest.TestCase):
+    @unittest.skipUnless(HAS_PANDAS, "pandas isn't here")
+    def test_frames(self):
+        import pandas
+
+        table, session = example("one-relation")
+        report = ror.replay(table, session)
+        frame = report.relation(7).to_frame()
+        self.assertEqual((list(frame.columns), len(frame)), (["first", "second", "necessary", "possible"], 20))
+        self.assertEqual(len(frame[frame.necessary == "yes"]), 9)
+        self.assertEqual(report.functions(7)[0].to_frame().shape, (13, 3))
+        self.assertEqual(report.reasons(7).to_frame().shape[1], 6)
+        self.assertEqual(report.lines.to_frame().shape[0], 7)
+        self.assertEqual(table.to_frame().loc["c01", "price"], 9900)
+        firms = ror.replay(*example("twelve-firms")).classes().to_frame()
+        self.assertEqual(firms.loc[firms.line == 14, "lowest"].item(), 2)
+        self.assertEqual(ror.group(*example("two-judges")).to_frame().shape, (20, 6))
+        made = pandas.DataFrame({"q": [1, 2], "p": [0.1, 2.5]}, index=["a", "b"])
+        self.assertEqual(ror.Table.from_frame(made, {"q": "max", "p": "min"}).performances("a"), {"q": 1, "p": Fraction(1, 10)})
+        for index, word in ((["a", "a"], "RepeatedId"), ([1, 2], "BadLine")):
+            with self.assertRaises(ror.TableError) as raised:
+                ror.Table.from_frame(pandas.DataFrame({"q": [1, 2]}, index=index), {"q": "max"})
+            self.assertEqual(raised.exception.word, word)
+
+    @unittest.skipIf(HAS_PANDAS, "pandas is here")
+    def test_no_frames(self):
+        with self.assertRaises(ror.RorError):
+            ror.replay(*example("one-relation")).relation(7).to_frame()
+
+
+class Package(unittest.TestCase):
+    def test_a_wheel_has_the_programs_and_runs_alone(self):
+        with tempfile.TemporaryDirectory() as folder:
+            name = build_backend.build_wheel(folder)
+            with zipfile.ZipFile(pathlib.Path(folder, name)) as archive:
+                for member in archive.infolist():
+                    path = pathlib.Path(archive.extract(member, folder))
+                    path.chmod(stat.S_IMODE(member.external_attr >> 16))
+            code = "import ror; print(ror.generate(7).accepted, ror.Program.find().ror)"
+            environment = {"PATH": os.environ["PATH"], "PYTHONDONTWRITEBYTECODE": "1"}
+            done = subprocess.run([sys.executable, "-c", code], cwd=folder, env=environment, capture_output=True, text=True)
+            self.assertEqual(done.stdout, f"2209 {os.path.realpath(folder)}/ror_programs/ror\n")
+
+    def test_the_sources_build_the_same_wheel(self):
+        with tempfile.TemporaryDirectory() as folder:
+            archive = pathlib.Path(folder, build_backend.build_sdist(folder))
+            subprocess.run(["tar", "xzf", str(archive)], cwd=folder, check=True)
+            code = "import build_backend, sys; build_backend.build_wheel(sys.argv[1])"
+            environment = {**os.environ, "PYTHONDONTWRITEBYTECODE": "1"}
+            subprocess.run([sys.executable, "-c", code, folder], cwd=pathlib.Path(folder, "ror-1"), env=environment, check=True)
+            wheel = next(pathlib.Path(folder).glob("*.whl"))
+            with tempfile.TemporaryDirectory() as other:
+                self.assertEqual(wheel.read_bytes(), pathlib.Path(other, build_backend.build_wheel(other)).read_bytes())
+
+
+class Pages(unittest.TestCase):
+    def test_the_notebook_runs_as_written(self):
+        page = (TOP / "docs" / "notebook.md").read_text(encoding="utf-8")
+        blocks = re.findall(r"^```(\w*)\n(.*?)^```$", page, re.M | re.S)
+        self.assertTrue(any(kind == "python" for kind, _ in blocks))
+        names, printed, before = {}, "", os.getcwd()
+        os.chdir(TOP)
+        try:
+            for kind, text in blocks:
+                if kind == "python":
+                    self.assertEqual(printed, "")
+                    if "to_frame" in text and not HAS_PANDAS:
+                        continue
+                    out = io.StringIO()
+                    with contextlib.redirect_stdout(out):
+                        exec(compile(text, "notebook.md", "exec"), names)
+                    printed = out.getvalue()
+                elif kind == "":
+                    self.assertEqual(printed, text)
+                    printed = ""
+        finally:
+            os.chdir(before)
+        self.assertEqual(printed, "")
+
+
+class Counting(unittest.TextTestResult):
+    """Counts the tests that passed: how those that were skipped are counted differs between versions of Python."""
+
+    passed = 0
+
+    def addSuccess(self, test):
+        super().addSuccess(test)
+        self.passed += 1
+
+
+def main():
+    suite = unittest.defaultTestLoader.loadTestsFromModule(sys.modules["__main__"])
+    result = unittest.TextTestRunner(verbosity=0, resultclass=Counting).run(suite)
+    failed = len({test.id().split(" ")[0] for test, _ in result.failures + result.errors})
+    print(f"{result.passed} passed, {failed} failed")
+    return 1 if failed or not result.passed else 0
+
+
+if __name__ == "__main__":
+    sys.exit(main())
