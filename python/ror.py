@@ -30,6 +30,7 @@ import re
 import shutil
 import subprocess
 import tempfile
+import warnings
 from dataclasses import dataclass, fields
 from decimal import Decimal
 from fractions import Fraction
@@ -73,6 +74,7 @@ __all__ = [
     "Program",
     "ProgramError",
     "Reason",
+    "RefusedWarning",
     "Relation",
     "Repair",
     "Report",
@@ -198,6 +200,10 @@ class ContradictionError(RorError):
 
 class WideError(RorError):
     """A number passed the bits on the way, so nothing is concluded. More `bits` may help."""
+
+
+class RefusedWarning(UserWarning):
+    """Lines of a session were refused: they changed nothing and have no answer. `Report.refused` has them."""
 
 
 # ---- words
@@ -1272,6 +1278,9 @@ class Report:
         self.plain = _text_of(self._blocks)
         self.lines: Listing[Line] = Listing(_lines_of(self._blocks, runner.files["session.txt"]), _columns_of(Line))
         self._by_number = {line.number: line for line in self.lines}
+        if self.refused:
+            told = ", ".join(f"{it.number} ({it.refusal})" for it in self.refused[:5]) + (", .." if len(self.refused) > 5 else "")
+            warnings.warn(f"lines that are refused, change nothing and have no answer: {told}", RefusedWarning, stacklevel=3)
         self._opening: Optional[Tuple[str, ...]] = None
 
     # what came of the lines
@@ -1346,6 +1355,8 @@ class Report:
                 rows.append(ClassRange(it.number, it.desk, it.text.split(" ")[2], possible, necessary))
         if line is not None and not rows:
             raise NoAnswerError(f"line {line} doesn't ask for classes", line=line)
+        if not rows:
+            raise NoAnswerError("`ask classes` isn't answered")
         return Listing(rows, ("line", "desk", "alternative", "lowest", "highest", "possible", "necessary"))
 
     def functions(self, line: int) -> Tuple[ValueFunction, ...]:

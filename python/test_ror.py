@@ -12,6 +12,7 @@ import subprocess
 import sys
 import tempfile
 import unittest
+import warnings
 import zipfile
 from decimal import Decimal
 from fractions import Fraction
@@ -162,6 +163,10 @@ class Examples(unittest.TestCase):
         self.assertNotEqual(worst_first.plain, report.plain)
         with self.assertRaises(ror.TableError):
             table.alternatives
+        folder = TOP / "cases" / "xmcda-opening-statements-repaired-in-a-replay"
+        warnings.simplefilter("ignore", ror.RefusedWarning)
+        report = ror.replay(ror.Table.read(folder / "table.xml"), ror.Session.read(folder / "session.txt"))
+        self.assertEqual({it.line for repair in report.repairs for it in repair.dropped}, {None})
 
     def test_a_group(self):
         group = ror.group(*example("two-judges"))
@@ -413,7 +418,8 @@ class Faults(unittest.TestCase):
             ror.replay(self.table, "session.txt")
 
     def test_refused_lines_are_told(self):
-        report = ror.replay(self.table, ror.Session(["prefer c01 c99", "ask relation", "ask classes c01", "undo"]))
+        with self.assertWarnsRegex(ror.RefusedWarning, r"1 \(UnknownAlternative\), 3 \(UnknownClass\), 4 \(NothingToUndo\)$"):
+            report = ror.replay(self.table, ror.Session(["prefer c01 c99", "ask relation", "ask classes c01", "undo"]))
         self.assertEqual([(it.number, it.text, it.refusal) for it in report.refused], [
             (1, "prefer c01 c99", "UnknownAlternative"), (3, "ask classes c01", "UnknownClass"), (4, "undo", "NothingToUndo")])
         with self.assertRaises(ror.NoAnswerError) as raised:
@@ -442,6 +448,7 @@ class Faults(unittest.TestCase):
     def test_what_is_too_wide_concludes_nothing(self):
         folder = TOP / "cases" / "check-json-of-each-body-and-verdict"
         pair = ror.Table.read(folder / "table.txt"), ror.Session.read(folder / "session.txt")
+        warnings.simplefilter("ignore", ror.RefusedWarning)
         report = ror.check(*pair, folder / "report.json")
         self.assertEqual((report.status, report.accepted, report.wide), (9, 3, 2))
         self.assertEqual(ror.check(*pair, report.plain).lines[-1], report.lines[-1])

@@ -16,7 +16,8 @@
 # What goes wrong is a condition of the class `ror_error` and of one of its own: `ror_table_error`, `ror_session_error`,
 # `ror_unsuited_error`, `ror_levels_error`, `ror_report_error`, `ror_file_error`, `ror_output_error`, `ror_memory_error`,
 # `ror_usage_error`, `ror_program_error`, `ror_no_answer_error`, `ror_contradiction_error`, `ror_wide_error`. It has the program's
-# `status`, the line that it `said`, the `word` of the fault, the `line` of the file, and `advice`; NA or "" where there is none.
+# `status`, the line that it `said`, the `word` of the fault, the `line` of the file, and `advice`; NA or "" where there is none. Where
+# lines of a session were refused there is a warning, a `ror_refused_warning`.
 
 # ---- errors
 
@@ -385,6 +386,12 @@ ror_report <- function(run, json) {
   Encoding(text) <- "UTF-8"
   blocks <- jsonlite::fromJSON(text, simplifyVector = FALSE)$blocks
   lines <- ror_block_lines(blocks, run$session)
+  refused <- lines$lines[lines$lines$outcome == "refused", ]
+  if (nrow(refused) > 0) {
+    told <- paste(utils::head(paste0(refused$number, " (", refused$refusal, ")"), 5), collapse = ", ")
+    message <- paste0("lines that are refused, change nothing and have no answer: ", told, if (nrow(refused) > 5) ", ..")
+    warning(structure(class = c("ror_refused_warning", "warning", "condition"), list(message = message, call = NULL)))
+  }
   structure(list(accepted = counts[1], wide = counts[2], status = checked$status, lines = lines$lines, answers = lines$answers,
                  json = json, plain = ror_plain_of(blocks), dropped = lines$dropped, run = run), class = "ror_report")
 }
@@ -500,8 +507,8 @@ ror_classes <- function(report, line = NULL) {
     data.frame(line = asked$number[place], desk = asked$desk[place], alternative = ror_words(asked$text[place])[3],
                class = seq_along(first), possible = answers$verdict[first], necessary = answers$verdict[first + 1])
   })
-  if (length(rows) > 0) return(do.call(rbind, rows))
-  data.frame(line = integer(), desk = character(), alternative = character(), class = integer(), possible = character(), necessary = character())
+  if (length(rows) == 0) ror_stop("no_answer", "`ask classes` isn't answered")
+  do.call(rbind, rows)
 }
 
 # The lowest and the highest class that some function leaves to each alternative asked for, NA where there is none. A contradiction or
@@ -514,8 +521,7 @@ ror_class_ranges <- function(report, line = NULL) {
     data.frame(line = it$line[1], desk = it$desk[1], alternative = it$alternative[1],
                lowest = if (length(left) > 0) min(left) else NA_integer_, highest = if (length(left) > 0) max(left) else NA_integer_)
   })
-  frame <- if (length(each) > 0) do.call(rbind, each)
-    else data.frame(line = integer(), desk = character(), alternative = character(), lowest = integer(), highest = integer())
+  frame <- do.call(rbind, each)
   rownames(frame) <- NULL
   frame
 }
@@ -588,6 +594,11 @@ ror_standing <- function(report, line = NULL, desk = "") {
     desk <- lines$desk[at]
     lines <- lines[seq_len(at), ]
   }
+  ror_stood(report, lines, desk)
+}
+
+# what stands at a desk after these lines
+ror_stood <- function(report, lines, desk) {
   opening <- ror_opening(report$run)
   standing <- data.frame(number = as.numeric(seq_along(opening)), text = opening, line = rep(NA_integer_, length(opening)))
   before <- list()
@@ -621,8 +632,7 @@ ror_repairs <- function(report) {
     gone <- report$dropped[[as.character(at)]]
     if (length(gone) == 0) return(none)
     lines <- report$lines
-    earlier <- lines$number[lines$desk == lines$desk[lines$number == at] & lines$number < at]
-    stood <- ror_standing(report, max(earlier))
+    stood <- ror_stood(report, lines[lines$number < at, ], lines$desk[lines$number == at])
     data.frame(line = at, number = gone, statement = stood$text[match(gone, stood$number)])
   })
   do.call(rbind, c(list(none), rows))

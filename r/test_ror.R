@@ -93,6 +93,9 @@ test("what stands after it", identical(ror_standing(report, 9)$number, c(1, 2, 3
 test("what stands in the end", identical(ror_standing(report)$text[2], "atleast station castle"))
 test("all reasons", identical(vapply(split(ror_reasons(report)$number, ror_reasons(report)$line), paste, "", collapse = " "),
   c(`7` = "1 2 4", `10` = "1 2", `11` = "1 2 5", `16` = "4", `17` = "4")))
+folder <- file.path(top, "cases", "xmcda-opening-statements-repaired-in-a-replay")
+report <- suppressWarnings(ror_replay(ror_table_read(file.path(folder, "table.xml")), ror_session_read(file.path(folder, "session.txt"))))
+test("a repair of what a file brings", nrow(ror_repairs(report)) > 0 && !anyNA(ror_repairs(report)$statement))
 report <- replayed("twenty-cars")
 test("desks", identical(ror_standing(report, desk = "drivers")$text[4], "stronger c15 c11 c08 c05 on power"))
 
@@ -203,7 +206,14 @@ test("bad levels", raises("levels", ror_levels(it$table, it$session, 2, c("9" = 
 test("other calls", raises("usage", ror_replay(cars$table, cars$session, bits = 16), status = 2L) && raises("usage", ror_generate(-1)) &&
   raises("table", ror_replay("table.txt", cars$session)) && raises("session", ror_replay(cars$table, "prefer a b")) &&
   raises("file", ror_table_read("none")) && raises("program", ror_replay(cars$table, cars$session, program = file.path(top, "README.md"))))
-report <- ror_replay(cars$table, ror_session("prefer c01 c99", "ask relation", "ask classes c01", "undo"))
+warned <- NULL
+report <- withCallingHandlers(
+  ror_replay(cars$table, ror_session("prefer c01 c99", "ask relation", "ask classes c01", "undo")),
+  ror_refused_warning = function(warning) {
+    warned <<- conditionMessage(warning)
+    invokeRestart("muffleWarning")
+  })
+test("refused lines are a warning", grepl("1 (UnknownAlternative), 3 (UnknownClass), 4 (NothingToUndo)", warned, fixed = TRUE))
 test("refused lines", identical(ror_refused(report)$refusal, c("UnknownAlternative", "UnknownClass", "NothingToUndo")) &&
   raises("no_answer", ror_classes(report, 3), word = "UnknownClass", line = 3L))
 report <- replayed("one-relation")
@@ -214,9 +224,9 @@ test("a contradiction", all(ror_relation(report)$necessary == "contradiction") &
 folder <- file.path(top, "cases", "check-json-of-each-body-and-verdict")
 table <- ror_table_read(file.path(folder, "table.txt"))
 session <- ror_session_read(file.path(folder, "session.txt"))
-report <- ror_check(table, session, file.path(folder, "report.json"))
+report <- suppressWarnings(ror_check(table, session, file.path(folder, "report.json")))
 test("wide answers", report$status == 9 && report$accepted == 3 && report$wide == 2 && "repair-wide" %in% report$lines$outcome &&
-  identical(ror_check(table, session, report$plain)$answers, report$answers))
+  identical(suppressWarnings(ror_check(table, session, report$plain))$answers, report$answers))
 folder <- file.path(top, "cases", "group-at-15-bits-with-wide-answers")
 table <- ror_table_read(file.path(folder, "table.txt"))
 session <- ror_session_read(file.path(folder, "session.txt"))
