@@ -801,7 +801,7 @@ class _Runner:
         """The status (0 or 9) and the output of `ror`; any other status is raised, with the advice of `ror_show`."""
         status, output, errors = self.call(False, words, more)
         if status not in (0, 9):
-            _raise(status, errors, self._advice(status, more))
+            _raise(status, errors, self._advice(words[0], status, more))
         return status, output
 
     def show(self, words: Sequence[str], more: Mapping[str, bytes] = {}) -> bytes:
@@ -811,10 +811,10 @@ class _Runner:
             _raise(status, errors, _behind_first_line(errors))
         return output
 
-    def _advice(self, status: int, more: Mapping[str, bytes]) -> str:
+    def _advice(self, command: str, status: int, more: Mapping[str, bytes]) -> str:
         if status in (3, 4):
             return _behind_first_line(self.call(True, ["read"], {})[2])
-        if status == 5 and list(more) == ["report.txt"] and more["report.txt"].startswith(b"ror-report"):
+        if status == 5 and command == "check":
             return _behind_first_line(self.call(True, ["standing"], more)[2])
         return ""
 
@@ -1265,7 +1265,7 @@ class Reason:
 class Report:
     """A report that was checked and accepted. `replay` and `check` make it; nothing else should.
 
-    `json` has its bytes as `replay-json` writes them, `plain` as `replay` does. `status` is 0, or 9 where something is too wide.
+    `json` has the bytes that `check-json` accepted, `plain` the same report as `replay` writes it. `status` is 0, or 9 where something is too wide.
     `accepted` counts the proved answers, `wide` the answers and repairs that conclude nothing.
     """
 
@@ -1360,8 +1360,8 @@ class Report:
         return Listing(rows, ("line", "desk", "alternative", "lowest", "highest", "possible", "necessary"))
 
     def functions(self, line: int) -> Tuple[ValueFunction, ...]:
-        """The value functions in the answers to a line, by the page of functions of `ror_show`. Those that are too large to be
-        shown there are left out."""
+        """The value functions in the answers to a line, by the page of functions of `ror_show`. One whose total passes 127
+        bits is left out there, and so it is here."""
         self._answered(line)
         page = self._runner.show(["functions", "--line", str(line), "--as", "csv"], {"report.txt": self.plain})
         return _functions_of(page, line)

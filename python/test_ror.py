@@ -386,6 +386,7 @@ class Faults(unittest.TestCase):
         with self.assertRaises(ror.ReportError) as raised:
             ror.check(self.table, self.session, b"")
         self.assertEqual((raised.exception.block, raised.exception.word, raised.exception.line), (0, "BadLine", 1))
+        self.assertIn("likely", raised.exception.advice)
         for data, word in ((b"{", "BadJson"), (b'{"blocks":[],"report":1.0}', "BadShape"), (b'{"blocks":[],"report":1}', "WrongBlock")):
             with self.assertRaises(ror.ReportError) as raised:
                 ror.check(self.table, self.session, data)

@@ -16,16 +16,16 @@
 # What goes wrong is a condition of the class `ror_error` and of one of its own: `ror_table_error`, `ror_session_error`,
 # `ror_unsuited_error`, `ror_levels_error`, `ror_report_error`, `ror_file_error`, `ror_output_error`, `ror_memory_error`,
 # `ror_usage_error`, `ror_program_error`, `ror_no_answer_error`, `ror_contradiction_error`, `ror_wide_error`. It has the program's
-# `status`, the line that it `said`, the `word` of the fault, the `line` of the file, and `advice`; NA or "" where there is none. Where
-# lines of a session were refused there is a warning, a `ror_refused_warning`.
+# `status`, the line that it `said`, the `word` of the fault, the `line` of the file, the `block` of a report, and `advice`; NA or ""
+# where there is none. Where lines of a session were refused there is a warning, a `ror_refused_warning`.
 
 # ---- errors
 
-ror_stop <- function(kind, message, status = NA_integer_, said = "", word = "", line = NA_integer_, advice = "") {
+ror_stop <- function(kind, message, status = NA_integer_, said = "", word = "", line = NA_integer_, advice = "", block = NA_integer_) {
   text <- if (nzchar(advice)) paste0(message, "\n", advice) else message
   stop(structure(
     class = c(paste0("ror_", kind, "_error"), "ror_error", "error", "condition"),
-    list(message = text, call = NULL, status = status, said = said, word = word, line = line, advice = advice)
+    list(message = text, call = NULL, status = status, said = said, word = word, line = line, advice = advice, block = block)
   ))
 }
 
@@ -38,6 +38,8 @@ ror_stop_by_status <- function(status, errors, advice) {
   message <- if (nzchar(said)) said else paste("status", status)
   if (is.na(kind)) ror_stop("program", if (length(errors) > 0) paste(errors, collapse = "\n") else message, status, said)
   word <- sub("^(bad [a-z]+|rejected|unsuited session): ", "", said, useBytes = TRUE)
+  block <- NA_integer_
+  if (grepl("^block [0-9]+ ", word, useBytes = TRUE)) block <- as.integer(sub("^block ([0-9]+) .*$", "\\1", word, useBytes = TRUE))
   word <- sub("^(block|certificate) [0-9]+ ", "", word, useBytes = TRUE)
   numbered <- regmatches(word, regexec("^(.*?) ?(line |(?<=BadLine )|(?<=BadNumber ))([0-9]+)$", word, perl = TRUE))[[1]]
   line <- NA_integer_
@@ -46,7 +48,7 @@ ror_stop_by_status <- function(status, errors, advice) {
     word <- numbered[2]
   }
   if (kind == "unsuited") word <- "Unsuited"
-  ror_stop(unname(kind), message, status, said, if (kind == "usage") "" else word, line, advice)
+  ror_stop(unname(kind), message, status, said, if (kind == "usage") "" else word, line, advice, block)
 }
 
 # ---- names and numbers
@@ -332,6 +334,10 @@ ror_run <- function(run, words, more = list()) {
       read <- ror_call(run$programs[["show"]], c("read", names(run$files), run$options), run$files)
       advice <- ror_behind_first(read$errors)
     }
+    if (done$status == 5L && words[1] == "check") {
+      page <- ror_call(run$programs[["show"]], c("standing", names(files), run$options), files)
+      advice <- ror_behind_first(page$errors)
+    }
     ror_stop_by_status(done$status, done$errors, advice)
   }
   done
@@ -537,7 +543,7 @@ ror_csv <- function(bytes) {
 
 # The value functions in the answers to a line: what each level is worth. `level`, `marginal` and `total` are exact texts; `share` is
 # the marginal value as a share of the total, as a double. `place` counts the line's answers; `label` is `base`, or the question that
-# the function decides with the verdict.
+# the function decides with the verdict. A function whose total passes 127 bits is left out.
 ror_functions <- function(report, line) {
   ror_asked(report, line)
   ror_shown_functions(report$run, line, report$plain)

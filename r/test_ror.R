@@ -195,7 +195,7 @@ test("a bad session", bad$status == 4 && bad$word == "BadLine" && bad$line == 2 
 stored <- readLines(file.path(cars$folder, "report.txt"))
 forged <- ror_bytes(sub("answer necessary c01 c09 yes", "answer necessary c01 c09 no", stored))
 bad <- raised("report", ror_check(cars$table, cars$session, forged))
-test("a forged report", bad$status == 5 && bad$word == "answer 1 WrongVerdict" && is.na(bad$line))
+test("a forged report", bad$status == 5 && bad$word == "answer 1 WrongVerdict" && is.na(bad$line) && bad$block == 6 && nzchar(bad$advice))
 test("no report", raises("report", ror_check(cars$table, cars$session, raw()), word = "BadLine", line = 1L) &&
   raises("report", ror_check(cars$table, cars$session, charToRaw("{")), word = "BadJson"))
 flats <- example("six-flats")
