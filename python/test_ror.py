@@ -168,6 +168,12 @@ class Examples(unittest.TestCase):
         report = ror.replay(ror.Table.read(folder / "table.xml"), ror.Session.read(folder / "session.txt"))
         self.assertEqual({it.line for repair in report.repairs for it in repair.dropped}, {None})
 
+    def test_a_question_has_its_parts(self):
+        answer = ror.replay(*example("six-vans")).answer(6)
+        self.assertEqual((answer.kind, answer.alternatives, answer.criterion), ("necessary", ("bora", "alta", "delta", "cargo"), "price"))
+        answer = ror.replay(*example("twelve-firms")).answers(14)[4]
+        self.assertEqual((answer.kind, answer.alternatives, answer.number), ("possible-class", ("fir",), 3))
+
     def test_a_group(self):
         group = ror.group(*example("two-judges"))
         self.assertEqual((group.desks, group.accepted, group.wide), (("anna", "bert"), 80, 0))
@@ -177,6 +183,8 @@ class Examples(unittest.TestCase):
         pair = next(it for it in group if (it.first, it.second) == ("c05", "c14"))
         self.assertEqual((pair.necessary, pair.possible), ({"anna": "no", "bert": "yes"}, {"anna": "no", "bert": "yes"}))
         self.assertEqual((pair.necessary_for_some, pair.possible_for_all), ("yes", "no"))
+        pair = next(it for it in group if (it.first, it.second) == ("c01", "c05"))
+        self.assertEqual((pair.necessary, pair.possible), ({"anna": "no", "bert": "no"}, {"anna": "yes", "bert": "yes"}))
 
     def test_a_most_discriminating_function(self):
         table, session = example("one-function")
@@ -417,6 +425,32 @@ class Faults(unittest.TestCase):
             ror.replay("table.txt", self.session)
         with self.assertRaises(ror.SessionError):
             ror.replay(self.table, "session.txt")
+
+    def test_nothing_is_shown_that_a_check_rejects(self):
+        real = ror.Program.find()
+        with tempfile.TemporaryDirectory() as folder:
+            def refuse(command):
+                for name, program in (("ror", real.ror), ("ror_show", real.ror_show)):
+                    text = f"case $1 in {command}) echo 'rejected: block 1 WrongBlock' >&2; exit 5 ;; esac\nexec '{program}' \"$@\"\n"
+                    pathlib.Path(folder, name).write_text("#!/bin/sh\n" + text, encoding="utf-8")
+                    pathlib.Path(folder, name).chmod(0o755)
+
+            refuse("none")
+            report = ror.replay(self.table, self.session, program=folder)
+            plain = report.plain
+            for command, call in (
+                ("check-json", lambda: ror.replay(self.table, self.session, program=folder)),
+                ("check-json", lambda: ror.check(self.table, self.session, plain, program=folder)),
+                ("check", lambda: ror.check(self.table, self.session, plain, program=folder)),
+                ("check-why", lambda: report.reasons(6)),
+                ("check-group", lambda: ror.group(*example("two-judges"), program=folder)),
+                ("check-discriminate", lambda: ror.discriminate(*example("one-function"), program=folder)),
+                ("functions", lambda: ror.discriminate(*example("one-function"), program=folder)),
+                ("check-levels", lambda: ror.levels(*example("three-levels"), 3, {}, program=folder)),
+            ):
+                refuse(command)
+                with self.subTest(command), self.assertRaises(ror.ReportError):
+                    call()
 
     def test_refused_lines_are_told(self):
         with self.assertWarnsRegex(ror.RefusedWarning, r"1 \(UnknownAlternative\), 3 \(UnknownClass\), 4 \(NothingToUndo\)$"):

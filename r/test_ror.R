@@ -167,12 +167,11 @@ test("faults of a table", raises("table", ror_table(frame, c(q = "more")), word 
 
 names <- c("on", "undo", "a,b\"c", "--", "\u00e9\u0085x", "p\u2028q", "NA", "\ufeffz", strrep("L", 64), "\"", "=1+2", "it's", "\\n",
            "a\u00a0b", "<&>", "\U0001f697", "yes", "wide", "|", "$x", "`x`", "%s")
-criteria <- c("on", "q,\"r", "\u00a0")
-columns <- list(seq_along(names), -seq_along(names), seq_along(names) %% 3)
-frame <- data.frame(names, columns[[1]], columns[[2]], columns[[3]])
+criteria <- c("on", "q,\"r", "\u00a0", "NA")
+frame <- data.frame(names, seq_along(names), -seq_along(names), seq_along(names) %% 3, 1L)
 names(frame) <- c("id", criteria)
-table <- ror_table(frame, c(on = "max", `q,"r` = "max", structure("max", names = criteria[3])), classes = 2, id = "id")
-same <- function(a, b) identical(lapply(enc2utf8(a), charToRaw), lapply(enc2utf8(b), charToRaw))
+table <- ror_table(frame, structure(rep("max", 4), names = criteria), classes = 2, id = "id")
+same <- function(a, b) !anyNA(a) && identical(lapply(enc2utf8(a), charToRaw), lapply(enc2utf8(b), charToRaw))
 session <- ror_session(ror_assign("NA", 1, 2, desk = "a,b\"c"), ror_ask_relation("a,b\"c"), ror_ask_classes("NA", desk = "a,b\"c"),
                        ror_asstrong("on", "undo", "on", "undo", on = "on", desk = "a,b\"c"))
 report <- ror_replay(table, session)
@@ -219,6 +218,32 @@ test("refused lines", identical(ror_refused(report)$refusal, c("UnknownAlternati
 report <- replayed("one-relation")
 test("what was not asked", raises("no_answer", ror_relation(report)) && raises("no_answer", ror_relation(report, 1)) &&
   raises("no_answer", ror_functions(report, 99)) && raises("no_answer", ror_standing(report, desk = "x")))
+folder <- tempfile()
+dir.create(folder)
+refuse <- function(command) {
+  for (name in c("ror", "show")) {
+    path <- file.path(folder, if (name == "ror") "ror" else "ror_show")
+    text <- c("#!/bin/sh", paste0("case $1 in ", command, ") echo 'rejected: block 1 WrongBlock' >&2; exit 5 ;; esac"),
+              paste0("exec '", ror_programs()[[name]], "' \"$@\""))
+    writeLines(text, path)
+    Sys.chmod(path, "755")
+  }
+}
+refuse("none")
+report <- ror_replay(cars$table, cars$session, program = folder)
+judges <- example("two-judges")
+one <- example("one-function")
+sure <- example("three-levels")
+refuse("check-json")
+test("a replay that is rejected", raises("report", ror_replay(cars$table, cars$session, program = folder)))
+refuse("check")
+test("a check that is rejected", raises("report", ror_check(cars$table, cars$session, report$plain, program = folder)))
+refuse("check-why")
+test("reasons that are rejected", raises("report", ror_reasons(report, 6)))
+refuse("check-*")
+test("others that are rejected", raises("report", ror_group(judges$table, judges$session, program = folder)) &&
+  raises("report", ror_discriminate(one$table, one$session, program = folder)) &&
+  raises("report", ror_levels(sure$table, sure$session, 3, program = folder)))
 report <- ror_replay(cars$table, ror_session("prefer c01 c05", "prefer c05 c01", "ask relation"))
 test("a contradiction", all(ror_relation(report)$necessary == "contradiction") && raises("contradiction", ror_necessary(report)))
 folder <- file.path(top, "cases", "check-json-of-each-body-and-verdict")
