@@ -68,6 +68,7 @@ ror_utf8 <- function(texts) {
 
 ror_name_fault <- function(names) {
   if (!is.character(names) && !is.factor(names)) return("is no text")
+  if (length(names) == 0) return("is missing")
   if (anyNA(names)) return("is NA")
   names <- ror_utf8(names)
   if (anyNA(names)) return("has no form in UTF-8")
@@ -85,7 +86,7 @@ ror_names <- function(names, kind = "session") {
 }
 
 ror_count <- function(number, kind = "session") {
-  good <- is.numeric(number) && !anyNA(number) && all(number >= 0 & number <= 999999999 & number == floor(number))
+  good <- is.numeric(number) && length(number) > 0 && !anyNA(number) && all(number >= 0 & number <= 999999999 & number == floor(number))
   if (!good) ror_stop(kind, paste("no number from 0 to 999999999:", paste(number, collapse = " ")), word = "BadLine")
   format(number, scientific = FALSE, trim = TRUE)
 }
@@ -180,18 +181,25 @@ print.ror_table <- function(x, ...) {
 # ---- sessions: each function gives lines, one for each of the names; `desk` is the judge's name
 
 ror_line <- function(desk, ...) {
-  line <- paste(...)
+  line <- ror_paste(...)
   if (identical(desk, "")) return(line)
   fault <- ror_name_fault(desk)
   if (!is.null(fault)) ror_stop("session", paste0("the name of a desk ", fault), word = "BadLine")
-  paste0("@", ror_utf8(desk), " ", line)
+  ror_paste(paste0("@", ror_utf8(desk)), line)
 }
 
-ror_pair <- function(form, a, b) paste(form, ror_names(a), ror_names(b))
+# the words of lines, each one alone or one for each line
+ror_paste <- function(...) {
+  sizes <- lengths(list(...))
+  if (!all(sizes %in% c(1L, max(sizes)))) ror_stop("session", "names of different numbers don't make lines", word = "BadLine")
+  paste(...)
+}
+
+ror_pair <- function(form, a, b) ror_paste(form, ror_names(a), ror_names(b))
 
 ror_strength <- function(form, a, b, c, d, on) {
-  line <- paste(form, ror_names(a), ror_names(b), ror_names(c), ror_names(d))
-  if (is.null(on)) line else paste(line, "on", ror_names(on))
+  line <- ror_paste(form, ror_names(a), ror_names(b), ror_names(c), ror_names(d))
+  if (is.null(on)) line else ror_paste(line, "on", ror_names(on))
 }
 
 # a is worth more than b, at least as much, as much
@@ -206,7 +214,7 @@ ror_equal <- function(a, b, c, d, on = NULL, desk = "") ror_line(desk, ror_stren
 
 # a belongs to one of the classes from lowest to highest; class 1 is the worst
 ror_assign <- function(a, lowest, highest = lowest, desk = "") {
-  ror_line(desk, paste("class", ror_names(a), ror_count(lowest), ror_count(highest)))
+  ror_line(desk, ror_paste("class", ror_names(a), ror_count(lowest), ror_count(highest)))
 }
 
 # takes statement `number` back; puts a statement in its place, as in ror_replace(2, ror_atleast("a", "b"))
@@ -215,7 +223,7 @@ ror_replace <- function(number, statement, desk = "") {
   if (!all(grepl("^(prefer|atleast|same|stronger|asstrong|equal|class) ", statement, useBytes = TRUE))) {
     ror_stop("session", paste("no statement, or one with a desk:", statement[1]), word = "BadLine")
   }
-  ror_line(desk, paste("replace", ror_count(number), statement))
+  ror_line(desk, ror_paste("replace", ror_count(number), statement))
 }
 
 # withdraws each statement that contradicts those kept before it; takes the desk's last change back
@@ -238,8 +246,8 @@ ror_ask <- function(kind, a, b, c, d, on) {
 # both of each ordered pair; the classes of a; one class of it
 ror_ask_relation <- function(desk = "") ror_line(desk, "ask relation")
 ror_ask_classes <- function(a, desk = "") ror_line(desk, paste("ask classes", ror_names(a)))
-ror_ask_possible_class <- function(a, number, desk = "") ror_line(desk, paste("ask possible-class", ror_names(a), ror_count(number)))
-ror_ask_necessary_class <- function(a, number, desk = "") ror_line(desk, paste("ask necessary-class", ror_names(a), ror_count(number)))
+ror_ask_possible_class <- function(a, number, desk = "") ror_line(desk, ror_paste("ask possible-class", ror_names(a), ror_count(number)))
+ror_ask_necessary_class <- function(a, number, desk = "") ror_line(desk, ror_paste("ask necessary-class", ror_names(a), ror_count(number)))
 
 # A session of lines, those of the functions above or texts as they stand in a file. The line's place is its number in a report.
 ror_session <- function(...) {
@@ -277,8 +285,9 @@ ror_folder <- local({
   if (length(files) > 0) dirname(normalizePath(files[[length(files)]])) else NULL
 })
 
-# The paths of the two programs.
+# The paths of the two programs; `program` is that of `ror`, of the folder that has both, or what this function gave.
 ror_programs <- function(program = NULL) {
+  if (identical(names(program), c("ror", "show"))) return(program)
   named <- Sys.getenv("ROR")
   if (!is.null(program)) return(ror_programs_at(program, "", "the argument"))
   if (nzchar(named)) return(ror_programs_at(named, Sys.getenv("ROR_SHOW"), "the environment variable ROR"))
@@ -300,6 +309,7 @@ ror_programs_at <- function(ror, show, source) {
 
 # the status, the output and the errors of a call, made in a folder of its own
 ror_call <- function(program, words, files) {
+  force(program)
   folder <- tempfile("ror-")
   dir.create(folder)
   before <- setwd(folder)
@@ -647,7 +657,7 @@ ror_repairs <- function(report) {
 # the statements that the table's file brings, by the sheet that `ror_show read` writes
 ror_opening <- function(run) {
   if (!run$table$xmcda) return(character())
-  ror_sheet(run$table, run$programs[["ror"]])$statements
+  ror_sheet(run$table, run$programs)$statements
 }
 
 # What the program reads of a table, plain or in XMCDA: a data frame of the criteria, a list of their levels from worst to best (as
@@ -880,8 +890,7 @@ ror_function_at <- function(run, desk, solution, total) {
   }, TRUE)
   said[asks] <- "#"
   session <- ror_session(sub("\r$", "", said, useBytes = TRUE), ror_ask_consistent(desk))
-  own <- ror_run_of(run$table, session, run$programs[["ror"]])
-  own$programs <- run$programs
+  own <- ror_run_of(run$table, session, run$programs)
   text <- rawToChar(ror_run(own, "replay-json")$output)
   Encoding(text) <- "UTF-8"
   blocks <- jsonlite::fromJSON(text, simplifyVector = FALSE)$blocks

@@ -149,6 +149,8 @@ test("no number", raises("session", ror_withdraw(1.5)) && raises("session", ror_
 test("no statement", raises("session", ror_replace(1, "ask relation")) && raises("session", ror_replace(1, ror_prefer("a", "b", desk = "x"))))
 test("no question", raises("session", ror_ask_necessary("a", "b", "c")) && raises("session", ror_ask_necessary("a", "b", on = "q")))
 test("no line", raises("session", ror_session("prefer a b\nundo")) && raises("session", ror_session(7)) && raises("session", ror_session("\xff")))
+test("no names for a line", raises("session", ror_prefer(character(), "b")) && raises("session", ror_prefer(c("a", "b", "c"), c("b", "a"))) &&
+  raises("session", ror_ask_necessary("a", "b", character(), character())) && raises("session", ror_withdraw(numeric())))
 test("no desk", raises("session", ror_undo(desk = "a b")))
 
 given <- c("0.1", "0.10", "1/10", "+01/010", ror_decimal(0.1))
