@@ -64,7 +64,8 @@ def _programs():
         if all((folder / name).is_file() for name in PROGRAMS):
             return {f"ror_programs/{name}": (folder / name).read_bytes() for name in PROGRAMS}
     raise SystemExit(
-        f"the programs are not found beside {HERE}: install from the repository, with pip 21.3 or later (an older one copies this folder away)"
+        f"the programs are not found beside {HERE}: install from the repository, with pip 21.3 or later"
+        " (an older one copies this folder away)"
     )
 
 

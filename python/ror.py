@@ -1265,8 +1265,8 @@ class Reason:
 class Report:
     """A report that was checked and accepted. `replay` and `check` make it; nothing else should.
 
-    `json` has the bytes that `check-json` accepted, `plain` the same report as `replay` writes it. `status` is 0, or 9 where something is too wide.
-    `accepted` counts the proved answers, `wide` the answers and repairs that conclude nothing.
+    `json` has the bytes that `check-json` accepted, `plain` the same report as `replay` writes it. `status` is 0, or 9 where
+    something is too wide. `accepted` counts the proved answers, `wide` the answers and repairs that conclude nothing.
     """
 
     def __init__(self, runner: _Runner, data: bytes, status: int, counts: Tuple[int, int]) -> None:

@@ -247,7 +247,8 @@ class Sessions(unittest.TestCase):
     def test_no_name_slips_in_as_something_else(self):
         session = ror.Session()
         for name in ("Fiat 500", "a\tb", "a\n", "a\nundo", "", "#a", "@a", "x" * 65, "é" * 33, "\ud800", "a\x7f", "a\x00", 7, None):
-            for call in (lambda: session.prefer(name, "b"), lambda: session.ask_classes(name), lambda: session.replace(1, "same", "b", name),
+            for call in (lambda: session.prefer(name, "b"), lambda: session.ask_classes(name),
+                         lambda: session.replace(1, "same", "b", name),
                          lambda: session.stronger("a", "b", "c", "d", on="" if name is None else name)):
                 with self.assertRaises(ror.SessionError):
                     call()
@@ -320,7 +321,8 @@ class Tables(unittest.TestCase):
             ("BadLine", lambda: ror.Table(q, {"a": "1"})), ("BadLine", lambda: ror.Table(q, {"a b": [1]})),
             ("BadLine", lambda: ror.Table({"q r": "max"}, {})), ("BadNumber", lambda: ror.Table(q, {"a": [1]}, classes=-1)),
             ("UnknownAlternative", lambda: ror.Table(q, {"a": [1]}).performances("b")),
-            ("Form", lambda: ror.Table.from_bytes(b"").alternatives), ("BadNumber", lambda: ror.Table.from_bytes(b"ror-table 1\ncriterion q max\nalternative a x\n").criteria),
+            ("Form", lambda: ror.Table.from_bytes(b"").alternatives),
+            ("BadNumber", lambda: ror.Table.from_bytes(b"ror-table 1\ncriterion q max\nalternative a x\n").criteria),
         ):
             with self.assertRaises(ror.TableError) as raised:
                 call()

@@ -294,7 +294,9 @@ ror_programs <- function(program = NULL) {
   above <- if (is.null(ror_folder)) character() else file.path(dirname(ror_folder), "ror")
   found <- c(above[file.exists(above)], Sys.which("ror"))
   found <- found[nzchar(found) & file.exists(file.path(dirname(found), "ror_show"))]
-  if (length(found) == 0) ror_stop("program", "the program ror is not found: name it by the argument `program` or the environment variable ROR")
+  if (length(found) == 0) {
+    ror_stop("program", "the program ror is not found: name it by the argument `program` or the environment variable ROR")
+  }
   ror_programs_at(found[1], "", "the search")
 }
 
@@ -462,7 +464,9 @@ ror_block_lines <- function(blocks, session) {
 ror_asked <- function(report, line) {
   row <- report$lines[report$lines$number == line, ]
   if (nrow(row) == 0) ror_stop("no_answer", paste("line", line, "of the session says nothing, or isn't there"), line = as.integer(line))
-  if (row$outcome == "refused") ror_stop("no_answer", paste("line", line, "is refused:", row$refusal), word = row$refusal, line = as.integer(line))
+  if (row$outcome == "refused") {
+    ror_stop("no_answer", paste("line", line, "is refused:", row$refusal), word = row$refusal, line = as.integer(line))
+  }
   if (row$outcome != "answered") ror_stop("no_answer", paste0("line ", line, " asks nothing: ", row$text), line = as.integer(line))
   row
 }
@@ -480,7 +484,8 @@ ror_relation <- function(report, line = NULL) {
   asked <- report$lines[report$lines$outcome == "answered" & report$lines$text == "ask relation", ]
   if (is.null(line)) {
     if (nrow(asked) != 1) {
-      ror_stop("no_answer", paste0("`ask relation` is answered ", nrow(asked), " times: name a line", paste0(" ", asked$number, collapse = "")))
+      which <- paste0(" ", asked$number, collapse = "")
+      ror_stop("no_answer", paste0("`ask relation` is answered ", nrow(asked), " times: name a line", which))
     }
     line <- asked$number
   }
@@ -495,8 +500,12 @@ ror_relation <- function(report, line = NULL) {
 
 # raises a contradiction or a wide verdict
 ror_concluded <- function(verdicts, what) {
-  if (any(verdicts == "contradiction")) ror_stop("contradiction", paste0(what, ": no value function agrees with the statements"), word = "contradiction")
-  if (any(verdicts == "wide")) ror_stop("wide", paste0(what, ": a number passed the bits, so something is not concluded"), 9L, word = "wide")
+  if (any(verdicts == "contradiction")) {
+    ror_stop("contradiction", paste0(what, ": no value function agrees with the statements"), word = "contradiction")
+  }
+  if (any(verdicts == "wide")) {
+    ror_stop("wide", paste0(what, ": a number passed the bits, so something is not concluded"), 9L, word = "wide")
+  }
 }
 
 # The pairs whose first alternative is at least as good as the second by all functions that agree, or by some one. A contradiction or
@@ -718,13 +727,15 @@ ror_certificate_text <- function(it) {
 }
 
 ror_wide_text <- function(it) {
-  paste(c("wide", it$system, unlist(it$place), "path", vapply(it$path, function(pair) paste(unlist(pair), collapse = ":"), "")), collapse = " ")
+  path <- vapply(it$path, function(pair) paste(unlist(pair), collapse = ":"), "")
+  paste(c("wide", it$system, unlist(it$place), "path", path), collapse = " ")
 }
 
 ror_answer_text <- function(it) {
   head <- paste("answer", it$question, it$verdict)
   if (!is.null(it$wide)) return(c(head, ror_wide_text(it$wide)))
-  c(head, paste("base", ror_certificate_text(it$base)), vapply(it$parts, function(part) paste("part", part$at, ror_certificate_text(part)), ""))
+  parts <- vapply(it$parts, function(part) paste("part", part$at, ror_certificate_text(part)), "")
+  c(head, paste("base", ror_certificate_text(it$base)), parts)
 }
 
 # the blocks as `replay` writes them
@@ -858,7 +869,8 @@ ror_levels <- function(table, session, count, put = numeric(), bits = NULL, prog
     data.frame(first = words[2], second = words[3], necessary = number(7), possible = number(9), contradictory = number(5),
                wide = if (wide) as.integer(words[5]) else NA_integer_)
   })
-  none <- data.frame(first = character(), second = character(), necessary = integer(), possible = integer(), contradictory = integer(), wide = integer())
+  none <- data.frame(first = character(), second = character(), necessary = integer(), possible = integer(),
+                     contradictory = integer(), wide = integer())
   do.call(rbind, c(list(none), rows))
 }
 

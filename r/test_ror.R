@@ -104,7 +104,8 @@ test("a file's statements", identical(ror_standing(report)$text[1], "prefer mapl
 sheet <- ror_sheet(example("twelve-firms-in-xmcda", "table.xml")$table)
 test("a sheet", identical(sheet$levels$debt, c("80", "65", "50", "35")) && sheet$classes == 4 && length(sheet$alternatives) == 12)
 sheet <- ror_sheet(example("six-vans")$table)
-test("a linear criterion", identical(sheet$criteria$linear, c(TRUE, FALSE, FALSE)) && identical(sheet$levels$load, c("0.5", "17/29", "0.6")))
+test("a linear criterion", identical(sheet$criteria$linear, c(TRUE, FALSE, FALSE)) &&
+  identical(sheet$levels$load, c("0.5", "17/29", "0.6")))
 
 it <- example("two-judges")
 found <- ror_group(it$table, it$session)
@@ -141,15 +142,19 @@ test("each function writes its line", identical(lines, c(
 table <- ror_table(data.frame(id = c("a", "b", "c", "d"), q = 1:4), c(q = "max"), classes = 2, id = "id")
 test("and none is refused", nrow(ror_refused(ror_replay(table, ror_session(lines)))) == 0)
 
-for (name in list("Fiat 500", "a\tb", "a\n", "a\nundo", "", "#a", "@a", strrep("x", 65), strrep("\u00e9", 33), "a\177", NA_character_, 7, "\xff")) {
+for (name in list("Fiat 500", "a\tb", "a\n", "a\nundo", "", "#a", "@a", strrep("x", 65), strrep("\u00e9", 33), "a\177", NA_character_, 7,
+                  "\xff")) {
   test(paste("no name:", encodeString(as.character(name))), raises("session", ror_prefer(name, "b"), word = "BadLine") &&
     raises("session", ror_stronger("a", "b", "c", "d", on = name)))
 }
 test("no number", raises("session", ror_withdraw(1.5)) && raises("session", ror_withdraw("1")) && raises("session", ror_withdraw(1e9)))
-test("no statement", raises("session", ror_replace(1, "ask relation")) && raises("session", ror_replace(1, ror_prefer("a", "b", desk = "x"))))
+test("no statement", raises("session", ror_replace(1, "ask relation")) &&
+  raises("session", ror_replace(1, ror_prefer("a", "b", desk = "x"))))
 test("no question", raises("session", ror_ask_necessary("a", "b", "c")) && raises("session", ror_ask_necessary("a", "b", on = "q")))
-test("no line", raises("session", ror_session("prefer a b\nundo")) && raises("session", ror_session(7)) && raises("session", ror_session("\xff")))
-test("no names for a line", raises("session", ror_prefer(character(), "b")) && raises("session", ror_prefer(c("a", "b", "c"), c("b", "a"))) &&
+test("no line", raises("session", ror_session("prefer a b\nundo")) && raises("session", ror_session(7)) &&
+  raises("session", ror_session("\xff")))
+test("no names for a line", raises("session", ror_prefer(character(), "b")) &&
+  raises("session", ror_prefer(c("a", "b", "c"), c("b", "a"))) &&
   raises("session", ror_ask_necessary("a", "b", character(), character())) && raises("session", ror_withdraw(numeric())))
 test("no desk", raises("session", ror_undo(desk = "a b")))
 
@@ -158,14 +163,18 @@ table <- ror_table(data.frame(q = given, row.names = letters[1:5]), c(q = "max")
 test("amounts are exact", identical(ror_sheet(table)$levels$q, "0.1"))
 test("doubles are their shortest decimals", identical(ror_decimal(c(1e5, 0.1 + 0.2, -0.5, 1e-7, 123.25, 9900, 0, 1e16, 2/3)),
   c("100000", "0.30000000000000004", "-0.5", "0.0000001", "123.25", "9900", "0", "10000000000000000", "0.6666666666666666")))
-for (amount in list("3,5", "1e5", "", " 1", "1.", ".5", "1/0", "1 2", "1\n", 1e18, 1e-20, NaN, Inf, NA_real_, NA_character_, NA, as.Date("2020-01-01"))) {
-  test(paste("no amount:", encodeString(format(amount))), raises("table", ror_table(data.frame(q = amount, row.names = "a"), c(q = "max")), word = "BadNumber"))
+for (amount in list("3,5", "1e5", "", " 1", "1.", ".5", "1/0", "1 2", "1\n", 1e18, 1e-20, NaN, Inf, NA_real_, NA_character_, NA,
+                    as.Date("2020-01-01"))) {
+  row <- data.frame(q = amount, row.names = "a")
+  test(paste("no amount:", encodeString(format(amount))), raises("table", ror_table(row, c(q = "max")), word = "BadNumber"))
 }
 frame <- data.frame(q = 1:2, row.names = c("a", "b"))
 test("faults of a table", raises("table", ror_table(frame, c(q = "more")), word = "BadLine") &&
-  raises("table", ror_table(frame, c(p = "max")), word = "MissingPerformance") && raises("table", ror_table(frame, c(q = "max"), linear = "p")) &&
+  raises("table", ror_table(frame, c(p = "max")), word = "MissingPerformance") &&
+  raises("table", ror_table(frame, c(q = "max"), linear = "p")) &&
   raises("table", ror_table(data.frame(q = 1:2, id = "a"), c(q = "max"), id = "id"), word = "RepeatedId") &&
-  raises("table", ror_table(data.frame(q = 1, row.names = "a b"), c(q = "max")), word = "BadLine") && raises("table", ror_table(frame, "max")))
+  raises("table", ror_table(data.frame(q = 1, row.names = "a b"), c(q = "max")), word = "BadLine") &&
+  raises("table", ror_table(frame, "max")))
 
 names <- c("on", "undo", "a,b\"c", "--", "\u00e9\u0085x", "p\u2028q", "NA", "\ufeffz", strrep("L", 64), "\"", "=1+2", "it's", "\\n",
            "a\u00a0b", "<&>", "\U0001f697", "yes", "wide", "|", "$x", "`x`", "%s")
