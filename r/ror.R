@@ -839,7 +839,7 @@ ror_starting <- function(lines, word) lines[vapply(lines, function(words) words[
 ror_desk_names <- function(lines) vapply(ror_starting(lines, "desk"), function(words) if (length(words) == 2) words[2] else "", "")
 
 # What all judges say together: is the first alternative at least as good as the second by all functions (necessary), by some one
-# (possible), for all judges, for some of them? As words: yes, no, contradiction or wide.
+# (possible), for all judges, for some of them? As words: yes, no, contradiction or wide. The attribute `judges` has each judge's verdicts.
 ror_group <- function(table, session, bits = NULL, program = NULL) {
   found <- ror_checked(ror_run_of(table, session, program), "group", bits)
   pairs <- do.call(rbind, c(list(character()), ror_starting(found$lines, "pair")))
@@ -847,7 +847,12 @@ ror_group <- function(table, session, bits = NULL, program = NULL) {
   if (length(pairs) == 0) pairs <- words <- matrix("", 0, 5)
   frame <- data.frame(first = pairs[, 2], second = pairs[, 3], necessary_for_all = words[, 2], necessary_for_some = words[, 3],
                       possible_for_all = words[, 4], possible_for_some = words[, 5])
-  attr(frame, "desks") <- ror_desk_names(found$lines)
+  desks <- ror_desk_names(found$lines)
+  verdicts <- vapply(ror_starting(found$lines, "answer"), function(words) words[length(words)], "")
+  odd <- seq_along(verdicts) %% 2 == 1
+  attr(frame, "desks") <- desks
+  attr(frame, "judges") <- data.frame(first = rep(frame$first, each = length(desks)), second = rep(frame$second, each = length(desks)),
+                                      desk = rep(desks, nrow(frame)), necessary = verdicts[odd], possible = verdicts[!odd])
   attr(frame, "accepted") <- found$accepted
   attr(frame, "wide") <- found$wide
   frame

@@ -112,6 +112,11 @@ found <- ror_group(it$table, it$session)
 both <- found[found$necessary_for_all == "yes", ]
 test("a group", identical(paste(both$first, both$second), c("c05 c09", "c05 c10", "c09 c10", "c14 c09", "c14 c10")) &&
   identical(attr(found, "desks"), c("anna", "bert")) && attr(found, "accepted") == 80)
+judges <- subset(attr(found, "judges"), first == "c05" & second == "c14")
+test("its judges", identical(judges$desk, c("anna", "bert")) && identical(judges$necessary, c("no", "yes")) &&
+  identical(judges$possible, c("no", "yes")) && all(subset(attr(found, "judges"), first == "c01")$necessary == "no") &&
+  all(subset(attr(found, "judges"), first == "c01")$possible == "yes"))
+test("nobody", all(ror_group(it$table, ror_session())$necessary_for_all == "yes"))
 it <- example("one-function")
 found <- ror_discriminate(it$table, it$session)[[1]]
 test("a most discriminating function", identical(found$margin, "1/6") &&
