@@ -16,15 +16,17 @@ use Rattle.ror_proof.proofs.LineFaults.{ReadsLine, reads_line, line_fails, line_
 use Rattle.ror_proof.proofs.NameLemmas.{named-there, not_named-absent}
 use Rattle.ror_proof.proofs.WordFaults.{Ends, no_fault, refutation_ends}
 use Rattle.ror_proof.proofs.WordLemmas.{name_found}
+use Rattle.ror_report.specs.Desk.{desk_line}
+use Rattle.ror_report.proofs.DeskLemmas.{desk_err}
 use Rattle.ror_discriminate.specs.declared.entry.EntryBody.{EntryBody}
 use Rattle.ror_discriminate.specs.declared.names.BodyForm.{BodyForm}
 use Rattle.ror_discriminate.specs.declared.names.BodyForm.TheVariants as forms
 use Rattle.ror_discriminate.specs.EntryNames.{form_word, body_forms}
 use Rattle.ror_discriminate.specs.EntryFaults.{expected_of, expected_body, expected_solution, expected_refutation, SaysMargin, IsFaultOfEntry}
 use Rattle.ror_discriminate.specs.EntryFaults.IsFaultOfEntry.{in_desk, in_body, in_solution, in_multipliers}
-use Rattle.ror_discriminate.specs.Head.{desk_line, IsDeskLine}
+use Rattle.ror_discriminate.specs.Head.{IsDeskLine}
 use Rattle.ror_discriminate.specs.Reading.{margin_words, margin_line, solution_line_words, solution_line, multipliers_line, none_words, contradiction_words, wide_words, best_at, form_of, formed_at, body_at, entry_at}
-use Rattle.ror_discriminate.proofs.HeadLemmas.{desk_sound, desk_goes, desk_err, no_desk, desk_fails}
+use Rattle.ror_discriminate.proofs.HeadLemmas.{desk_sound, desk_goes, no_desk, desk_fails}
 use Rattle.ror_discriminate.proofs.EntryLines.{margin_sound}
 use Rattle.ror_discriminate.proofs.EntryLemmas.{best_read, entry_read}
 use Rattle.ror_discriminate.proofs.EntryWords.{margin_ends, solution_ends, none_ends, contradiction_ends, wide_ends}

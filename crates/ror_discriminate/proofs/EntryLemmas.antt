@@ -14,16 +14,17 @@ use Rattle.ror_proof.specs.Reading.{ended}
 use Rattle.ror_proof.specs.Text.{solution_words, multipliers_words}
 use Rattle.ror_proof.proofs.AnswerLemmas.{ended_again, ended_sound}
 use Rattle.ror_proof.proofs.WordLemmas.{ok_is}
+use Rattle.ror_report.specs.Desk.{desk_text, desk_line}
+use Rattle.ror_report.proofs.DeskLemmas.{desk_again}
 use Rattle.ror_discriminate.specs.declared.entry.Entry.{Entry}
 use Rattle.ror_discriminate.specs.declared.entry.EntryBody.{EntryBody}
 use Rattle.ror_discriminate.specs.declared.entry.EntryBody.TheVariants as bodies
 use Rattle.ror_discriminate.specs.declared.names.BodyForm.{BodyForm}
 use Rattle.ror_discriminate.specs.declared.names.BodyForm.TheVariants as forms
-use Rattle.ror_discriminate.specs.Head.{desk_text, desk_line}
 use Rattle.ror_discriminate.specs.Reading.{margin_line, solution_line, multipliers_line, none_words, contradiction_words, wide_words, best_at, form_of, formed_at, body_at, entry_at}
 use Rattle.ror_discriminate.specs.Text.{margin_text, best_text, body_text, entry_text, IsPrintableBody, IsPrintableEntry}
 use Rattle.ror_discriminate.specs.EntryLaws.{IsEntryText}
-use Rattle.ror_discriminate.proofs.HeadLemmas.{desk_again, desk_sound, desk_spans}
+use Rattle.ror_discriminate.proofs.HeadLemmas.{desk_sound, desk_spans}
 use Rattle.ror_discriminate.proofs.EntryLines.{margin_are_words, margin_again, margin_sound, solution_again, solution_sound, multipliers_again, multipliers_sound, IsOneLine, none_line, contradiction_line, base_line, climb_line, none_sound, contradiction_sound, wide_sound, IsReadBody}
 
 -- ---- what was written is read again

@@ -2,38 +2,27 @@
 use Rattle.std.proofs.Common.{ℕ, List, [], ◌∷◌, ◌++◌, map, refl, arith, ℤ}
 use Rattle.std.specs.Prelude.{codes}
 use Rattle.std.specs.Fmt.{decimal, signed_decimal}
-use Rattle.std.specs.List.{AllByRecursion}
 use Rattle.std.specs.Str.{IsUtf8}
 use Rattle.std.proofs.lemmas.Str.{IsUtf8-append}
 use Rattle.ror_text.specs.SpacedLines.{line_text}
 use Rattle.ror_text.proofs.Everywhere.{all-append}
 use Rattle.ror_system.specs.System.{IsNarrow}
-use Rattle.ror_system.specs.declared.accept.Multipliers.{Multipliers}
-use Rattle.ror_pivot.specs.declared.note.Place.{Place}
-use Rattle.ror_pivot.specs.declared.note.Place.TheVariants as places
 use Rattle.ror_pivot.specs.declared.optimum.ClimbPlace.{ClimbPlace}
 use Rattle.ror_pivot.specs.declared.optimum.ClimbPlace.TheVariants as climbs
 use Rattle.ror_pivot.specs.declared.optimum.Optimum.{Optimum}
-use Rattle.ror_proof.specs.Text.{solution_words, multipliers_words, AreNarrow}
-use Rattle.ror_proof.proofs.Utf8Lemmas.{ascii_is_utf8, line_text_is_utf8, decimal_is_utf8, signed_is_utf8, numbers_are_texts}
+use Rattle.ror_proof.specs.Text.{solution_words, multipliers_words}
+use Rattle.ror_proof.proofs.Utf8Lemmas.{ascii_is_utf8, line_text_is_utf8, decimal_is_utf8, signed_is_utf8, numbers_are_texts, multipliers_are_texts, place_are_texts, AreTexts}
+use Rattle.ror_report.specs.Desk.{desk_text}
+use Rattle.ror_report.proofs.DeskLemmas.{desk_is_utf8}
 use Rattle.ror_discriminate.specs.declared.entry.Entry.{Entry}
 use Rattle.ror_discriminate.specs.declared.entry.EntryBody.{EntryBody}
 use Rattle.ror_discriminate.specs.declared.entry.EntryBody.TheVariants as bodies
-use Rattle.ror_discriminate.specs.Head.{desk_text}
-use Rattle.ror_discriminate.specs.Text.{margin_text, place_words, climb_place_words, step_word, path_words, body_text, entry_text, IsSmall, IsSmallPlace, IsSmallClimbPlace, IsSmallPath, IsPrintableBody, IsPrintableEntry}
-use Rattle.ror_discriminate.proofs.HeadLemmas.{desk_is_utf8}
-
-abbrev AreTexts : List (List ℕ) → Type 0
-AreTexts ws = AllByRecursion IsUtf8 ws
+use Rattle.ror_discriminate.specs.Text.{margin_text, text_of, place_words, climb_place_words, step_word, path_words, body_text, entry_text, IsSmall, IsSmallClimbPlace, IsSmallPath, IsPrintableBody, IsPrintableEntry}
 
 -- ---- numbers
 
 small_is_utf8 : (n : ℕ) → IsSmall n → IsUtf8 (decimal n)
 small_is_utf8 n small = decimal_is_utf8 n (omega (arith, small))
-
-multipliers_are_texts : (m : Multipliers) → AreNarrow m → AreTexts (multipliers_words m.weak m.strict)
-multipliers_are_texts m narrow =
-    (ascii_is_utf8 (codes "multipliers") refl, all-append IsUtf8 (map signed_decimal m.weak) (codes "|" ∷ map signed_decimal m.strict) (numbers_are_texts m.weak narrow.0) (ascii_is_utf8 (codes "|") refl, numbers_are_texts m.strict narrow.1))
 
 -- ---- optima
 
@@ -54,13 +43,6 @@ one_number word n text small = (text, (small_is_utf8 n small, tt))
 
 two_numbers : (word : List ℕ) (m n : ℕ) → IsUtf8 word → IsSmall m → IsSmall n → AreTexts (word ∷ decimal m ∷ decimal n ∷ [])
 two_numbers word m n text first second = (text, (small_is_utf8 m first, (small_is_utf8 n second, tt)))
-
-place_are_texts : (p : Place) → IsSmallPlace p → AreTexts (place_words p)
-place_are_texts (places.Start row column) small = two_numbers (codes "start") row column (ascii_is_utf8 (codes "start") refl) small.0 small.1
-place_are_texts (places.Step row column) small = two_numbers (codes "step") row column (ascii_is_utf8 (codes "step") refl) small.0 small.1
-place_are_texts (places.Denominator row) small = one_number (codes "denominator") row (ascii_is_utf8 (codes "denominator") refl) small
-place_are_texts (places.RowSum row) small = one_number (codes "rowsum") row (ascii_is_utf8 (codes "rowsum") refl) small
-place_are_texts (places.ColumnSum column) small = one_number (codes "columnsum") column (ascii_is_utf8 (codes "columnsum") refl) small
 
 climb_place_are_texts : (p : ClimbPlace) → IsSmallClimbPlace p → AreTexts (climb_place_words p)
 climb_place_are_texts (climbs.Start row column) small = two_numbers (codes "start") row column (ascii_is_utf8 (codes "start") refl) small.0 small.1
@@ -86,7 +68,7 @@ body_is_utf8 : (body : EntryBody) → IsPrintableBody body → IsUtf8 (body_text
 body_is_utf8 (bodies.Best m t x) printable = best_is_utf8 m t x printable
 body_is_utf8 bodies.NoStrictRow printable = line_text_is_utf8 (codes "none" ∷ []) (ascii_is_utf8 (codes "none") refl, tt)
 body_is_utf8 (bodies.Contradiction m) printable = line_text_is_utf8 (codes "contradiction" ∷ multipliers_words m.weak m.strict) (ascii_is_utf8 (codes "contradiction") refl, multipliers_are_texts m printable)
-body_is_utf8 (bodies.BaseWide note) printable = note_is_utf8 (codes "base") (place_words note.place) note.path (ascii_is_utf8 (codes "base") refl) (place_are_texts note.place printable.0) printable.1
+body_is_utf8 (bodies.BaseWide note) printable = note_is_utf8 (codes "base") (place_words note.place) note.path (ascii_is_utf8 (codes "base") refl) (place_are_texts (text_of note.place) printable.0) printable.1
 body_is_utf8 (bodies.ClimbWide note) printable = note_is_utf8 (codes "climb") (climb_place_words note.place) note.path (ascii_is_utf8 (codes "climb") refl) (climb_place_are_texts note.place printable.0) printable.1
 
 pub entry_text_is_utf8 : (x : Entry) → IsPrintableEntry x → IsUtf8 (entry_text x)

@@ -3,27 +3,25 @@ use Rattle.std.proofs.Common.{◌≡◌, ℕ, List, [], ◌∷◌, ◌++◌, len
 use Rattle.std.specs.Prelude.{codes}
 use Rattle.ror_text.specs.Numbers.{number_of}
 use Rattle.ror_text.specs.Reading.{◌>>=◌}
-use Rattle.ror_text.proofs.NumberLemmas.{number_of-sound}
 use Rattle.ror_text.proofs.ReadingLemmas.{bind_ok, bind_err}
 use Rattle.ror_system.specs.declared.accept.Multipliers.{Multipliers}
 use Rattle.ror_system.specs.declared.accept.Solution.{Solution}
 use Rattle.ror_pivot.specs.declared.note.Place.{Place}
-use Rattle.ror_pivot.specs.declared.note.Place.TheVariants as places
 use Rattle.ror_pivot.specs.declared.optimum.ClimbPlace.{ClimbPlace}
 use Rattle.ror_pivot.specs.declared.optimum.ClimbPlace.TheVariants as climbs
 use Rattle.ror_table.specs.Table.{DecisionTable}
-use Rattle.ror_proof.specs.declared.names.PlaceName.{PlaceName}
-use Rattle.ror_proof.specs.declared.names.PlaceName.TheVariants as named
+use Rattle.ror_proof.specs.declared.answer.PlaceText.{PlaceText}
 use Rattle.ror_proof.specs.declared.read.ProofFault.{ProofFault}
 use Rattle.ror_proof.specs.declared.read.ProofFault.TheVariants.{BadLine}
-use Rattle.ror_proof.specs.Names.{name_of, place_word, place_names}
+use Rattle.ror_proof.specs.Names.{name_of}
+use Rattle.ror_proof.specs.Reading as certificates
 use Rattle.ror_proof.specs.Reading.{entry_at, refutation_at}
 use Rattle.ror_proof.specs.Words.{after_word, name_at, no_more, number_in, small_number_at, numbers_at, pivot_in}
-use Rattle.ror_proof.specs.Expected.{Expected, IsNumber, IsFirstFaultyWord, AllStand, MayStand, fault_of_word, all_of, expected_numbers, expected_path, expected_place, expected_numbered, expected_note}
+use Rattle.ror_proof.specs.Expected.{Expected, IsFirstFaultyWord, AllStand, MayStand, fault_of_word, all_of, expected_numbers, expected_path, expected_note}
 use Rattle.ror_proof.specs.Expected.Expected.{the_word, one_of, a_small_number, a_number, a_pivot, the_end}
-use Rattle.ror_proof.proofs.WordFaults.{Steps, Ends, SaysOne, no_fault, nothing_read, no_empty_number, number_says, then_ends, made_steps, made_ends, all_ends, word_then_ends, end_ends, number_errs, pivot_one, refutation_ends}
-use Rattle.ror_proof.proofs.QuestionFaults.{small_number_steps, name_steps, name_is, no_name, entry_steps}
-use Rattle.ror_proof.proofs.WordLemmas.{done, ok_is, number_sound}
+use Rattle.ror_proof.proofs.WordFaults.{Steps, Ends, SaysOne, no_fault, nothing_read, then_ends, made_steps, made_ends, all_ends, word_then_ends, end_ends, number_one, pivot_one, refutation_ends}
+use Rattle.ror_proof.proofs.QuestionFaults.{small_number_steps, name_steps, name_is, no_name, entry_steps, placed_ends}
+use Rattle.ror_proof.proofs.WordLemmas.{done, ok_is}
 use Rattle.ror_discriminate.specs.declared.entry.EntryBody.{EntryBody}
 use Rattle.ror_discriminate.specs.declared.entry.EntryBody.TheVariants as bodies
 use Rattle.ror_discriminate.specs.declared.names.PathName.{PathName}
@@ -33,15 +31,9 @@ use Rattle.ror_discriminate.specs.declared.names.ClimbName.TheVariants as climbi
 use Rattle.ror_discriminate.specs.EntryNames.{path_word, path_names, climb_word, climb_names}
 use Rattle.ror_discriminate.specs.EntryFaults.{a_number_there, expected_margin, expected_refutation, expected_climb_place, expected_climbed, expected_climb_note, expected_note_of, expected_wide, expected_solution}
 use Rattle.ror_discriminate.proofs.EntryLines.{base_made, climb_made}
-use Rattle.ror_discriminate.specs.Reading.{number_at, step_in, steps_at, path_at, numbered_at, place_at, climbed_at, climb_place_at, noted_at, note_of, margin_words, solution_line_words, none_words, contradiction_words, wide_words}
+use Rattle.ror_discriminate.specs.Reading.{number_at, step_in, steps_at, path_at, place_of, place_at, climbed_at, climb_place_at, noted_at, note_of, margin_words, solution_line_words, none_words, contradiction_words, wide_words}
 
 -- ---- a number
-
-number_one : (t : DecisionTable) (place : ℕ) → SaysOne t place (number_in number_of place) a_number
-number_one t place = record {
-  err = λ word f e. number_errs number_of IsNumber number_says no_empty_number place word f e;
-  ok = λ word z e. let sound = number_of-sound word z (number_sound number_of place word z e) in (z, sound.1, sound.0);
-}
 
 abbrev failed : {A : Type 0} → ProofFault → Result A ProofFault
 failed f = Err f
@@ -148,13 +140,6 @@ path_ends t place words = behind t place (codes "path") (λ more. steps_at place
 
 -- ---- the numbers of a place
 
-numbered_steps : (t : DecisionTable) (place : ℕ) (name : PlaceName) (words : List (List ℕ)) → Steps t place (numbered_at place name words) (expected_place name) words
-numbered_steps t place named.Start words = made_steps t place (entry_at place words) (λ (x : ℕ × ℕ). places.Start x.0 x.1) (a_small_number ∷ a_small_number ∷ []) words (entry_steps t place words)
-numbered_steps t place named.Step words = made_steps t place (entry_at place words) (λ (x : ℕ × ℕ). places.Step x.0 x.1) (a_small_number ∷ a_small_number ∷ []) words (entry_steps t place words)
-numbered_steps t place named.Denominator words = made_steps t place (small_number_at place words) (λ (x : ℕ). places.Denominator x) (a_small_number ∷ []) words (small_number_steps t place words)
-numbered_steps t place named.RowSum words = made_steps t place (small_number_at place words) (λ (x : ℕ). places.RowSum x) (a_small_number ∷ []) words (small_number_steps t place words)
-numbered_steps t place named.ColumnSum words = made_steps t place (small_number_at place words) (λ (x : ℕ). places.ColumnSum x) (a_small_number ∷ []) words (small_number_steps t place words)
-
 climbed_steps : (t : DecisionTable) (place : ℕ) (name : ClimbName) (words : List (List ℕ)) → Steps t place (climbed_at place name words) (expected_climb_place name) words
 climbed_steps t place climbing.Start words = made_steps t place (entry_at place words) (λ (x : ℕ × ℕ). climbs.Start x.0 x.1) (a_small_number ∷ a_small_number ∷ []) words (entry_steps t place words)
 climbed_steps t place climbing.Step words = made_steps t place (entry_at place words) (λ (x : ℕ × ℕ). climbs.Step x.0 x.1) (a_small_number ∷ a_small_number ∷ []) words (entry_steps t place words)
@@ -208,9 +193,6 @@ module _ {N P : Type 0} (t : DecisionTable) (place : ℕ) (numbered : N → List
       (λ x e. subst (λ (ws : List (List ℕ)). Ends t place (noting x) (expected_path ws) x.1) ((steps name words).left x e) (noting_ends x))
 
 -- what follows the name of a place
-abbrev base_noted : ℕ → PlaceName → List (List ℕ) → Result (Place × List (ℕ × ℕ)) ProofFault
-base_noted place name words = numbered_at place name words >>= λ number. path_at place number.1 >>= λ path. done (number.0, path)
-
 abbrev climb_noted : ℕ → ClimbName → List (List ℕ) → Result (ClimbPlace × List (ℕ × ℕ)) ProofFault
 climb_noted place name words = climbed_at place name words >>= λ number. path_at place number.1 >>= λ path. done (number.0, path)
 
@@ -219,27 +201,26 @@ regrouped : {A B Y : Type 0} (r : Result A ProofFault) (f : A → Result B Proof
 regrouped (Ok x) f g = refl
 regrouped (Err e) f g = refl
 
-abbrev base_read : ℕ → List (List ℕ) → Result (Place × List (ℕ × ℕ)) ProofFault
-base_read place words = name_at place_word place_names place words >>= λ name. base_noted place name.0 name.1
+-- what follows a place on a system's path
+abbrev base_noted : ℕ → PlaceText × List (List ℕ) → Result (Place × List (ℕ × ℕ)) ProofFault
+base_noted place text = path_at place text.1 >>= λ path. done (place_of text.0, path)
+
+base_is : (place : ℕ) (words : List (List ℕ)) → noted_at place_at place words ≡ (certificates.place_at place words >>= base_noted place)
+unfolding noted_at place_at
+base_is place words = regrouped (certificates.place_at place words) (λ text. done (place_of text.0, text.1)) (λ number. path_at place number.1 >>= λ path. done (number.0, path))
+
+base_ends : (t : DecisionTable) (place : ℕ) (words : List (List ℕ)) → Ends t place (certificates.place_at place words >>= base_noted place) (expected_note words) words
+base_ends t place words =
+    placed_ends t place (base_noted place)
+    (λ text. made_ends t place (path_at place text.1) (λ (path : List (ℕ × ℕ)). (place_of text.0, path)) (expected_path text.1) text.1 (path_ends t place text.1))
+    words
 
 abbrev climb_read : ℕ → List (List ℕ) → Result (ClimbPlace × List (ℕ × ℕ)) ProofFault
 climb_read place words = name_at climb_word climb_names place words >>= λ name. climb_noted place name.0 name.1
 
-base_is : (place : ℕ) (words : List (List ℕ)) → noted_at place_at place words ≡ base_read place words
-unfolding noted_at place_at
-base_is place words = regrouped (name_at place_word place_names place words) (λ name. numbered_at place name.0 name.1) (λ number. path_at place number.1 >>= λ path. done (number.0, path))
-
 climb_is : (place : ℕ) (words : List (List ℕ)) → noted_at climb_place_at place words ≡ climb_read place words
 unfolding noted_at climb_place_at
 climb_is place words = regrouped (name_at climb_word climb_names place words) (λ name. climbed_at place name.0 name.1) (λ number. path_at place number.1 >>= λ path. done (number.0, path))
-
-base_ends_by : (t : DecisionTable) (place : ℕ) (word : List ℕ) (words : List (List ℕ)) (name : Option PlaceName) → name_of place_word place_names word ≡ name → Ends t place (base_read place (word ∷ words)) (one_of (map place_word place_names) ∷ expected_numbered name words) (word ∷ words)
-base_ends_by t place word words None e = unknown_ends t place place_word place_names (base_noted place) word words e
-base_ends_by t place word words (Some name) e = named_ends t place place_word place_names (base_noted place) word words name (expected_numbered (Some name) words) e (numbers_then_path t place (numbered_at place) expected_place (numbered_steps t place) name words)
-
-base_read_ends : (t : DecisionTable) (place : ℕ) (words : List (List ℕ)) → Ends t place (base_read place words) (expected_note words) words
-base_read_ends t place [] = nothing_ends t place place_word place_names (base_noted place)
-base_read_ends t place (word ∷ words) = base_ends_by t place word words (name_of place_word place_names word) refl
 
 climb_ends_by : (t : DecisionTable) (place : ℕ) (word : List ℕ) (words : List (List ℕ)) (name : Option ClimbName) → name_of climb_word climb_names word ≡ name → Ends t place (climb_read place (word ∷ words)) (one_of (map climb_word climb_names) ∷ expected_climbed name words) (word ∷ words)
 climb_ends_by t place word words None e = unknown_ends t place climb_word climb_names (climb_noted place) word words e
@@ -252,7 +233,7 @@ climb_read_ends t place (word ∷ words) = climb_ends_by t place word words (nam
 note_of_ends : (t : DecisionTable) (place : ℕ) (path : PathName) (words : List (List ℕ)) → Ends t place (note_of path place words) (expected_note_of (Some path) words) words
 note_of_ends t place paths.Base words =
     made_ends t place (noted_at place_at place words) base_made (expected_note words) words
-    (subst (λ (r : Result (Place × List (ℕ × ℕ)) ProofFault). Ends t place r (expected_note words) words) (sym (base_is place words)) (base_read_ends t place words))
+    (subst (λ (r : Result (Place × List (ℕ × ℕ)) ProofFault). Ends t place r (expected_note words) words) (sym (base_is place words)) (base_ends t place words))
 note_of_ends t place paths.Climb words =
     made_ends t place (noted_at climb_place_at place words) climb_made (expected_climb_note words) words
     (subst (λ (r : Result (ClimbPlace × List (ℕ × ℕ)) ProofFault). Ends t place r (expected_climb_note words) words) (sym (climb_is place words)) (climb_read_ends t place words))

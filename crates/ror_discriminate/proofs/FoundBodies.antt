@@ -36,16 +36,16 @@ module _ (s : LinearSystem) (form : IsWellFormed s) where
       let rows = form.rows_limit in
       let row = within.0 in
       let column = within.1 in
-      (omega arith, omega arith)
+      (omega arith, (omega arith, tt))
   place_small (places.Step i j) within =
       let columns = form.columns_limit in
       let rows = form.rows_limit in
       let row = within.0 in
       let column = within.1 in
-      (omega arith, omega arith)
-  place_small (places.Denominator i) within = let rows = form.rows_limit in omega arith
-  place_small (places.RowSum i) within = let rows = form.rows_limit in omega arith
-  place_small (places.ColumnSum j) within = let columns = form.columns_limit in omega arith
+      (omega arith, (omega arith, tt))
+  place_small (places.Denominator i) within = let rows = form.rows_limit in (omega arith, tt)
+  place_small (places.RowSum i) within = let rows = form.rows_limit in (omega arith, tt)
+  place_small (places.ColumnSum j) within = let columns = form.columns_limit in (omega arith, tt)
 
   abbrev IsInside : ℕ × ℕ → Type 0
   IsInside p = (p.0 < right_side_column (shape_of s)) × (p.1 < objective_row (shape_of s))

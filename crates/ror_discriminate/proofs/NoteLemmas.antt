@@ -12,19 +12,21 @@ use Rattle.ror_pivot.specs.declared.note.Place.{Place}
 use Rattle.ror_pivot.specs.declared.note.Place.TheVariants as places
 use Rattle.ror_pivot.specs.declared.optimum.ClimbPlace.{ClimbPlace}
 use Rattle.ror_pivot.specs.declared.optimum.ClimbPlace.TheVariants as climbs
-use Rattle.ror_proof.specs.declared.names.PlaceName.{PlaceName}
-use Rattle.ror_proof.specs.declared.names.PlaceName.TheVariants as named
+use Rattle.ror_proof.specs.declared.answer.PlaceText.{PlaceText}
+use Rattle.ror_proof.specs.declared.answer.PlaceText.TheVariants as said
 use Rattle.ror_proof.specs.declared.read.ProofFault.{ProofFault}
-use Rattle.ror_proof.specs.Names.{place_word, place_names}
+use Rattle.ror_proof.specs.Reading as certificates
 use Rattle.ror_proof.specs.Reading.{entry_at}
 use Rattle.ror_proof.specs.Words.{after_word, name_at, small_number_at, pivot_in}
 use Rattle.ror_proof.proofs.WordLemmas.{done, ok_is, after_word_again, after_word_sound, name_again, name_sound, small_number_again, small_number_sound, all_again, all_sound}
+use Rattle.ror_proof.proofs.LineWords as texts
+use Rattle.ror_proof.proofs.LineWords.{entry_again, entry_sound}
 use Rattle.ror_proof.proofs.PivotLemmas.{pivot_again, pivot_sound, pivot_is_word}
 use Rattle.ror_discriminate.specs.declared.names.ClimbName.{ClimbName}
 use Rattle.ror_discriminate.specs.declared.names.ClimbName.TheVariants as climbing
 use Rattle.ror_discriminate.specs.EntryNames.{climb_word, climb_names}
-use Rattle.ror_discriminate.specs.Reading.{step_in, steps_at, path_at, numbered_at, place_at, climbed_at, climb_place_at, noted_at}
-use Rattle.ror_discriminate.specs.Text.{place_words, climb_place_words, step_word, path_words, IsSmall, IsSmallPlace, IsSmallClimbPlace, IsSmallPath}
+use Rattle.ror_discriminate.specs.Reading.{step_in, steps_at, path_at, place_of, place_at, climbed_at, climb_place_at, noted_at}
+use Rattle.ror_discriminate.specs.Text.{text_of, place_words, climb_place_words, step_word, path_words, IsSmall, IsSmallPlace, IsSmallClimbPlace, IsSmallPath}
 
 -- ---- pivots
 
@@ -66,11 +68,7 @@ two_number_words : (word : List ℕ) (m n : ℕ) → is_word word ≡ true → I
 two_number_words word m n is first second = and_from _ _ is (and_from _ _ (is_word-decimal m (omega (arith, first))) (and_from _ _ (is_word-decimal n (omega (arith, second))) refl))
 
 pub place_are_words : (p : Place) → IsSmallPlace p → are_words (place_words p) ≡ true
-place_are_words (places.Start row column) small = two_number_words (codes "start") row column refl small.0 small.1
-place_are_words (places.Step row column) small = two_number_words (codes "step") row column refl small.0 small.1
-place_are_words (places.Denominator row) small = one_number_words (codes "denominator") row refl small
-place_are_words (places.RowSum row) small = one_number_words (codes "rowsum") row refl small
-place_are_words (places.ColumnSum column) small = one_number_words (codes "columnsum") column refl small
+place_are_words p small = texts.place_are_words (text_of p) small
 
 pub climb_place_are_words : (p : ClimbPlace) → IsSmallClimbPlace p → are_words (climb_place_words p) ≡ true
 climb_place_are_words (climbs.Start row column) small = two_number_words (codes "start") row column refl small.0 small.1
@@ -87,17 +85,27 @@ note_are_words place path are small =
 
 -- ---- places that were written are read again
 
-entry_again : (place row column : ℕ) (more : List (List ℕ)) → IsSmall row → IsSmall column → entry_at place (decimal row ∷ decimal column ∷ more) ≡ Ok ((row, column), more)
-unfolding entry_at
-entry_again place row column more r c = rw (small_number_again place row (decimal column ∷ more) r, small_number_again place column more c) refl
+place_of_text : (p : Place) → place_of (text_of p) ≡ p
+place_of_text (places.Start row column) = refl
+place_of_text (places.Step row column) = refl
+place_of_text (places.Denominator row) = refl
+place_of_text (places.RowSum row) = refl
+place_of_text (places.ColumnSum column) = refl
+
+text_of_place : (p : PlaceText) → text_of (place_of p) ≡ p
+text_of_place (said.Start row column) = refl
+text_of_place (said.Step row column) = refl
+text_of_place (said.Denominator row) = refl
+text_of_place (said.RowSum row) = refl
+text_of_place (said.ColumnSum column) = refl
+
+abbrev place_made : PlaceText × List (List ℕ) → Result (Place × List (List ℕ)) ProofFault
+place_made text = Ok (place_of text.0, text.1)
 
 pub place_again : (place : ℕ) (p : Place) (more : List (List ℕ)) → IsSmallPlace p → place_at place (place_words p ++ more) ≡ Ok (p, more)
 unfolding place_at
-place_again place (places.Start row column) more small = rw (name_again place_word place_names place named.Start (decimal row ∷ decimal column ∷ more) refl, entry_again place row column more small.0 small.1) refl
-place_again place (places.Step row column) more small = rw (name_again place_word place_names place named.Step (decimal row ∷ decimal column ∷ more) refl, entry_again place row column more small.0 small.1) refl
-place_again place (places.Denominator row) more small = rw (name_again place_word place_names place named.Denominator (decimal row ∷ more) refl, small_number_again place row more small) refl
-place_again place (places.RowSum row) more small = rw (name_again place_word place_names place named.RowSum (decimal row ∷ more) refl, small_number_again place row more small) refl
-place_again place (places.ColumnSum column) more small = rw (name_again place_word place_names place named.ColumnSum (decimal column ∷ more) refl, small_number_again place column more small) refl
+place_again place p more small =
+    ap (λ (r : Result (PlaceText × List (List ℕ)) ProofFault). r >>= place_made) (texts.place_again place (text_of p) more small) ∙ ap (λ (q : Place). done (q, more)) (place_of_text p)
 
 pub climb_place_again : (place : ℕ) (p : ClimbPlace) (more : List (List ℕ)) → IsSmallClimbPlace p → climb_place_at place (climb_place_words p ++ more) ≡ Ok (p, more)
 unfolding climb_place_at
@@ -113,18 +121,6 @@ climb_place_again place (climbs.ColumnSum column) more small = rw (name_again cl
 
 abbrev pub IsRead : {P : Type 0} → (P → List (List ℕ)) → (P → Type 0) → List (List ℕ) → P × List (List ℕ) → Type 0
 IsRead words_of Small words x = (words ≡ words_of x.0 ++ x.1) × Small x.0
-
-abbrev entry_read : ℕ → ℕ × List (List ℕ) → Result ((ℕ × ℕ) × List (List ℕ)) ProofFault
-entry_read row column = Ok ((row, column.0), column.1)
-
-entry_sound : (place : ℕ) (words : List (List ℕ)) (x : (ℕ × ℕ) × List (List ℕ)) → entry_at place words ≡ Ok x → (words ≡ decimal x.0.0 ∷ decimal x.0.1 ∷ x.1) × (IsSmall x.0.0 × IsSmall x.0.1)
-unfolding entry_at
-entry_sound place words x e =
-    let a = bind_ok (small_number_at place words) (λ row. small_number_at place row.1 >>= λ column. entry_read row.0 column) x e in
-    let b = bind_ok (small_number_at place a.0.1) (λ column. entry_read a.0.0 column) x a.2 in
-    let row = small_number_sound place words a.0 a.1 in
-    let column = small_number_sound place a.0.1 b.0 b.1 in
-    subst (λ (y : (ℕ × ℕ) × List (List ℕ)). (words ≡ decimal y.0.0 ∷ decimal y.0.1 ∷ y.1) × (IsSmall y.0.0 × IsSmall y.0.1)) (ok_is ((a.0.0, b.0.0), b.0.1) x b.2) (row.0 ∙ ap (λ (ws : List (List ℕ)). decimal a.0.0 ∷ ws) column.0, (row.1, column.1))
 
 module _ {P : Type 0} (words_of : P → List (List ℕ)) (Small : P → Type 0) (word : List ℕ) (place : ℕ) (words : List (List ℕ)) (x : P × List (List ℕ)) where
   two_sound : (make : ℕ → ℕ → P) → ((m n : ℕ) → words_of (make m n) ≡ word ∷ decimal m ∷ decimal n ∷ []) → ((m n : ℕ) → IsSmall m → IsSmall n → Small (make m n))
@@ -143,20 +139,13 @@ module _ {P : Type 0} (words_of : P → List (List ℕ)) (Small : P → Type 0) 
       let is : word ∷ words ≡ words_of (make a.0.0) ++ a.0.1 = ap (λ (ws : List (List ℕ)). word ∷ ws) number.0 ∙ ap (λ (ws : List (List ℕ)). ws ++ a.0.1) (sym (spelt a.0.0)) in
       subst (IsRead words_of Small (word ∷ words)) (ok_is (make a.0.0, a.0.1) x a.2) (is, small a.0.0 number.1)
 
-numbered_sound : (place : ℕ) (name : PlaceName) (words : List (List ℕ)) (x : Place × List (List ℕ)) → numbered_at place name words ≡ Ok x → IsRead place_words IsSmallPlace (place_word name ∷ words) x
-numbered_sound place named.Start words x e = two_sound place_words IsSmallPlace (codes "start") place words x (λ m n. places.Start m n) (λ m n. refl) (λ m n p q. (p, q)) e
-numbered_sound place named.Step words x e = two_sound place_words IsSmallPlace (codes "step") place words x (λ m n. places.Step m n) (λ m n. refl) (λ m n p q. (p, q)) e
-numbered_sound place named.Denominator words x e = one_sound place_words IsSmallPlace (codes "denominator") place words x (λ n. places.Denominator n) (λ n. refl) (λ n p. p) e
-numbered_sound place named.RowSum words x e = one_sound place_words IsSmallPlace (codes "rowsum") place words x (λ n. places.RowSum n) (λ n. refl) (λ n p. p) e
-numbered_sound place named.ColumnSum words x e = one_sound place_words IsSmallPlace (codes "columnsum") place words x (λ n. places.ColumnSum n) (λ n. refl) (λ n p. p) e
-
 pub place_sound : (place : ℕ) (words : List (List ℕ)) (x : Place × List (List ℕ)) → place_at place words ≡ Ok x → IsRead place_words IsSmallPlace words x
 unfolding place_at
 place_sound place words x e =
-    let a = bind_ok (name_at place_word place_names place words) (λ name. numbered_at place name.0 name.1) x e in
-    let name = name_sound place_word place_names place words a.0 a.1 in
-    let sound = numbered_sound place a.0.0 a.0.1 x a.2 in
-    (name ∙ sound.0, sound.1)
+    let a = bind_ok (certificates.place_at place words) place_made x e in
+    let text = texts.place_sound place words a.0 a.1 in
+    let is = subst (λ (p : PlaceText). texts.IsPlace words (p, a.0.1)) (sym (text_of_place a.0.0)) text in
+    subst (IsRead place_words IsSmallPlace words) (ok_is (place_of a.0.0, a.0.1) x a.2) is
 
 climbed_sound : (place : ℕ) (name : ClimbName) (words : List (List ℕ)) (x : ClimbPlace × List (List ℕ)) → climbed_at place name words ≡ Ok x → IsRead climb_place_words IsSmallClimbPlace (climb_word name ∷ words) x
 climbed_sound place climbing.Start words x e = two_sound climb_place_words IsSmallClimbPlace (codes "start") place words x (λ m n. climbs.Start m n) (λ m n. refl) (λ m n p q. (p, q)) e

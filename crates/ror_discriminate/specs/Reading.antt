@@ -1,5 +1,5 @@
 -- Reading an entry: what it is and where it ends, or the first fault.
-use Rattle.std.specs.Prelude.{ℕ, ℤ, List, [], ◌∷◌, Option, Some, None, Result, Ok, Err, codes}
+use Rattle.std.specs.Prelude.{ℕ, ℤ, List, Option, Some, None, Result, Ok, Err, codes}
 use Rattle.ror_text.specs.Cursor.{Cursor, line_words}
 use Rattle.ror_text.specs.Numbers.{number_of}
 use Rattle.ror_text.specs.Reading.{◌>>=◌}
@@ -9,14 +9,14 @@ use Rattle.ror_pivot.specs.declared.note.Place.{Place}
 use Rattle.ror_pivot.specs.declared.note.Place.TheVariants as places
 use Rattle.ror_pivot.specs.declared.optimum.ClimbPlace.{ClimbPlace}
 use Rattle.ror_pivot.specs.declared.optimum.ClimbPlace.TheVariants as climbs
-use Rattle.ror_proof.specs.declared.names.PlaceName.{PlaceName}
-use Rattle.ror_proof.specs.declared.names.PlaceName.TheVariants as named
+use Rattle.ror_proof.specs.declared.answer.PlaceText.{PlaceText}
+use Rattle.ror_proof.specs.declared.answer.PlaceText.TheVariants as texts
 use Rattle.ror_proof.specs.declared.read.ProofFault.{ProofFault}
 use Rattle.ror_proof.specs.declared.read.ProofFault.TheVariants.{BadLine}
-use Rattle.ror_proof.specs.Names.{name_of, place_word, place_names}
 use Rattle.ror_proof.specs.Reading as certificates
 use Rattle.ror_proof.specs.Reading.{ended, refutation_at}
-use Rattle.ror_proof.specs.Words.{first_word, after_word, name_at, no_more, number_in, small_number_at, numbers_at, pivot_in, all_at}
+use Rattle.ror_proof.specs.Words.{first_word, after_word, first_named, name_at, no_more, number_in, small_number_at, numbers_at, pivot_in, all_at}
+use Rattle.ror_report.specs.Desk.{desk_line}
 use Rattle.ror_discriminate.specs.declared.entry.Entry.{Entry}
 use Rattle.ror_discriminate.specs.declared.entry.EntryBody.{EntryBody}
 use Rattle.ror_discriminate.specs.declared.entry.EntryBody.TheVariants as bodies
@@ -27,7 +27,6 @@ use Rattle.ror_discriminate.specs.declared.names.PathName.TheVariants as paths
 use Rattle.ror_discriminate.specs.declared.names.ClimbName.{ClimbName}
 use Rattle.ror_discriminate.specs.declared.names.ClimbName.TheVariants as climbing
 use Rattle.ror_discriminate.specs.EntryNames.{form_word, body_forms, path_word, path_names, climb_word, climb_names}
-use Rattle.ror_discriminate.specs.Head.{desk_line}
 
 -- ---- the words of a line; the number is the place of the line's first byte
 
@@ -54,30 +53,20 @@ path_at place words = do
   more ← after_word place (codes "path") words
   steps_at place more
 
--- the place of this name on a system's path, whose word is before these words
-abbrev pub numbered_at : ℕ → PlaceName → List (List ℕ) → Result (Place × List (List ℕ)) ProofFault
-numbered_at place named.Start words = do
-  entry ← certificates.entry_at place words
-  Ok (places.Start entry.0.0 entry.0.1, entry.1)
-numbered_at place named.Step words = do
-  entry ← certificates.entry_at place words
-  Ok (places.Step entry.0.0 entry.0.1, entry.1)
-numbered_at place named.Denominator words = do
-  row ← small_number_at place words
-  Ok (places.Denominator row.0, row.1)
-numbered_at place named.RowSum words = do
-  row ← small_number_at place words
-  Ok (places.RowSum row.0, row.1)
-numbered_at place named.ColumnSum words = do
-  column ← small_number_at place words
-  Ok (places.ColumnSum column.0, column.1)
+-- the place on a system's path of which a text speaks
+abbrev pub place_of : PlaceText → Place
+place_of (texts.Start row column) = places.Start row column
+place_of (texts.Step row column) = places.Step row column
+place_of (texts.Denominator row) = places.Denominator row
+place_of (texts.RowSum row) = places.RowSum row
+place_of (texts.ColumnSum column) = places.ColumnSum column
 
 unfoldable pub place_at : ℕ → List (List ℕ) → Result (Place × List (List ℕ)) ProofFault
 place_at place words = do
-  name ← name_at place_word place_names place words
-  numbered_at place name.0 name.1
+  text ← certificates.place_at place words
+  Ok (place_of text.0, text.1)
 
--- the same of a climbing path
+-- the place of this name on a climbing path, whose word is before these words
 abbrev pub climbed_at : ℕ → ClimbName → List (List ℕ) → Result (ClimbPlace × List (List ℕ)) ProofFault
 climbed_at place climbing.Start words = do
   entry ← certificates.entry_at place words
@@ -179,8 +168,7 @@ best_at c = do
 
 -- the form for which the first of these words stands
 abbrev pub form_of : List (List ℕ) → Option BodyForm
-form_of [] = None
-form_of (word ∷ words) = name_of form_word body_forms word
+form_of words = first_named form_word body_forms words
 
 -- a body of this form
 abbrev pub formed_at : Option BodyForm → Cursor → Result (EntryBody × Cursor) ProofFault

@@ -11,11 +11,14 @@ use Rattle.ror_pivot.specs.declared.optimum.ClimbNote.{ClimbNote}
 use Rattle.ror_pivot.specs.declared.optimum.ClimbPlace.{ClimbPlace}
 use Rattle.ror_pivot.specs.declared.optimum.ClimbPlace.TheVariants as climbs
 use Rattle.ror_pivot.specs.declared.optimum.Optimum.{Optimum}
-use Rattle.ror_proof.specs.Text.{solution_words, multipliers_words, AreNarrow}
+use Rattle.ror_proof.specs.declared.answer.PlaceText.{PlaceText}
+use Rattle.ror_proof.specs.declared.answer.PlaceText.TheVariants as texts
+use Rattle.ror_proof.specs.Text as certificates
+use Rattle.ror_proof.specs.Text.{solution_words, multipliers_words, place_numbers, AreNarrow}
+use Rattle.ror_report.specs.Desk.{desk_text, is_desk_name}
 use Rattle.ror_discriminate.specs.declared.entry.Entry.{Entry}
 use Rattle.ror_discriminate.specs.declared.entry.EntryBody.{EntryBody}
 use Rattle.ror_discriminate.specs.declared.entry.EntryBody.TheVariants as bodies
-use Rattle.ror_discriminate.specs.Head.{desk_text, is_desk_name}
 
 -- ---- optima
 
@@ -32,13 +35,17 @@ best_text margin total x =
 
 -- ---- numbers too wide
 
+-- a place on a system's path, as a text speaks of it
+abbrev pub text_of : Place → PlaceText
+text_of (places.Start row column) = texts.Start row column
+text_of (places.Step row column) = texts.Step row column
+text_of (places.Denominator row) = texts.Denominator row
+text_of (places.RowSum row) = texts.RowSum row
+text_of (places.ColumnSum column) = texts.ColumnSum column
+
 -- the word of a place, and its numbers
 abbrev pub place_words : Place → List (List ℕ)
-place_words (places.Start row column) = codes "start" ∷ decimal row ∷ decimal column ∷ []
-place_words (places.Step row column) = codes "step" ∷ decimal row ∷ decimal column ∷ []
-place_words (places.Denominator row) = codes "denominator" ∷ decimal row ∷ []
-place_words (places.RowSum row) = codes "rowsum" ∷ decimal row ∷ []
-place_words (places.ColumnSum column) = codes "columnsum" ∷ decimal column ∷ []
+place_words place = certificates.place_words (text_of place)
 
 abbrev pub climb_place_words : ClimbPlace → List (List ℕ)
 climb_place_words (climbs.Start row column) = codes "start" ∷ decimal row ∷ decimal column ∷ []
@@ -85,11 +92,7 @@ abbrev pub IsSmall : ℕ → Type 0
 IsSmall n = n < 2 ^ 32
 
 abbrev pub IsSmallPlace : Place → Type 0
-IsSmallPlace (places.Start row column) = IsSmall row × IsSmall column
-IsSmallPlace (places.Step row column) = IsSmall row × IsSmall column
-IsSmallPlace (places.Denominator row) = IsSmall row
-IsSmallPlace (places.RowSum row) = IsSmall row
-IsSmallPlace (places.ColumnSum column) = IsSmall column
+IsSmallPlace place = AllByRecursion IsSmall (place_numbers (text_of place))
 
 abbrev pub IsSmallClimbPlace : ClimbPlace → Type 0
 IsSmallClimbPlace (climbs.Start row column) = IsSmall row × IsSmall column

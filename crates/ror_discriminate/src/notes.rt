@@ -1,6 +1,6 @@
 //! The readers of notes of numbers that are too wide.
 
-ghost use Rattle.std.specs.Prelude.{IfErr};
+ghost use Rattle.std.specs.Prelude.{◌≡◌, IfErr};
 ghost use Rattle.ror_text.specs.Reading.{Gives};
 ghost use Rattle.ror_proof.specs.Reading.{proof_fault, IsProofFaultWithin};
 ghost use Rattle.ror_discriminate.specs.Reading as reading;
@@ -10,9 +10,8 @@ use crate::entry::EntryBody;
 use crate::names::{CLIMB_NAMES, ClimbName, PathName};
 use crate::words::path_at;
 use ror_pivot::{ClimbNote, ClimbPlace, Place, WideNote};
-use ror_proof::ProofFault;
-use ror_proof::names::{PLACE_NAMES, PlaceName};
-use ror_proof::words::{entry_at, name_at, small_number_at};
+use ror_proof::words::{entry_at, name_at, place_at, small_number_at};
+use ror_proof::{PlaceText, ProofFault};
 use ror_text::Items;
 use ror_text::spaced::Words;
 use std::alloc::Global;
@@ -46,7 +45,7 @@ fn base_note_at(alloc: Global, place: usize, words: Words<'_>) -> Result<WideNot
         (noted_at reading.place_at place words.entry) }
     ensures placed { IfErr result (IsProofFaultWithin place) }
 {
-    let (number, words) = place_at(place, words)?;
+    let (number, words) = base_place_at(place, words)?;
     let path = Items::from(path_at(alloc, place, words)?);
     Ok(WideNote {
         path,
@@ -71,46 +70,25 @@ fn climb_note_at(alloc: Global, place: usize, words: Words<'_>) -> Result<ClimbN
 
 /// The place on a system's path that comes first.
 #[tactic(auto, unfolding(crate::specs::Reading::place_at))]
-fn place_at<'a>(place: usize, words: Words<'a>) -> Result<(Place, Words<'a>), ProofFault>
+fn base_place_at<'a>(place: usize, words: Words<'a>) -> Result<(Place, Words<'a>), ProofFault>
     ensures exact { Gives (λ x. (x.0, x.1)) proof_fault result
         (reading.place_at place words.entry) }
     ensures placed { IfErr result (IsProofFaultWithin place) }
 {
-    let (name, words) = name_at(&PLACE_NAMES, place, words)?;
-    numbered_at(place, name, words)
+    let (text, words) = place_at(place, words)?;
+    Ok((place_of(text), words))
 }
 
-/// The place of this name, whose word is before these words.
-fn numbered_at<'a>(
-    place: usize,
-    name: PlaceName,
-    words: Words<'a>,
-) -> Result<(Place, Words<'a>), ProofFault>
-    ensures exact { Gives (λ x. (x.0, x.1)) proof_fault result
-        (reading.numbered_at place name words.entry) }
-    ensures placed { IfErr result (IsProofFaultWithin place) }
+/// The place on a system's path of which a text speaks.
+fn place_of(text: PlaceText) -> Place
+    ensures { result ≡ reading.place_of text }
 {
-    match name {
-        PlaceName::Start => {
-            let (row, column, words) = entry_at(place, words)?;
-            Ok((Place::Start(row as usize, column as usize), words))
-        }
-        PlaceName::Step => {
-            let (row, column, words) = entry_at(place, words)?;
-            Ok((Place::Step(row as usize, column as usize), words))
-        }
-        PlaceName::Denominator => {
-            let (row, words) = small_number_at(place, words)?;
-            Ok((Place::Denominator(row as usize), words))
-        }
-        PlaceName::RowSum => {
-            let (row, words) = small_number_at(place, words)?;
-            Ok((Place::RowSum(row as usize), words))
-        }
-        PlaceName::ColumnSum => {
-            let (column, words) = small_number_at(place, words)?;
-            Ok((Place::ColumnSum(column as usize), words))
-        }
+    match text {
+        PlaceText::Start(row, column) => Place::Start(row as usize, column as usize),
+        PlaceText::Step(row, column) => Place::Step(row as usize, column as usize),
+        PlaceText::Denominator(row) => Place::Denominator(row as usize),
+        PlaceText::RowSum(row) => Place::RowSum(row as usize),
+        PlaceText::ColumnSum(column) => Place::ColumnSum(column as usize),
     }
 }
 

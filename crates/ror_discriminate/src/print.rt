@@ -8,11 +8,12 @@ ghost use Rattle.ror_proof.specs.Text.{solution_words, multipliers_words};
 ghost use Rattle.ror_discriminate.specs.Text.{base_wide_text, best_text, body_text, climb_place_words, climb_wide_text, entry_text, margin_text, place_words, IsPrintableEntry};
 
 use crate::entry::{Entry, EntryBody};
-use crate::head::write_desk;
-use crate::write::{
-    end_line, write_number, write_numbers, write_path, write_weak_and_strict, write_word,
-};
+use crate::write::write_path;
 use ror_pivot::{ClimbNote, ClimbPlace, Optimum, Place, WideNote};
+use ror_proof::write::{
+    end_line, write_multipliers, write_number, write_numbers, write_weak_and_strict, write_word,
+};
+use ror_report::desk::write_desk;
 use ror_system::{Multipliers, Solution};
 use ror_table::Table;
 use std::alloc::{AllocError, Global};
@@ -70,7 +71,7 @@ fn write_best(
 {
     write_margin(text, margin, total)?;
     write_solution(text, &optimum.solution)?;
-    write_multipliers(text, &optimum.multipliers)
+    write_multipliers_line(text, &optimum.multipliers)
 }
 
 fn write_margin(text: &mut Vec<u8>, margin: i128, total: i128) -> Result<(), AllocError>
@@ -93,7 +94,7 @@ fn write_solution(text: &mut Vec<u8>, solution: &Solution) -> Result<(), AllocEr
     end_line(text)
 }
 
-fn write_multipliers(text: &mut Vec<u8>, multipliers: &Multipliers) -> Result<(), AllocError>
+fn write_multipliers_line(text: &mut Vec<u8>, multipliers: &Multipliers) -> Result<(), AllocError>
     ensures ok { OnOk result (text.new.items ≡ text.old.items
         ++ line_text (multipliers_words multipliers.now.weak multipliers.now.strict)) }
     ensures front { StandsInFront text.old.items text.new.items }
@@ -117,8 +118,7 @@ fn write_contradiction(text: &mut Vec<u8>, multipliers: &Multipliers) -> Result<
     ensures front { StandsInFront text.old.items text.new.items }
 {
     text.extend_from_slice(b"contradiction")?;
-    write_word(text, b"multipliers")?;
-    write_weak_and_strict(text, multipliers)?;
+    write_multipliers(text, multipliers)?;
     end_line(text)
 }
 

@@ -1,6 +1,6 @@
 //! The reader of an entry's text.
 
-ghost use Rattle.std.specs.Prelude.{◌≡◌, ◌≤◌, ◌<◌, length, IfErr, IfOk};
+ghost use Rattle.std.specs.Prelude.{◌≤◌, ◌<◌, length, IfErr, IfOk};
 ghost use Rattle.ror_text.specs.Reading.{Gives};
 ghost use Rattle.ror_text.specs.Cursor.{cursor_at, line_words};
 ghost use Rattle.ror_proof.specs.Reading.{ended, proof_fault, IsProofFaultWithin};
@@ -9,16 +9,16 @@ ghost use Rattle.ror_discriminate.specs.Reading.{entry_at};
 ghost use Rattle.ror_discriminate.specs.Text.{IsPrintableEntry};
 
 use crate::entry::{Entry, EntryBody};
-use crate::head::desk_line;
 use crate::names::{BODY_FORMS, BodyForm, PATH_NAMES};
 use crate::notes::note_of;
 use crate::words::number_at;
 use ror_pivot::Optimum;
 use ror_proof::ProofFault;
-use ror_proof::names::named;
-use ror_proof::words::{after_word, name_at, no_more, numbers_at, refutation_at};
+use ror_proof::words::{after_word, first_named, name_at, no_more, numbers_at, refutation_at};
+use ror_report::desk::desk_line;
 use ror_system::{Multipliers, Solution};
 use ror_table::Table;
+use ror_text::Text;
 use ror_text::reading::need;
 use ror_text::spaced::{Words, line_at};
 use std::alloc::Global;
@@ -44,7 +44,8 @@ pub fn read_entry(
     ensures within { IfOk result (λ x. x.1 ≤ length bytes.now) }
     ensures placed { IfErr result (IsProofFaultWithin (length bytes.now)) }
 {
-    let (desk, next) = desk_line(alloc, bytes, from)?;
+    let (name, next) = desk_line(bytes, from)?;
+    let desk = Text::copied(alloc, name)?;
     let (body, next) = body_at(alloc, bytes, next)?;
     Ok((Entry { desk, body }, next))
 }
@@ -59,23 +60,13 @@ fn body_at(alloc: Global, bytes: &[u8], from: usize) -> Result<(EntryBody, usize
     ensures within { IfOk result (λ x. x.1 ≤ length bytes.now) }
     ensures placed { IfErr result (IsProofFaultWithin (length bytes.now)) }
 {
-    match form_at(bytes, from) {
+    match first_named(&BODY_FORMS, bytes, from) {
         Some(BodyForm::Best) => best_at(alloc, bytes, from),
         Some(BodyForm::NoStrictRow) => none_line(bytes, from),
         Some(BodyForm::Contradiction) => contradiction_line(alloc, bytes, from),
         Some(BodyForm::Wide) => wide_line(alloc, bytes, from),
         None => Err(ProofFault::BadLine(from)),
     }
-}
-
-/// The form for which the first word of the line at a place stands.
-fn form_at(bytes: &[u8], from: usize) -> Option<BodyForm>
-    requires { from ≤ length bytes.now }
-    ensures { result ≡ reading.form_of (line_words (cursor_at bytes.now from)) }
-{
-    let (line, _) = line_at(bytes, from);
-    let (word, _) = Words::of(line).next()?;
-    named(&BODY_FORMS, word)
 }
 
 /// The lines of a margin, of a solution and of multipliers, and where the next line begins.

@@ -17,6 +17,7 @@ use Rattle.ror_proof.specs.Text.{answer_text}
 use Rattle.ror_proof.specs.Reading.{begins_part}
 use Rattle.ror_proof.specs.Words.{after_word, name_at, no_more}
 use Rattle.ror_proof.proofs.WordLemmas.{after_word_again, after_word_sound, no_more_sound, name_again, name_sound, done, ok_is}
+use Rattle.ror_report.proofs.AnswerRuns.{EndsAnswers}
 use Rattle.ror_report.proofs.LineForms.{line_reads_back, line_is_read, some_bytes}
 use Rattle.ror_group.specs.declared.entry.Entry.{Entry}
 use Rattle.ror_group.specs.declared.quartet.Quartet.{Quartet}
@@ -173,14 +174,17 @@ ends_at_group q rest =
     let begins = group_begins q in
     ap (λ (l : List ℕ). ends_answers (l ++ rest)) begins.1 ∙ ends_at_begun (begins.0 ++ rest)
 
-pub goes_on_at_answer : (more : List ℕ) → ends_answers (codes "answer " ++ more) ≡ false
+goes_on_at_answer : (more : List ℕ) → ends_answers (codes "answer " ++ more) ≡ false
 goes_on_at_answer more = rw (some_bytes 97 (codes "nswer " ++ more)) refl
 
 -- what ends the answers is no part
-pub ends_no_part : (rest : List ℕ) → ends_answers rest ≡ true → begins_part rest ≡ false
+ends_no_part : (rest : List ℕ) → ends_answers rest ≡ true → begins_part rest ≡ false
 ends_no_part [] ends = refl
 ends_no_part (b ∷ bs) ends =
     elim (cases_Bool (eqb 112 b)) [
       | inl hit ↦ absurd (let no = rw (← (eqb-true 112 b hit), some_bytes 112 bs) at ends in cc)
       | inr miss ↦ rw miss refl
     ]
+
+pub entry_ends : EndsAnswers ends_answers
+entry_ends = record { goes_on = goes_on_at_answer; no_part = ends_no_part; at_end = refl }

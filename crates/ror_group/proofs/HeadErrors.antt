@@ -5,34 +5,33 @@ use Rattle.std.specs.List.{starts_with}
 use Rattle.std.specs.Str.{bytes_eq}
 use Rattle.std.proofs.lemmas.Bool.{cases_Bool, cond-true, cond-false, ne_eqb, not-true, not-false}
 use Rattle.std.proofs.lemmas.Bool.Decides.{Decides-eqb}
-use Rattle.std.proofs.lemmas.Slice.Eq.{starts_is, bytes_eq-Decides}
-use Rattle.ror_text.specs.Cursor.{Cursor, cursor_at, line_words, line_after}
-use Rattle.ror_text.specs.Reading.{◌>>=◌, need, refuse}
+use Rattle.std.proofs.lemmas.Slice.Eq.{bytes_eq-Decides}
+use Rattle.ror_text.specs.Cursor.{Cursor, cursor_at, line_words}
+use Rattle.ror_text.specs.Reading.{◌>>=◌, refuse}
 use Rattle.ror_text.proofs.CursorLemmas.{line_spans}
 use Rattle.ror_text.proofs.ListLemmas.{bytes_same}
-use Rattle.ror_text.proofs.ReadingLemmas.{bind_err, refuse_ok, refuse_err, need_err}
+use Rattle.ror_text.proofs.ReadingLemmas.{bind_err, refuse_ok, refuse_err}
 use Rattle.ror_table.specs.Table.{DecisionTable}
 use Rattle.ror_proof.specs.declared.read.ProofFault.{ProofFault}
 use Rattle.ror_proof.specs.declared.read.ProofFault.TheVariants.{BadLine}
-use Rattle.ror_proof.specs.Reading.{ended}
-use Rattle.ror_proof.specs.Words.{after_word, no_more}
 use Rattle.ror_proof.proofs.LineFaults.{line_fails}
 use Rattle.ror_proof.proofs.WordFaults.{no_fault}
-use Rattle.ror_proof.proofs.WordLemmas.{done}
 use Rattle.ror_report.specs.Faults.{expected_number}
 use Rattle.ror_report.specs.Reading.{numbered_line}
 use Rattle.ror_report.proofs.FormFaults.{number_reads}
 use Rattle.ror_report.proofs.LineForms.{line_is_read, numbered_again, numbered_sound}
 use Rattle.ror_group.specs.declared.head.HeadFault.{HeadFault}
 use Rattle.ror_group.specs.declared.head.HeadFault.TheVariants.{Line, WrongBlock}
-use Rattle.ror_group.specs.Head.{header_text, desk_words, is_desk_name, in_line, name_in, name_words, desk_line, begins_desk, desk_at, desks_at, count_at, head_at, no_desk_at, whole_head_at}
+use Rattle.ror_report.specs.Desk.{desk_words, name_words, desk_line}
+use Rattle.ror_report.proofs.DeskLemmas.{dropped, begun, begins_split, name_words_sound, desk_err}
+use Rattle.ror_group.specs.Head.{header_text, in_line, begins_desk, desk_at, desks_at, count_at, head_at, no_desk_at, whole_head_at}
 use Rattle.ror_group.specs.HeadFaults.{SaysDesks, IsDeskLine, IsNoDeskLine, IsFaultOfCount, IsFaultOfDesk, IsFaultOfDesks, IsFaultOfExtra, behind_header, IsFaultOfHead, IsFaultOfWholeHead}
 use Rattle.ror_group.specs.HeadFaults.IsFaultOfCount.{bad_count, other_count}
 use Rattle.ror_group.specs.HeadFaults.IsFaultOfDesk.{left_out, bad_desk, other_desk}
 use Rattle.ror_group.specs.HeadFaults.IsFaultOfExtra.{bad_extra, one_too_many}
 use Rattle.ror_group.specs.HeadFaults.IsFaultOfHead.{in_header, in_count, in_desks}
 use Rattle.ror_group.specs.HeadFaults.IsFaultOfWholeHead.{in_head, behind_head}
-use Rattle.ror_group.proofs.HeadLemmas.{name_words_sound, in_line_ok, desk_is_read, matched, desk_sound, same_number, counted, count_sound, dropped, begun, head_again, head_is_text}
+use Rattle.ror_group.proofs.HeadLemmas.{in_line_ok, desk_is_read, matched, desk_sound, same_number, counted, count_sound, head_again, head_is_text}
 
 -- ---- the line of a desk
 
@@ -51,46 +50,6 @@ desk_reads c name after line =
     ap (λ (r : List ℕ). desk_line (record { place = c.place; rest = r })) line.text
     ∙ (desk_is_read c.place name after.rest line.allowed).reads
     ∙ ap (λ (n : ℕ). Ok (name, record { place = n; rest = after.rest })) (sym line.place)
-
-word_err : (place : ℕ) (expected : List ℕ) (words : List (List ℕ)) (f : ProofFault) → after_word place expected words ≡ Err f → f ≡ BadLine place
-unfolding after_word
-word_err place expected [] f e = cc
-word_err place expected (word ∷ more) f e = elim (cases_Bool (bytes_eq word expected)) [
-  | inl is ↦ absurd (no_fault more f (sym (cond-true _ _ _ is) ∙ e))
-  | inr is ↦ let other = sym (cond-false _ _ _ is) ∙ e in cc
-]
-
-name_err : (place : ℕ) (more : List (List ℕ)) (f : ProofFault) → name_in place more ≡ Err f → f ≡ BadLine place
-unfolding name_in
-name_err place [] f e = absurd (no_fault _ f e)
-name_err place (name ∷ more) f e = elim (bind_err (refuse (BadLine place) (eqb (length name) 0)) (λ _. refuse (BadLine place) (not (is_desk_name name)) >>= λ _. no_more place more >>= λ _. done name) f e) [
-  | inl here ↦ (refuse_err (BadLine place) f _ here).1
-  | inr a ↦ elim (bind_err (refuse (BadLine place) (not (is_desk_name name))) (λ _. no_more place more >>= λ _. done name) f a.2) [
-    | inl here ↦ (refuse_err (BadLine place) f _ here).1
-    | inr b ↦ elim (bind_err (no_more place more) (λ _. done name) f b.2) [
-      | inl here ↦ more_err place more f here
-      | inr d ↦ absurd (no_fault _ f d.2)
-    ]
-  ]
-]
-  where
-    more_err : (place : ℕ) (more : List (List ℕ)) (f : ProofFault) → no_more place more ≡ Err f → f ≡ BadLine place
-    more_err place [] f e = absurd (no_fault _ f e)
-    more_err place (word ∷ more) f e = cc
-
--- each fault of a desk's line is that of a bad line
-desk_err : (c : Cursor) (f : ProofFault) → desk_line c ≡ Err f → f ≡ BadLine c.place
-unfolding ended name_words
-desk_err c f e = elim (bind_err (name_words c.place (line_words c)) (λ name. need (BadLine c.place) (line_after c) >>= λ next. done (name, next)) f e) [
-  | inl here ↦ elim (bind_err (after_word c.place (codes "desk") (line_words c)) (λ more. name_in c.place more) f here) [
-    | inl first ↦ word_err c.place (codes "desk") (line_words c) f first
-    | inr a ↦ name_err c.place a.0 f a.2
-  ]
-  | inr a ↦ elim (bind_err (need (BadLine c.place) (line_after c)) (λ next. done (a.0, next)) f a.2) [
-    | inl here ↦ (need_err (BadLine c.place) f (line_after c) here).1
-    | inr b ↦ absurd (no_fault _ f b.2)
-  ]
-]
 
 no_desk : (c : Cursor) (f : ProofFault) → desk_line c ≡ Err f → IsNoDeskLine c
 no_desk c f e name after line = let read = desk_reads c name after line in no_fault _ f (sym read ∙ e)
@@ -201,9 +160,6 @@ count_goes n c after says = rw (says_reads n c after says, same_number n) refl
 
 -- ---- whole heads
 
-header_split : (bytes : List ℕ) → starts_with nat_eq bytes header_text ≡ true → bytes ≡ header_text ++ drop (length header_text) bytes
-header_split bytes begins = (starts_is Decides-eqb bytes header_text (starts_with nat_eq bytes header_text) refl).0 begins
-
 header_there : (bytes rest : List ℕ) → bytes ≡ header_text ++ rest → starts_with nat_eq bytes header_text ≡ true
 header_there bytes rest is = ap (λ (l : List ℕ). starts_with nat_eq l header_text) is ∙ begun header_text rest
 
@@ -212,7 +168,7 @@ header_behind bytes rest is = ap (λ (l : List ℕ). record { place = length hea
 
 no_header : (bytes : List ℕ) → ((rest : List ℕ) → bytes ≡ header_text ++ rest → ⊥) → starts_with nat_eq bytes header_text ≡ false
 no_header bytes none = elim (cases_Bool (starts_with nat_eq bytes header_text)) [
-  | inl is ↦ absurd (none (drop (length header_text) bytes) (header_split bytes is))
+  | inl is ↦ absurd (none (drop (length header_text) bytes) (begins_split bytes header_text is))
   | inr is ↦ is
 ]
 
@@ -223,7 +179,7 @@ head_err t names bytes f e = elim (bind_err (refuse (Line (BadLine 0)) (not (sta
   | inr a ↦
       let begins : starts_with nat_eq bytes header_text ≡ true = not-false _ (refuse_ok _ _ a.0 a.1) in
       let rest = drop (length header_text) bytes in
-      let split = header_split bytes begins in
+      let split = begins_split bytes header_text begins in
       elim (bind_err (count_at (length names) (cursor_at bytes (length header_text))) (λ desks. desks_at names desks) f a.2) [
         | inl here ↦ in_count rest split (count_err t (length names) (behind_header rest) f here)
         | inr b ↦ in_desks rest b.0 split (count_read (length names) (behind_header rest) b.0 b.1) (desks_err names b.0 f b.2)

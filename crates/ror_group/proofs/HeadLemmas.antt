@@ -1,32 +1,31 @@
 -- Heads as texts, both ways, and the lines of desks read one after the other.
-use Rattle.std.proofs.Common.{◌≡◌, ℕ, zero, inl, inr, suc, ◌+◌, ◌<◌, ◌≤◌, ◌^◌, true, false, not, eqb, ◌&&◌, List, [], ◌∷◌, ◌++◌, length, drop, get_or, Result, Ok, Err, refl, sym, ap, subst, ◌∙◌, append_assoc, arith, length-append, drop-cons}
-use Rattle.std.specs.Prelude.{codes, nat_eq, nat_le, IfSome}
-use Rattle.std.specs.List.{flat_map, list_any, starts_with, AllByRecursion}
+use Rattle.std.proofs.Common.{◌≡◌, ℕ, zero, inl, inr, suc, ◌+◌, ◌<◌, ◌≤◌, ◌^◌, true, false, not, eqb, List, [], ◌∷◌, ◌++◌, length, drop, get_or, Result, Ok, Err, refl, sym, ap, subst, ◌∙◌, append_assoc, arith, length-append, drop-cons}
+use Rattle.std.specs.Prelude.{codes, nat_eq, IfSome}
+use Rattle.std.specs.List.{flat_map, starts_with, AllByRecursion}
 use Rattle.std.specs.Str.{IsUtf8, bytes_eq, is_utf8}
-use Rattle.std.proofs.lemmas.Bool.{and_from, and_parts, ne_eqb, eqb-true, not-true, not-false, or_parts, cases_Bool, cond-true, cond-false}
+use Rattle.std.proofs.lemmas.Bool.{and_from, eqb-true, not-false, cases_Bool, cond-true, cond-false}
 use Rattle.std.proofs.lemmas.Bool.Decides.{Decides-eqb}
 use Rattle.std.proofs.lemmas.List.{drop_all}
-use Rattle.std.proofs.lemmas.Str.{IsUtf8-nil, is_utf8-from_IsUtf8}
-use Rattle.std.proofs.lemmas.Slice.Eq.{starts_is, bytes_eq-Decides}
+use Rattle.std.proofs.lemmas.Str.{is_utf8-from_IsUtf8}
+use Rattle.std.proofs.lemmas.Slice.Eq.{bytes_eq-Decides}
 use Rattle.ror_text.specs.Cursor.{Cursor, cursor_at, line_words}
-use Rattle.ror_text.specs.Lines.{is_control, has_control}
 use Rattle.ror_text.specs.Reading.{◌>>=◌, refuse}
 use Rattle.ror_text.specs.SpacedLines.{is_word, are_words}
 use Rattle.ror_text.proofs.CursorLemmas.{Spans, spans_then, line_again, line_spans}
-use Rattle.ror_text.proofs.IdLemmas.{visible_is_word}
 use Rattle.ror_text.proofs.ListLemmas.{bytes_same}
 use Rattle.ror_text.proofs.ReadingLemmas.{bind_ok, refuse_ok, gives_exit}
-use Rattle.ror_session.specs.declared.limits.TheConstants.{MOST_DESK_NAME_BYTES}
 use Rattle.ror_proof.specs.declared.read.ProofFault.{ProofFault}
 use Rattle.ror_proof.specs.declared.read.ProofFault.TheVariants as lines
-use Rattle.ror_proof.specs.Words.{after_word, no_more}
-use Rattle.ror_proof.proofs.WordLemmas.{after_word_again, after_word_sound, no_more_sound, done, ok_is}
+use Rattle.ror_proof.proofs.WordLemmas.{done}
 use Rattle.ror_report.specs.Reading.{numbered_line}
 use Rattle.ror_report.specs.Text.{numbered_text}
-use Rattle.ror_report.proofs.LineForms.{line_reads_back, line_is_read, numbered_again, numbered_sound}
+use Rattle.ror_report.proofs.LineForms.{line_is_read, numbered_again, numbered_sound}
 use Rattle.ror_group.specs.declared.head.HeadFault.{HeadFault}
 use Rattle.ror_group.specs.declared.head.HeadFault.TheVariants as faults
-use Rattle.ror_group.specs.Head.{header_text, desk_words, desk_text, head_text, is_visible_name, is_desk_name, head_fault, in_line, name_in, name_words, desk_line, begins_desk, desk_at, desks_at, count_at, head_at, no_desk_at, whole_head_at, IsHeadText}
+use Rattle.ror_report.specs.Desk.{desk_words, desk_text, is_visible_name, is_desk_name, name_words, desk_line}
+use Rattle.ror_report.proofs.DeskLemmas as desks
+use Rattle.ror_report.proofs.DeskLemmas.{dropped, begun, begins_split, name_is_word, name_words_sound}
+use Rattle.ror_group.specs.Head.{header_text, head_text, head_fault, in_line, begins_desk, desk_at, desks_at, count_at, head_at, no_desk_at, whole_head_at, IsHeadText}
 
 -- ---- the loop
 
@@ -56,42 +55,6 @@ desks_end names i c whole past so_far = sym so_far ∙ ap (λ (ns : List (List �
 
 -- ---- names
 
-name_is_word : (name : List ℕ) → is_desk_name name ≡ true → is_word name ≡ true
-name_is_word name is =
-    let parts = and_parts (nat_le (length name) MOST_DESK_NAME_BYTES && not (has_control (name ∷ []))) (is_utf8 name) is in
-    let visible = not-true _ (and_parts (nat_le (length name) MOST_DESK_NAME_BYTES) (not (has_control (name ∷ []))) parts.0).1 in
-    visible_is_word name (or_parts (list_any is_control name) false visible).0
-
-name_words_again : (place : ℕ) (name : List ℕ) → is_desk_name name ≡ true → name_words place (desk_words name) ≡ Ok name
-unfolding name_words name_in
-name_words_again place [] is = rw (after_word_again place (codes "desk") []) refl
-name_words_again place (b ∷ bs) is =
-    let some : eqb (length (b ∷ bs)) 0 ≡ false = ne_eqb (length (b ∷ bs)) 0 (λ (e : length (b ∷ bs) ≡ 0). omega arith) in
-    rw (after_word_again place (codes "desk") ((b ∷ bs) ∷ []), some, is) refl
-
-nameless : is_desk_name [] ≡ true
-nameless = let utf8 : is_utf8 [] ≡ true = is_utf8-from_IsUtf8 [] IsUtf8-nil in rw utf8 refl
-
-name_in_sound : (place : ℕ) (more : List (List ℕ)) (name : List ℕ) → name_in place more ≡ Ok name → (codes "desk" ∷ more ≡ desk_words name) × (is_desk_name name ≡ true)
-unfolding name_in
-name_in_sound place [] name e = subst (λ (n : List ℕ). (codes "desk" ∷ [] ≡ desk_words n) × (is_desk_name n ≡ true)) (ok_is [] name e) (refl, nameless)
-name_in_sound place ([] ∷ more) name e = absurd cc
-name_in_sound place ((b ∷ bs) ∷ more) name e =
-    let word = b ∷ bs in
-    let a = bind_ok (refuse (lines.BadLine place) (eqb (length word) 0)) (λ _. refuse (lines.BadLine place) (not (is_desk_name word)) >>= λ _. no_more place more >>= λ _. done word) name e in
-    let d = bind_ok (refuse (lines.BadLine place) (not (is_desk_name word))) (λ _. no_more place more >>= λ _. done word) name a.2 in
-    let f = bind_ok (no_more place more) (λ _. done word) name d.2 in
-    let is : is_desk_name word ≡ true = not-false _ (refuse_ok _ _ d.0 d.1) in
-    let none : more ≡ [] = no_more_sound place more f.0 f.1 in
-    subst (λ (n : List ℕ). (codes "desk" ∷ word ∷ more ≡ desk_words n) × (is_desk_name n ≡ true)) (ok_is word name f.2) (ap (λ (ws : List (List ℕ)). codes "desk" ∷ word ∷ ws) none, is)
-
-pub name_words_sound : (place : ℕ) (ws : List (List ℕ)) (name : List ℕ) → name_words place ws ≡ Ok name → (ws ≡ desk_words name) × (is_desk_name name ≡ true)
-unfolding name_words
-name_words_sound place ws name e =
-    let a = bind_ok (after_word place (codes "desk") ws) (λ more. name_in place more) name e in
-    let said = name_in_sound place a.0 name a.2 in
-    (after_word_sound place (codes "desk") ws a.0 a.1 ∙ said.0, said.1)
-
 -- a visible name that is UTF-8 is one that a session may have
 pub name_allowed : (name : List ℕ) → is_visible_name name ≡ true → IsUtf8 name → is_desk_name name ≡ true
 name_allowed name visible utf8 = and_from (is_visible_name name) (is_utf8 name) visible (is_utf8-from_IsUtf8 name utf8)
@@ -113,16 +76,10 @@ pub record IsReadDesk (place : ℕ) (name rest : List ℕ) : Type 0 where
   pub reads : desk_line (record { place = place; rest = desk_text name ++ rest }) ≡ Ok (name, record { place = place + length (desk_text name); rest = rest })
 
 pub desk_is_read : (place : ℕ) (name rest : List ℕ) → is_desk_name name ≡ true → IsReadDesk place name rest
-desk_is_read place [] rest is = record {
-  begins = ap begins_desk (line_again place (codes "desk") [] rest refl).0;
-  reads = line_reads_back name_words [] place (codes "desk") [] rest refl (name_words_again place [] is);
-}
+desk_is_read place [] rest is = record { begins = ap begins_desk (line_again place (codes "desk") [] rest refl).0; reads = desks.desk_again place [] rest is }
 desk_is_read place (b ∷ bs) rest is =
     let are : are_words (codes "desk" ∷ (b ∷ bs) ∷ []) ≡ true = and_from (is_word (codes "desk")) _ refl (and_from _ _ (name_is_word (b ∷ bs) is) refl) in
-    record {
-      begins = ap begins_desk (line_again place (codes "desk") ((b ∷ bs) ∷ []) rest are).0;
-      reads = line_reads_back name_words (b ∷ bs) place (codes "desk") ((b ∷ bs) ∷ []) rest are (name_words_again place (b ∷ bs) is);
-    }
+    record { begins = ap begins_desk (line_again place (codes "desk") ((b ∷ bs) ∷ []) rest are).0; reads = desks.desk_again place (b ∷ bs) rest is }
 
 desk_again : (place : ℕ) (name rest : List ℕ) → is_desk_name name ≡ true → desk_at name (record { place = place; rest = desk_text name ++ rest }) ≡ Ok (record { place = place + length (desk_text name); rest = rest })
 unfolding desk_at
@@ -197,13 +154,6 @@ count_sound n c after e =
 
 -- ---- whole heads
 
-pub dropped : (front more : List ℕ) → drop (length front) (front ++ more) ≡ more
-dropped [] more = refl
-dropped (b ∷ bs) more = dropped bs more
-
-pub begun : (front more : List ℕ) → starts_with nat_eq (front ++ more) front ≡ true
-begun front more = (starts_is Decides-eqb (front ++ more) front (starts_with nat_eq (front ++ more) front) refl).1 more refl
-
 head_step : (names : List (List ℕ)) (bytes : List ℕ) (desks after : Cursor) → starts_with nat_eq bytes header_text ≡ true → count_at (length names) (cursor_at bytes (length header_text)) ≡ Ok desks → desks_at names desks ≡ Ok after → head_at names bytes ≡ Ok after
 unfolding head_at
 head_step names bytes desks after begins count read = rw (begins, count, read) refl
@@ -229,7 +179,7 @@ head_is_text names bytes after e =
     let a = bind_ok (refuse (faults.Line (lines.BadLine 0)) (not (starts_with nat_eq bytes header_text))) (λ _. count_at (length names) (cursor_at bytes (length header_text)) >>= λ desks. desks_at names desks) after e in
     let b = bind_ok (count_at (length names) (cursor_at bytes (length header_text))) (λ desks. desks_at names desks) after a.2 in
     let begins : starts_with nat_eq bytes header_text ≡ true = not-false _ (refuse_ok _ _ a.0 a.1) in
-    let header : bytes ≡ header_text ++ drop (length header_text) bytes = (starts_is Decides-eqb bytes header_text (starts_with nat_eq bytes header_text) refl).0 begins in
+    let header : bytes ≡ header_text ++ drop (length header_text) bytes = begins_split bytes header_text begins in
     let count = count_sound (length names) (cursor_at bytes (length header_text)) b.0 b.1 in
     let desks = desks_sound names b.0 after b.2 in
     let start : Cursor = record { place = 0; rest = bytes } in

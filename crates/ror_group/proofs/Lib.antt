@@ -1,7 +1,6 @@
 pub mod Groups
 pub mod WideWords
 pub mod Pairs
-pub mod AnswerLoops
 pub mod EntryLines
 pub mod EntryLemmas
 pub mod EntryUtf8

@@ -1,12 +1,11 @@
 -- The fault of an entry: that of its first faulty word, in its first faulty line.
-use Rattle.std.specs.Prelude.{◌≡◌, ℕ, List, [], ◌∷◌, map, codes, true, false}
+use Rattle.std.specs.Prelude.{ℕ, List, [], ◌∷◌, map, codes}
 use Rattle.ror_text.specs.Cursor.{Cursor}
 use Rattle.ror_table.specs.Table.{DecisionTable}
-use Rattle.ror_proof.specs.declared.answer.Answer.{Answer}
 use Rattle.ror_proof.specs.declared.read.ProofFault.{ProofFault}
-use Rattle.ror_proof.specs.Expected.{Expected, IsLine, IsFaultOfLine, IsFaultOfAnswer}
+use Rattle.ror_proof.specs.Expected.{Expected, IsLine, IsFaultOfLine}
 use Rattle.ror_proof.specs.Expected.Expected.{the_word, one_of, an_id, the_end}
-use Rattle.ror_proof.specs.Laws.{IsAnswerText}
+use Rattle.ror_report.specs.Faults.{AreAnswerTexts, IsFaultOfAnswers}
 use Rattle.ror_group.specs.Reading.{ends_answers}
 use Rattle.ror_group.specs.Text.{group_word, group_words}
 
@@ -28,24 +27,11 @@ expected_group words =
     ∷ the_end
     ∷ []
 
--- from here on stand texts of answers, after which they end
-pub data AreAnswerTexts (t : DecisionTable) (after : Cursor) : Cursor → Type 0 where
-  no_answer : (c : Cursor) → ends_answers c.rest ≡ true → c ≡ after → AreAnswerTexts t after c
-  one_answer : (c next : Cursor) (x : Answer) → ends_answers c.rest ≡ false
-      → IsAnswerText t c x next → AreAnswerTexts t after next → AreAnswerTexts t after c
-
--- the fault of the first faulty answer
-pub data IsFaultOfAnswers (t : DecisionTable) (fault : ProofFault) : Cursor → Type 0 where
-  this_answer : (c : Cursor) → ends_answers c.rest ≡ false → IsFaultOfAnswer t c fault
-      → IsFaultOfAnswers t fault c
-  later_answer : (c next : Cursor) (x : Answer) → ends_answers c.rest ≡ false
-      → IsAnswerText t c x next → IsFaultOfAnswers t fault next → IsFaultOfAnswers t fault c
-
 -- the fault of the entry that begins here: of the line that names the pair, of an answer, or of the line of the words
 pub data IsFaultOfEntry (t : DecisionTable) (c : Cursor) (fault : ProofFault) : Type 0 where
   in_pair : IsFaultOfLine t expected_pair c fault → IsFaultOfEntry t c fault
   in_answers : (answers : Cursor) → IsLine t expected_pair c answers
-      → IsFaultOfAnswers t fault answers → IsFaultOfEntry t c fault
+      → IsFaultOfAnswers ends_answers t fault answers → IsFaultOfEntry t c fault
   in_group : (answers group : Cursor) → IsLine t expected_pair c answers
-      → AreAnswerTexts t group answers → IsFaultOfLine t expected_group group fault
+      → AreAnswerTexts ends_answers t group answers → IsFaultOfLine t expected_group group fault
       → IsFaultOfEntry t c fault

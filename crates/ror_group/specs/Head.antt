@@ -1,16 +1,15 @@
 -- The head of a group's report: its one text, and reading it against the desks whose report it is to be.
-use Rattle.std.specs.Prelude.{◌≡◌, ℕ, ◌<◌, ◌^◌, Bool, not, ◌&&◌, true, false, List, [], ◌∷◌, ◌++◌, length, codes, nat_eq, nat_le, ◌==◌, if◌then◌else◌, Option, Some, None, Result, Ok, Err}
+use Rattle.std.specs.Prelude.{◌≡◌, ℕ, ◌<◌, ◌^◌, Bool, not, true, false, List, [], ◌∷◌, ◌++◌, length, codes, nat_eq, ◌==◌, if◌then◌else◌, Option, Some, None, Result, Ok, Err}
 use Rattle.std.specs.List.{flat_map, starts_with, AllByRecursion}
-use Rattle.std.specs.Str.{bytes_eq, is_utf8}
+use Rattle.std.specs.Str.{bytes_eq}
 use Rattle.ror_text.specs.Cursor.{Cursor, cursor_at, line_words}
-use Rattle.ror_text.specs.Lines.{has_control}
 use Rattle.ror_text.specs.Reading.{◌>>=◌, refuse}
 use Rattle.ror_text.specs.SpacedLines.{line_text}
-use Rattle.ror_session.specs.declared.limits.TheConstants.{MOST_DESK_NAME_BYTES}
 use Rattle.ror_proof.specs.declared.read.ProofFault.{ProofFault}
 use Rattle.ror_proof.specs.declared.read.ProofFault.TheVariants as lines
-use Rattle.ror_proof.specs.Reading.{ended, IsProofFaultWithin}
-use Rattle.ror_proof.specs.Words.{after_word, no_more}
+use Rattle.ror_proof.specs.Reading.{IsProofFaultWithin}
+pub use Rattle.ror_report.specs.Desk.{desk_text, is_visible_name, is_desk_name}
+use Rattle.ror_report.specs.Desk.{desk_line}
 use Rattle.ror_report.specs.Reading.{numbered_line}
 use Rattle.ror_report.specs.Text.{numbered_text}
 use Rattle.ror_group.specs.declared.head.HeadFault.{HeadFault}
@@ -21,25 +20,9 @@ use Rattle.ror_group.specs.declared.head.HeadFault.TheVariants as faults
 unfoldable pub header_text : List ℕ
 header_text = line_text (codes "ror-group" ∷ codes "1" ∷ [])
 
--- the words of a desk's line: those of the one without a name are `desk` alone
-abbrev pub desk_words : List ℕ → List (List ℕ)
-desk_words [] = codes "desk" ∷ []
-desk_words (byte ∷ bytes) = codes "desk" ∷ (byte ∷ bytes) ∷ []
-
-abbrev pub desk_text : List ℕ → List ℕ
-desk_text name = line_text (desk_words name)
-
 -- the first line, the line of the number of desks, and a line for each
 unfoldable pub head_text : List (List ℕ) → List ℕ
 head_text names = header_text ++ (numbered_text (codes "desks") (length names) ++ flat_map desk_text names)
-
--- the name is not too long, and has no blank and no control character
-abbrev pub is_visible_name : List ℕ → Bool
-is_visible_name name = nat_le (length name) MOST_DESK_NAME_BYTES && not (has_control (name ∷ []))
-
--- a session may have a desk of this name, which is UTF-8 besides
-abbrev pub is_desk_name : List ℕ → Bool
-is_desk_name name = is_visible_name name && is_utf8 name
 
 -- ---- the reading
 
@@ -57,25 +40,6 @@ IsHeadFaultWithin n faults.WrongBlock = Unit {0}
 abbrev pub in_line : {A : Type 0} → Result A ProofFault → Result A HeadFault
 in_line (Ok x) = Ok x
 in_line (Err fault) = Err (faults.Line fault)
-
--- the name after the word `desk`, which is not empty where it is there
-unfoldable pub name_in : ℕ → List (List ℕ) → Result (List ℕ) ProofFault
-name_in place [] = Ok []
-name_in place (name ∷ more) = do
-  _ ← refuse (lines.BadLine place) (length name == 0)
-  _ ← refuse (lines.BadLine place) (not (is_desk_name name))
-  _ ← no_more place more
-  Ok name
-
--- the words of a desk's line
-unfoldable pub name_words : ℕ → List (List ℕ) → Result (List ℕ) ProofFault
-name_words place words = do
-  more ← after_word place (codes "desk") words
-  name_in place more
-
--- the name in a desk's line, and where the next line begins
-abbrev pub desk_line : Cursor → Result (List ℕ × Cursor) ProofFault
-desk_line c = ended c (name_words c.place (line_words c))
 
 -- the first word of the line is `desk`
 abbrev pub begins_desk : List (List ℕ) → Bool

@@ -1,5 +1,5 @@
 -- Reading an entry: what it is and where it ends, or the first fault.
-use Rattle.std.specs.Prelude.{ℕ, zero, suc, Bool, ◌||◌, List, [], ◌∷◌, length, Result, Ok, codes, nat_eq, ◌==◌, if◌then◌else◌}
+use Rattle.std.specs.Prelude.{ℕ, Bool, ◌||◌, List, length, Result, Ok, codes, nat_eq, ◌==◌}
 use Rattle.std.specs.List.{starts_with}
 use Rattle.ror_text.specs.Cursor.{Cursor, line_words}
 use Rattle.ror_text.specs.Reading.{◌>>=◌}
@@ -7,8 +7,9 @@ use Rattle.ror_table.specs.Table.{DecisionTable}
 use Rattle.ror_proof.specs.declared.answer.Answer.{Answer}
 use Rattle.ror_proof.specs.declared.read.ProofFault.{ProofFault}
 use Rattle.ror_proof.specs.Questions.{alternative_at}
-use Rattle.ror_proof.specs.Reading.{answer_at, ended}
+use Rattle.ror_proof.specs.Reading.{ended}
 use Rattle.ror_proof.specs.Words.{after_word, name_at, no_more}
+use Rattle.ror_report.specs.Reading.{answers_until}
 use Rattle.ror_group.specs.declared.entry.Entry.{Entry}
 use Rattle.ror_group.specs.declared.quartet.Quartet.{Quartet}
 use Rattle.ror_group.specs.Text.{group_word, group_words}
@@ -54,12 +55,8 @@ abbrev pub ends_answers : List ℕ → Bool
 ends_answers bytes = length bytes == 0 || begins_group bytes
 
 -- these answers, and so many at most
-unfoldable pub entry_answers : DecisionTable → ℕ → Cursor → Result (List Answer × Cursor) ProofFault
-entry_answers t zero c = Ok ([], c)
-entry_answers t (suc most) c = if ends_answers c.rest then Ok ([], c) else (do
-  first ← answer_at t c
-  others ← entry_answers t most first.1
-  Ok (first.0 ∷ others.0, others.1))
+abbrev pub entry_answers : DecisionTable → ℕ → Cursor → Result (List Answer × Cursor) ProofFault
+entry_answers t most c = answers_until ends_answers t most c
 
 -- the line that names the pair, all answers up to the line of the words, and that line: an answer has a byte at least
 unfoldable pub entry_at : DecisionTable → Cursor → Result (Entry × Cursor) ProofFault

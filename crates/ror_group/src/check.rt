@@ -16,7 +16,7 @@ use crate::judge::Judge;
 use crate::quartet::{Quartet, combine};
 use ror_check::CheckFault;
 use ror_proof::Answer;
-use ror_statement::{Question, Statement};
+use ror_statement::{Pair, Question, Statement};
 use ror_table::Table;
 use ror_text::Items;
 use std::alloc::{AllocError, Global};
@@ -41,29 +41,28 @@ pub fn check_pair(
     alloc: Global,
     table: &Table,
     lists: &[List],
-    a: usize,
-    b: usize,
+    pair: Pair,
     answers: &[Answer],
     q: &Quartet,
 ) -> Result<(), GroupFault>
     requires few { length lists.now ≤ 64 }
     requires lawful { AllByRecursion (λ list. IsLawfulIn table.now list.statements) lists.now }
-    requires first { a < length table.now.alternatives }
-    requires second { b < length table.now.alternatives }
+    requires first { pair.first < length table.now.alternatives }
+    requires second { pair.second < length table.now.alternatives }
 
     ensures accepted { OnOk result (IsProvedPair table.now
-        (map (λ list. list.statements) lists.now) a b answers.now q.now) }
+        (map (λ list. list.statements) lists.now) pair.first pair.second answers.now q.now) }
     ensures true_answers { OnOk result (AreGroupAnswers table.now
-        (map (λ list. list.statements) lists.now) a b q.now) }
+        (map (λ list. list.statements) lists.now) pair.first pair.second q.now) }
 
     ensures not_proved { IfErr result (λ e. e ≢ GroupFault.Memory → IsProvedPair table.now
-        (map (λ list. list.statements) lists.now) a b answers.now q.now → ⊥) }
+        (map (λ list. list.statements) lists.now) pair.first pair.second answers.now q.now → ⊥) }
     ensures refused { IfErr result (IsRefusedBy (FailsPair table.now
-        (map (λ list. list.statements) lists.now) a b answers.now q.now)
+        (map (λ list. list.statements) lists.now) pair.first pair.second answers.now q.now)
         IsEarlierPairFault GroupFault.Memory) }
 {
     let mut judges = judges_of(alloc, table, lists)?;
-    check_pair_by(alloc, table, judges.as_mut_slice(), a, b, answers, q)
+    check_pair_by(alloc, table, judges.as_mut_slice(), pair, answers, q)
 }
 
 /// The same by judges that are made already, and that may be asked again whatever comes of it.
@@ -75,24 +74,23 @@ pub fn check_pair_by(
     alloc: Global,
     table: &Table,
     judges: &mut [Judge],
-    a: usize,
-    b: usize,
+    pair: Pair,
     answers: &[Answer],
     q: &Quartet,
 ) -> Result<(), GroupFault>
     requires few { length judges.old ≤ 64 }
     requires judges { AllByRecursion (IsJudgeIn table.now) judges.old }
-    requires first { a < length table.now.alternatives }
-    requires second { b < length table.now.alternatives }
+    requires first { pair.first < length table.now.alternatives }
+    requires second { pair.second < length table.now.alternatives }
 
     ensures accepted { OnOk result
-        (IsProvedPair table.now (lists_of judges.old) a b answers.now q.now) }
+        (IsProvedPair table.now (lists_of judges.old) pair.first pair.second answers.now q.now) }
     ensures true_answers { OnOk result
-        (AreGroupAnswers table.now (lists_of judges.old) a b q.now) }
+        (AreGroupAnswers table.now (lists_of judges.old) pair.first pair.second q.now) }
     ensures not_proved { IfErr result (λ e. e ≢ GroupFault.Memory
-        → IsProvedPair table.now (lists_of judges.old) a b answers.now q.now → ⊥) }
+        → IsProvedPair table.now (lists_of judges.old) pair.first pair.second answers.now q.now → ⊥) }
     ensures refused { IfErr result (IsRefusedBy
-        (FailsPair table.now (lists_of judges.old) a b answers.now q.now)
+        (FailsPair table.now (lists_of judges.old) pair.first pair.second answers.now q.now)
         IsEarlierPairFault GroupFault.Memory) }
 
     ensures judges { AllByRecursion (IsJudgeIn table.now) judges.new }
@@ -101,7 +99,7 @@ pub fn check_pair_by(
     if answers.len() != 2 * judges.len() {
         return Err(GroupFault::Count);
     }
-    check_each(alloc, table, judges, a, b, answers)?;
+    check_each(alloc, table, judges, pair.first, pair.second, answers)?;
     if !q.is_same(combine(answers)) {
         return Err(GroupFault::WrongQuartet);
     }

@@ -1,23 +1,18 @@
 //! The head of a group's report: the desks.
 
-ghost use Rattle.std.specs.Prelude.{◌≡◌, ◌≤◌, ◌<◌, ◌^◌, ◌++◌, true, codes, length, IfErr, IfOk, OnOk};
+ghost use Rattle.std.specs.Prelude.{◌≡◌, ◌≤◌, ◌<◌, ◌^◌, ◌++◌, true, length, IfErr, IfOk, OnOk};
 ghost use Rattle.std.specs.List.{flat_map, AllByRecursion};
 ghost use Rattle.ror_text.specs.Reading.{Gives};
 ghost use Rattle.ror_text.specs.Cursor.{cursor_at, line_words};
-ghost use Rattle.ror_proof.specs.Reading.{proof_fault, IsProofFaultWithin};
-ghost use Rattle.ror_report.specs.Reading.{numbered_line};
-ghost use Rattle.ror_report.specs.Text.{numbered_text};
 ghost use Rattle.ror_group.specs.Head as spec;
 ghost use Rattle.ror_group.specs.Head.{desk_text, head_at, head_fault, head_text, header_text, is_desk_name, is_visible_name, whole_head_at, IsHeadFaultWithin};
 ghost use Rattle.ror_group.specs.declared.head.HeadFault.TheVariants.{Line};
 
-use itoa::Buffer;
 use ror_proof::ProofFault;
-use ror_proof::words::{after_word, no_more, small_number_at};
-use ror_session::MOST_DESK_NAME_BYTES;
+use ror_report::desk::{desk_line, write_desk};
+use ror_report::{numbered_line, write_number_line};
 use ror_text::Text;
-use ror_text::lines::{has_control, is_utf8};
-use ror_text::reading::{need, refuse_if};
+use ror_text::reading::refuse_if;
 use ror_text::spaced::{Words, line_at};
 use std::alloc::{AllocError, Global};
 use thiserror::Error;
@@ -108,26 +103,9 @@ fn count_at(desks: usize, bytes: &[u8], from: usize) -> Result<usize, HeadFault>
     ensures within { IfOk result (λ place. place ≤ length bytes.now) }
     ensures placed { IfErr result (IsHeadFaultWithin (length bytes.now)) }
 {
-    let (count, next) = count_line(bytes, from)?;
+    let (count, next) = numbered_line(b"desks", bytes, from)?;
     refuse_if(count as usize != desks, HeadFault::WrongBlock)?;
     Ok(next)
-}
-
-/// The number in the line of desks, and where the next line begins.
-#[tactic(auto, using(ror_proof::proofs::Places::placed_on), unfolding(ror_report::specs::Reading::number_words, ror_proof::specs::Reading::ended))]
-fn count_line(bytes: &[u8], from: usize) -> Result<(u32, usize), ProofFault>
-    requires { from ≤ length bytes.now }
-    ensures exact { Gives (λ x. (x.0, cursor_at bytes.now x.1)) proof_fault result
-        (numbered_line (codes "desks") (cursor_at bytes.now from)) }
-    ensures within { IfOk result (λ x. x.1 ≤ length bytes.now) }
-    ensures placed { IfErr result (IsProofFaultWithin (length bytes.now)) }
-{
-    let (line, next) = line_at(bytes, from);
-    let words = after_word(from, b"desks", Words::of(line))?;
-    let (number, words) = small_number_at(from, words)?;
-    no_more(from, words)?;
-    let next = need(next, ProofFault::BadLine(from))?;
-    Ok((number, next))
 }
 
 /// Where the lines of these desks end.
@@ -156,7 +134,10 @@ fn desk_at(name: &Text, bytes: &[u8], from: usize) -> Result<usize, HeadFault>
 {
     refuse_if(!begins_desk(bytes, from), HeadFault::WrongBlock)?;
     let (said, next) = desk_line(bytes, from)?;
-    refuse_if(said != name.as_str().as_bytes(), HeadFault::WrongBlock)?;
+    refuse_if(
+        said.as_bytes() != name.as_str().as_bytes(),
+        HeadFault::WrongBlock,
+    )?;
     Ok(next)
 }
 
@@ -172,47 +153,6 @@ fn begins_desk(bytes: &[u8], from: usize) -> bool
     }
 }
 
-/// The name in the line of a desk, and where the next line begins.
-#[tactic(auto, using(ror_proof::proofs::Places::placed_on), unfolding(crate::specs::Head::name_words, ror_proof::specs::Reading::ended))]
-fn desk_line(bytes: &[u8], from: usize) -> Result<(&[u8], usize), ProofFault>
-    requires { from ≤ length bytes.now }
-    ensures exact { Gives (λ x. (x.0.now, cursor_at bytes.now x.1)) proof_fault result
-        (spec.desk_line (cursor_at bytes.now from)) }
-    ensures within { IfOk result (λ x. x.1 ≤ length bytes.now) }
-    ensures placed { IfErr result (IsProofFaultWithin (length bytes.now)) }
-{
-    let (line, next) = line_at(bytes, from);
-    let words = after_word(from, b"desk", Words::of(line))?;
-    let name = name_in(from, words)?;
-    let next = need(next, ProofFault::BadLine(from))?;
-    Ok((name, next))
-}
-
-/// The name after the word `desk`.
-#[tactic(auto, unfolding(crate::specs::Head::name_in))]
-fn name_in<'a>(place: usize, words: Words<'a>) -> Result<&'a [u8], ProofFault>
-    ensures exact { Gives (λ name. name.now) proof_fault result (spec.name_in place words.entry) }
-    ensures placed { IfErr result (IsProofFaultWithin place) }
-{
-    match words.next() {
-        None => Ok(&[]),
-        Some((name, more)) => {
-            refuse_if(name.is_empty(), ProofFault::BadLine(place))?;
-            refuse_if(!may_name(name), ProofFault::BadLine(place))?;
-            no_more(place, more)?;
-            Ok(name)
-        }
-    }
-}
-
-/// Whether a session may have a desk of this name: of at most 64 bytes, which are UTF-8 without blanks and control
-/// characters.
-pub fn may_name(name: &[u8]) -> bool
-    ensures { result ≡ is_desk_name name.now }
-{
-    name.len() <= MOST_DESK_NAME_BYTES && !has_control(&[name]) && is_utf8(name)
-}
-
 /// The head of a report on these desks. It asks that there are fewer than 2^32, each of a name that is not too long and has no
 /// blank and no control character: so each is one that a session may have, since it is a text, and the head is read again.
 #[tactic(auto, unfolding(crate::specs::Head::head_text))]
@@ -225,21 +165,9 @@ pub fn print_head(alloc: Global, names: &[Text]) -> Result<Vec<u8>, AllocError>
 {
     let mut text = Vec::new(alloc);
     text.extend_from_slice(header())?;
-    write_count(&mut text, names.len() as u32)?;
+    write_number_line(&mut text, b"desks", names.len() as u32)?;
     write_desks(&mut text, names)?;
     Ok(text)
-}
-
-/// The line of the number of desks.
-#[tactic(auto, unfolding(ror_text::specs::SpacedLines::line_text))]
-fn write_count(text: &mut Vec<u8>, desks: u32) -> Result<(), AllocError>
-    ensures { OnOk result (text.new.items
-        ≡ text.old.items ++ numbered_text (codes "desks") desks) }
-{
-    text.extend_from_slice(b"desks ")?;
-    text.extend_from_slice(Buffer::new().format(desks).as_bytes())?;
-    text.push(b'\n')?;
-    Ok(())
 }
 
 fn write_desks(text: &mut Vec<u8>, names: &[Text]) -> Result<(), AllocError>
@@ -250,19 +178,5 @@ fn write_desks(text: &mut Vec<u8>, names: &[Text]) -> Result<(), AllocError>
     'names: for name in names {
         write_desk(text, name.as_str().as_bytes())?;
     }
-    Ok(())
-}
-
-/// The line of a desk.
-#[tactic(auto, unfolding(ror_text::specs::SpacedLines::line_text))]
-fn write_desk(text: &mut Vec<u8>, name: &[u8]) -> Result<(), AllocError>
-    ensures { OnOk result (text.new.items ≡ text.old.items ++ desk_text name.now) }
-{
-    text.extend_from_slice(b"desk")?;
-    if !name.is_empty() {
-        text.push(b' ')?;
-        text.extend_from_slice(name)?;
-    }
-    text.push(b'\n')?;
     Ok(())
 }

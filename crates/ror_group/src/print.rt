@@ -2,13 +2,13 @@
 
 ghost use Rattle.std.specs.Prelude.{◌≡◌, ◌<◌, ◌++◌, length, IfOk, OnOk};
 ghost use Rattle.std.specs.List.{AllByRecursion};
-ghost use Rattle.ror_table.specs.Table.{id_of};
 ghost use Rattle.ror_report.specs.Printing.{HasValidQuestion, HasNarrowVerdict};
 ghost use Rattle.ror_group.specs.Text.{entry_text, group_text, pair_text};
 
 use crate::entry::Entry;
 use crate::quartet::Quartet;
 use ror_proof::names::Name;
+use ror_proof::write::{end_line, write_alternative};
 use ror_report::write_answers;
 use ror_table::Table;
 use std::alloc::{AllocError, Global};
@@ -42,19 +42,10 @@ fn write_pair(
     requires second { second < length table.now.alternatives }
     ensures { OnOk result (text.new.items ≡ text.old.items ++ pair_text table.now first second) }
 {
-    text.extend_from_slice(b"pair ")?;
-    write_id(text, table, first)?;
-    text.push(b' ')?;
-    write_id(text, table, second)?;
-    text.push(b'\n')?;
-    Ok(())
-}
-
-fn write_id(text: &mut Vec<u8>, table: &Table, alternative: usize) -> Result<(), AllocError>
-    requires { alternative < length table.now.alternatives }
-    ensures { OnOk result (text.new.items ≡ text.old.items ++ id_of table.now alternative) }
-{
-    text.extend_from_slice(table.alternative_id(alternative).as_bytes())
+    text.extend_from_slice(b"pair")?;
+    write_alternative(text, table, first)?;
+    write_alternative(text, table, second)?;
+    end_line(text)
 }
 
 /// The line of the four words.

@@ -31,7 +31,7 @@ use Rattle.ror_proof.proofs.PivotLemmas.{pivot_again, pivot_sound, pivot_is_word
 
 -- ---- certificates
 
-numbers_are_words : (zs : List ℤ) → AllByRecursion IsNarrow zs → are_words (map signed_decimal zs) ≡ true
+pub numbers_are_words : (zs : List ℤ) → AllByRecursion IsNarrow zs → are_words (map signed_decimal zs) ≡ true
 numbers_are_words [] narrow = refl
 numbers_are_words (z ∷ zs) narrow = and_from _ _ (is_word-signed_decimal z (omega (arith, narrow.0))) (numbers_are_words zs narrow.1)
 
@@ -106,17 +106,17 @@ certificate_sound place (form ∷ words) c e =
 
 -- ---- places
 
-abbrev AreSmall : PlaceText → Type 0
+abbrev pub AreSmall : PlaceText → Type 0
 AreSmall place = AllByRecursion (λ n. n < 2 ^ 32) (place_numbers place)
 
-entry_again : (place row column : ℕ) (more : List (List ℕ)) → row < 2 ^ 32 → column < 2 ^ 32 → entry_at place (decimal row ∷ decimal column ∷ more) ≡ Ok ((row, column), more)
+pub entry_again : (place row column : ℕ) (more : List (List ℕ)) → row < 2 ^ 32 → column < 2 ^ 32 → entry_at place (decimal row ∷ decimal column ∷ more) ≡ Ok ((row, column), more)
 unfolding entry_at
 entry_again place row column more r c = rw (small_number_again place row (decimal column ∷ more) r, small_number_again place column more c) refl
 
 abbrev entry_read : ℕ → ℕ × List (List ℕ) → Result ((ℕ × ℕ) × List (List ℕ)) ProofFault
 entry_read row column = Ok ((row, column.0), column.1)
 
-entry_sound : (place : ℕ) (words : List (List ℕ)) (x : (ℕ × ℕ) × List (List ℕ)) → entry_at place words ≡ Ok x → (words ≡ decimal x.0.0 ∷ decimal x.0.1 ∷ x.1) × ((x.0.0 < 2 ^ 32) × (x.0.1 < 2 ^ 32))
+pub entry_sound : (place : ℕ) (words : List (List ℕ)) (x : (ℕ × ℕ) × List (List ℕ)) → entry_at place words ≡ Ok x → (words ≡ decimal x.0.0 ∷ decimal x.0.1 ∷ x.1) × ((x.0.0 < 2 ^ 32) × (x.0.1 < 2 ^ 32))
 unfolding entry_at
 entry_sound place words x e =
     let a = bind_ok (small_number_at place words) (λ row. small_number_at place row.1 >>= λ column. entry_read row.0 column) x e in
@@ -125,7 +125,7 @@ entry_sound place words x e =
     let column = small_number_sound place a.0.1 b.0 b.1 in
     subst (λ (y : (ℕ × ℕ) × List (List ℕ)). (words ≡ decimal y.0.0 ∷ decimal y.0.1 ∷ y.1) × ((y.0.0 < 2 ^ 32) × (y.0.1 < 2 ^ 32))) (ok_is ((a.0.0, b.0.0), b.0.1) x b.2) (row.0 ∙ ap (λ (ws : List (List ℕ)). decimal a.0.0 ∷ ws) column.0, (row.1, column.1))
 
-place_again : (place : ℕ) (p : PlaceText) (more : List (List ℕ)) → AreSmall p → place_at place (place_words p ++ more) ≡ Ok (p, more)
+pub place_again : (place : ℕ) (p : PlaceText) (more : List (List ℕ)) → AreSmall p → place_at place (place_words p ++ more) ≡ Ok (p, more)
 unfolding place_at
 place_again place (places.Start row column) more small = rw (name_again place_word place_names place named.Start (decimal row ∷ decimal column ∷ more) refl, entry_again place row column more small.0 small.1.0) refl
 place_again place (places.Step row column) more small = rw (name_again place_word place_names place named.Step (decimal row ∷ decimal column ∷ more) refl, entry_again place row column more small.0 small.1.0) refl
@@ -133,7 +133,7 @@ place_again place (places.Denominator row) more small = rw (name_again place_wor
 place_again place (places.RowSum row) more small = rw (name_again place_word place_names place named.RowSum (decimal row ∷ more) refl, small_number_again place row more small.0) refl
 place_again place (places.ColumnSum column) more small = rw (name_again place_word place_names place named.ColumnSum (decimal column ∷ more) refl, small_number_again place column more small.0) refl
 
-abbrev IsPlace : List (List ℕ) → PlaceText × List (List ℕ) → Type 0
+abbrev pub IsPlace : List (List ℕ) → PlaceText × List (List ℕ) → Type 0
 IsPlace words x = (words ≡ place_words x.0 ++ x.1) × AreSmall x.0
 
 numbered_sound : (place : ℕ) (name : PlaceName) (words : List (List ℕ)) (x : PlaceText × List (List ℕ)) → numbered_at place name words ≡ Ok x → IsPlace (place_word name ∷ words) x
@@ -158,7 +158,7 @@ numbered_sound place named.ColumnSum words x e =
     let column = small_number_sound place words a.0 a.1 in
     subst (IsPlace (codes "columnsum" ∷ words)) (ok_is (places.ColumnSum a.0.0, a.0.1) x a.2) (ap (λ (ws : List (List ℕ)). codes "columnsum" ∷ ws) column.0, (column.1, tt))
 
-place_sound : (place : ℕ) (words : List (List ℕ)) (x : PlaceText × List (List ℕ)) → place_at place words ≡ Ok x → IsPlace words x
+pub place_sound : (place : ℕ) (words : List (List ℕ)) (x : PlaceText × List (List ℕ)) → place_at place words ≡ Ok x → IsPlace words x
 unfolding place_at
 place_sound place words x e =
     let a = bind_ok (name_at place_word place_names place words) (λ name. numbered_at place name.0 name.1) x e in
@@ -198,11 +198,11 @@ note_sound place words note e =
 
 -- ---- their words are words
 
-small_numbers_are_words : (ns : List ℕ) → AllByRecursion (λ n. n < 2 ^ 32) ns → are_words (map decimal ns) ≡ true
+pub small_numbers_are_words : (ns : List ℕ) → AllByRecursion (λ n. n < 2 ^ 32) ns → are_words (map decimal ns) ≡ true
 small_numbers_are_words [] small = refl
 small_numbers_are_words (n ∷ ns) small = and_from _ _ (is_word-decimal n (omega (arith, small.0))) (small_numbers_are_words ns small.1)
 
-place_are_words : (p : PlaceText) → AreSmall p → are_words (place_words p) ≡ true
+pub place_are_words : (p : PlaceText) → AreSmall p → are_words (place_words p) ≡ true
 place_are_words (places.Start row column) small = small_numbers_are_words (row ∷ column ∷ []) small
 place_are_words (places.Step row column) small = small_numbers_are_words (row ∷ column ∷ []) small
 place_are_words (places.Denominator row) small = small_numbers_are_words (row ∷ []) small

@@ -6,8 +6,6 @@ use Rattle.std.proofs.lemmas.List.{append-nil}
 use Rattle.ror_text.specs.Numbers.{number_of}
 use Rattle.ror_text.specs.Reading.{◌>>=◌}
 use Rattle.ror_text.proofs.ReadingLemmas.{gives_exit}
-use Rattle.ror_proof.specs.declared.answer.Part.{Part}
-use Rattle.ror_proof.specs.declared.kept.Dropped.{Dropped}
 use Rattle.ror_proof.specs.declared.read.ProofFault.{ProofFault}
 use Rattle.ror_proof.specs.declared.read.ProofFault.TheVariants.{BadLine}
 use Rattle.ror_text.specs.Cursor.{Cursor}
@@ -100,18 +98,27 @@ before_bar_end place front words whole is so_far = sym so_far ∙ ap (λ ws. wit
 abbrev pub line_then : {X F : Type 0} → Result (X × Cursor) F → (Cursor → Result (List X × Cursor) F) → Result (List X × Cursor) F
 line_then line others = line >>= λ first. others first.1 >>= λ more. Ok (first.0 ∷ more.0, more.1)
 
-lines_go_on : {X : Type 0} (line : Result (X × Cursor) ProofFault) (others : Cursor → Result (List X × Cursor) ProofFault) (front : List X) (x : X) (after : Cursor) (whole : Result (List X × Cursor) ProofFault)
-    → line ≡ Ok (x, after) → with_front front (line_then line others) ≡ whole → with_front (front ++ x ∷ []) (others after) ≡ whole
-lines_go_on line others front x after whole one so_far =
-    let step : with_front front (line_then line others) ≡ with_front (front ++ x ∷ []) (others after) = rw one (with_more front x (others after)) in
-    sym step ∙ so_far
+-- what is read of so many lines, or of so many at most, where one more of them is read
+lines_so_far : {X : Type 0} (lines : ℕ → Cursor → Result (List X × Cursor) ProofFault) (line : Result (X × Cursor) ProofFault) (most left : ℕ) (front : List X) (c : Cursor) (whole : Result (List X × Cursor) ProofFault)
+    → most ≡ suc left → lines (suc left) c ≡ line_then line (lines left) → with_front front (lines most c) ≡ whole → with_front front (line_then line (lines left)) ≡ whole
+lines_so_far lines line most left front c whole is step so_far = ap (with_front front) (sym step) ∙ ap (λ n. with_front front (lines n c)) (sym is) ∙ so_far
 
-lines_exit : {X : Type 0} (line : Result (X × Cursor) ProofFault) (others : Cursor → Result (List X × Cursor) ProofFault) (front : List X) (e : ProofFault) (whole : Result (List X × Cursor) ProofFault)
-    → IfSome (proof_fault e) (λ f. line ≡ Err f) → with_front front (line_then line others) ≡ whole → IfSome (proof_fault e) (λ f. whole ≡ Err f)
-lines_exit line others front e whole one so_far =
-    let inner = gives_exit proof_fault e line (λ first. others first.1 >>= λ more. Ok (first.0 ∷ more.0, more.1)) one in
-    let outer : IfSome (proof_fault e) (λ f. with_front front (line_then line others) ≡ Err f) = gives_exit proof_fault e (line_then line others) (λ x. Ok (front ++ x.0, x.1)) inner in
-    subst (λ r. IfSome (proof_fault e) (λ f. r ≡ Err f)) so_far outer
+pub lines_go_on : {X : Type 0} (lines : ℕ → Cursor → Result (List X × Cursor) ProofFault) (line : Result (X × Cursor) ProofFault) (most left : ℕ) (front : List X) (c after : Cursor) (x : X) (whole : Result (List X × Cursor) ProofFault)
+    → most ≡ suc left → lines (suc left) c ≡ line_then line (lines left) → line ≡ Ok (x, after) → with_front front (lines most c) ≡ whole → with_front (front ++ x ∷ []) (lines left after) ≡ whole
+lines_go_on lines line most left front c after x whole is step one so_far =
+    let next : with_front front (line_then line (lines left)) ≡ with_front (front ++ x ∷ []) (lines left after) = rw one (with_more front x (lines left after)) in
+    sym next ∙ lines_so_far lines line most left front c whole is step so_far
+
+pub lines_exit : {X : Type 0} (lines : ℕ → Cursor → Result (List X × Cursor) ProofFault) (line : Result (X × Cursor) ProofFault) (most left : ℕ) (front : List X) (c : Cursor) (e : ProofFault) (whole : Result (List X × Cursor) ProofFault)
+    → most ≡ suc left → lines (suc left) c ≡ line_then line (lines left) → IfSome (proof_fault e) (λ f. line ≡ Err f) → with_front front (lines most c) ≡ whole → IfSome (proof_fault e) (λ f. whole ≡ Err f)
+lines_exit lines line most left front c e whole is step one so_far =
+    let inner = gives_exit proof_fault e line (λ first. lines left first.1 >>= λ more. Ok (first.0 ∷ more.0, more.1)) one in
+    let outer : IfSome (proof_fault e) (λ f. with_front front (line_then line (lines left)) ≡ Err f) = gives_exit proof_fault e (line_then line (lines left)) (λ x. Ok (front ++ x.0, x.1)) inner in
+    subst (λ r. IfSome (proof_fault e) (λ f. r ≡ Err f)) (lines_so_far lines line most left front c whole is step so_far) outer
+
+-- and where none is
+pub lines_end : {X : Type 0} (reading : Result (List X × Cursor) ProofFault) (front : List X) (c : Cursor) (whole : Result (List X × Cursor) ProofFault) → reading ≡ Ok ([], c) → with_front front reading ≡ whole → whole ≡ Ok (front, c)
+lines_end reading front c whole none so_far = sym so_far ∙ ap (with_front front) none ∙ ap (λ xs. Ok (xs, c)) (append-nil front)
 
 -- ---- the lines of dropped statements
 
@@ -123,48 +130,16 @@ pub no_dropped : (c : Cursor) → dropped_lines zero c ≡ Ok ([], c)
 unfolding dropped_lines
 no_dropped c = refl
 
-dropped_so_far : (most left : ℕ) (front : List Dropped) (c : Cursor) (whole : Result (List Dropped × Cursor) ProofFault) → most ≡ suc left → with_front front (dropped_lines most c) ≡ whole → with_front front (line_then (dropped_line c) (dropped_lines left)) ≡ whole
-dropped_so_far most left front c whole is so_far =
-    ap (with_front front) (sym (dropped_step left c)) ∙ ap (λ n. with_front front (dropped_lines n c)) (sym is) ∙ so_far
-
-pub dropped_go_on : (most left : ℕ) (front : List Dropped) (c after : Cursor) (x : Dropped) (whole : Result (List Dropped × Cursor) ProofFault)
-    → most ≡ suc left → dropped_line c ≡ Ok (x, after) → with_front front (dropped_lines most c) ≡ whole → with_front (front ++ x ∷ []) (dropped_lines left after) ≡ whole
-dropped_go_on most left front c after x whole is one so_far = lines_go_on (dropped_line c) (dropped_lines left) front x after whole one (dropped_so_far most left front c whole is so_far)
-
-pub dropped_exit : (most left : ℕ) (front : List Dropped) (c : Cursor) (e : ProofFault) (whole : Result (List Dropped × Cursor) ProofFault)
-    → most ≡ suc left → IfSome (proof_fault e) (λ f. dropped_line c ≡ Err f) → with_front front (dropped_lines most c) ≡ whole → IfSome (proof_fault e) (λ f. whole ≡ Err f)
-dropped_exit most left front c e whole is one so_far = lines_exit (dropped_line c) (dropped_lines left) front e whole one (dropped_so_far most left front c whole is so_far)
-
-pub dropped_end : (most : ℕ) (front : List Dropped) (c : Cursor) (whole : Result (List Dropped × Cursor) ProofFault) → most ≡ 0 → with_front front (dropped_lines most c) ≡ whole → whole ≡ Ok (front, c)
-dropped_end most front c whole none so_far =
-    sym so_far ∙ ap (λ n. with_front front (dropped_lines n c)) none ∙ ap (with_front front) (no_dropped c) ∙ ap (λ xs. Ok (xs, c)) (append-nil front)
-
 -- ---- the lines of the parts
 
 pub part_step : (most : ℕ) (c : Cursor) → begins_part c.rest ≡ true → part_lines (suc most) c ≡ line_then (part_line c) (part_lines most)
 unfolding part_lines
 part_step most c begins = rw begins refl
 
-parts_so_far : (most left : ℕ) (front : List Part) (c : Cursor) (whole : Result (List Part × Cursor) ProofFault) → most ≡ suc left → begins_part c.rest ≡ true → with_front front (part_lines most c) ≡ whole → with_front front (line_then (part_line c) (part_lines left)) ≡ whole
-parts_so_far most left front c whole is begins so_far =
-    ap (with_front front) (sym (part_step left c begins)) ∙ ap (λ n. with_front front (part_lines n c)) (sym is) ∙ so_far
-
-pub parts_go_on : (most left : ℕ) (front : List Part) (c after : Cursor) (x : Part) (whole : Result (List Part × Cursor) ProofFault)
-    → most ≡ suc left → begins_part c.rest ≡ true → part_line c ≡ Ok (x, after) → with_front front (part_lines most c) ≡ whole → with_front (front ++ x ∷ []) (part_lines left after) ≡ whole
-parts_go_on most left front c after x whole is begins one so_far = lines_go_on (part_line c) (part_lines left) front x after whole one (parts_so_far most left front c whole is begins so_far)
-
-pub parts_exit : (most left : ℕ) (front : List Part) (c : Cursor) (e : ProofFault) (whole : Result (List Part × Cursor) ProofFault)
-    → most ≡ suc left → begins_part c.rest ≡ true → IfSome (proof_fault e) (λ f. part_line c ≡ Err f) → with_front front (part_lines most c) ≡ whole → IfSome (proof_fault e) (λ f. whole ≡ Err f)
-parts_exit most left front c e whole is begins one so_far = lines_exit (part_line c) (part_lines left) front e whole one (parts_so_far most left front c whole is begins so_far)
-
 pub no_parts : (most : ℕ) (c : Cursor) → begins_part c.rest ≡ false → part_lines most c ≡ Ok ([], c)
 unfolding part_lines
 no_parts zero c none = refl
 no_parts (suc most) c none = rw none refl
-
-pub parts_end : (most : ℕ) (front : List Part) (c : Cursor) (whole : Result (List Part × Cursor) ProofFault) → begins_part c.rest ≡ false → with_front front (part_lines most c) ≡ whole → whole ≡ Ok (front, c)
-parts_end most front c whole none so_far =
-    sym so_far ∙ ap (with_front front) (no_parts most c none) ∙ ap (λ xs. Ok (xs, c)) (append-nil front)
 
 -- a part begins with a byte
 pub begins_some : (bytes : List ℕ) → begins_part bytes ≡ true → 0 < length bytes

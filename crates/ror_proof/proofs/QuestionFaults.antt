@@ -214,6 +214,12 @@ no_place place x e =
     let a = bind_ok (name_at place_word place_names place []) (λ name. numbered_at place name.0 name.1) x e in
     no_name place_word place_names place a.0 a.1
 
+no_place_steps : (t : DecisionTable) (place : ℕ) → Steps t place (place_at place []) (one_of (map place_word place_names) ∷ []) []
+unfolding place_at
+no_place_steps t place =
+    then_steps t place (name_at place_word place_names place []) (λ name. numbered_at place name.0 name.1) (one_of (map place_word place_names) ∷ []) [] [] (name_steps t place place_word place_names [])
+    (λ name e. absurd (no_name place_word place_names place name e))
+
 abbrev path_after : ℕ → PlaceText × List (List ℕ) → Result WideText ProofFault
 path_after place number = after_word place (codes "path") number.1 >>= λ more. pivots_at place more >>= λ path. note_made number.0 path
 
@@ -225,27 +231,25 @@ path_ends t place number words =
     subst (λ (ws : List (List ℕ)). Ends t place (pivots_at place more >>= λ path. note_made number path) (all_of a_pivot ws) more) same
     (made_ends t place (pivots_at place more) (λ (path : List Pivot). noted number path) (all_of a_pivot more) more (all_ends t place (pivot_in place) a_pivot more tt (pivot_one t place))))
 
-note_ends_by : (t : DecisionTable) (place : ℕ) (word : List ℕ) (words : List (List ℕ)) (name : Option PlaceName) → name_of place_word place_names word ≡ name → Ends t place (note_at place (word ∷ words)) (one_of (map place_word place_names) ∷ expected_numbered name words) (word ∷ words)
-unfolding note_at
-note_ends_by t place word words None e =
-    then_ends t place (place_at place (word ∷ words)) (path_after place) (one_of (map place_word place_names) ∷ []) [] (word ∷ words)
-    (subst (λ (n : Option PlaceName). Steps t place (place_at place (word ∷ words)) (one_of (map place_word place_names) ∷ numbers_expected n) (word ∷ words)) e (place_steps t place word words))
-    (λ x read. let name = place_named place word words x read in absurd (let no = sym e ∙ name.1 in cc))
-note_ends_by t place word words (Some name) e =
-    let first = one_of (map place_word place_names) ∷ expected_place name in
-    let steps : Steps t place (place_at place (word ∷ words)) first (word ∷ words) = subst (λ (n : Option PlaceName). Steps t place (place_at place (word ∷ words)) (one_of (map place_word place_names) ∷ numbers_expected n) (word ∷ words)) e (place_steps t place word words) in
-    then_ends t place (place_at place (word ∷ words)) (path_after place) first (expected_path (drop (length (expected_place name)) words)) (word ∷ words) steps
-    (λ x read. subst (λ (ws : List (List ℕ)). Ends t place (path_after place x) (expected_path ws) x.1) (steps.left x read) (path_ends t place x.0 x.1))
+-- a place, and what follows it
+module _ {Y : Type 0} (t : DecisionTable) (place : ℕ) (next : PlaceText × List (List ℕ) → Result Y ProofFault) (ends : (x : PlaceText × List (List ℕ)) → Ends t place (next x) (expected_path x.1) x.1) where
+  placed_ends_by : (word : List ℕ) (words : List (List ℕ)) (name : Option PlaceName) → name_of place_word place_names word ≡ name → Ends t place (place_at place (word ∷ words) >>= next) (one_of (map place_word place_names) ∷ expected_numbered name words) (word ∷ words)
+  placed_ends_by word words None e =
+      then_ends t place (place_at place (word ∷ words)) next (one_of (map place_word place_names) ∷ []) [] (word ∷ words)
+      (subst (λ (n : Option PlaceName). Steps t place (place_at place (word ∷ words)) (one_of (map place_word place_names) ∷ numbers_expected n) (word ∷ words)) e (place_steps t place word words))
+      (λ x read. let name = place_named place word words x read in absurd (let no = sym e ∙ name.1 in cc))
+  placed_ends_by word words (Some name) e =
+      let first = one_of (map place_word place_names) ∷ expected_place name in
+      let steps : Steps t place (place_at place (word ∷ words)) first (word ∷ words) = subst (λ (n : Option PlaceName). Steps t place (place_at place (word ∷ words)) (one_of (map place_word place_names) ∷ numbers_expected n) (word ∷ words)) e (place_steps t place word words) in
+      then_ends t place (place_at place (word ∷ words)) next first (expected_path (drop (length (expected_place name)) words)) (word ∷ words) steps
+      (λ x read. subst (λ (ws : List (List ℕ)). Ends t place (next x) (expected_path ws) x.1) (steps.left x read) (ends x))
 
-no_place_steps : (t : DecisionTable) (place : ℕ) → Steps t place (place_at place []) (one_of (map place_word place_names) ∷ []) []
-unfolding place_at
-no_place_steps t place =
-    then_steps t place (name_at place_word place_names place []) (λ name. numbered_at place name.0 name.1) (one_of (map place_word place_names) ∷ []) [] [] (name_steps t place place_word place_names [])
-    (λ name e. absurd (no_name place_word place_names place name e))
+  pub placed_ends : (words : List (List ℕ)) → Ends t place (place_at place words >>= next) (expected_note words) words
+  placed_ends [] =
+      then_ends t place (place_at place []) next (one_of (map place_word place_names) ∷ []) [] [] (no_place_steps t place)
+      (λ x read. absurd (no_place place x read))
+  placed_ends (word ∷ words) = placed_ends_by word words (name_of place_word place_names word) refl
 
 pub note_ends : (t : DecisionTable) (place : ℕ) (words : List (List ℕ)) → Ends t place (note_at place words) (expected_note words) words
 unfolding note_at
-note_ends t place [] =
-    then_ends t place (place_at place []) (path_after place) (one_of (map place_word place_names) ∷ []) [] [] (no_place_steps t place)
-    (λ x read. absurd (no_place place x read))
-note_ends t place (word ∷ words) = note_ends_by t place word words (name_of place_word place_names word) refl
+note_ends t place words = placed_ends t place (path_after place) (λ x. path_ends t place x.0 x.1) words

@@ -10,6 +10,7 @@ use Rattle.std.proofs.lemmas.Str.Ascii.{IsAscii-from_all}
 use Rattle.std.proofs.lemmas.Bool.{and_parts, ltb-true}
 use Rattle.std.proofs.lemmas.List.Elements.{All-from_recursion}
 use Rattle.ror_text.specs.SpacedLines.{join_words, line_text}
+use Rattle.ror_text.proofs.Everywhere.{all-append}
 use Rattle.ror_text.proofs.IdLemmas.{IsId-form}
 use Rattle.ror_statement.specs.declared.comparison.Scope.{Scope}
 use Rattle.ror_statement.specs.declared.comparison.Scope.TheVariants.{Whole, One}
@@ -29,6 +30,7 @@ use Rattle.ror_proof.specs.declared.answer.Certificate.{Certificate}
 use Rattle.ror_proof.specs.declared.answer.Certificate.TheVariants as certificates
 use Rattle.ror_proof.specs.declared.answer.Part.{Part}
 use Rattle.ror_proof.specs.declared.answer.Pivot.{Pivot}
+use Rattle.ror_proof.specs.declared.answer.PlaceText.{PlaceText}
 use Rattle.ror_proof.specs.declared.answer.Proof.{Proof}
 use Rattle.ror_proof.specs.declared.answer.Verdict.{Verdict}
 use Rattle.ror_proof.specs.declared.answer.Verdict.TheVariants as verdicts
@@ -51,12 +53,8 @@ are_below (b ∷ bs) h = let both = and_parts (ltb b 128) (list_all (λ b. ltb b
 pub ascii_is_utf8 : (bs : List ℕ) → list_all (λ b. ltb b 128) bs ≡ true → IsUtf8 bs
 ascii_is_utf8 bs h = IsUtf8-from_ascii bs (IsAscii-from_all bs (All-from_recursion (λ b. b < 128) bs (are_below bs h)))
 
-abbrev AreTexts : List (List ℕ) → Type 0
+abbrev pub AreTexts : List (List ℕ) → Type 0
 AreTexts ws = AllByRecursion IsUtf8 ws
-
-texts_append : (xs ys : List (List ℕ)) → AreTexts xs → AreTexts ys → AreTexts (xs ++ ys)
-texts_append [] ys p q = q
-texts_append (x ∷ xs) ys p q = (p.0, texts_append xs ys p.1 q)
 
 joined : (ws : List (List ℕ)) → AreTexts ws → IsUtf8 (join_words ws)
 joined [] h = IsUtf8-nil
@@ -78,9 +76,9 @@ pub numbers_are_texts : (zs : List ℤ) → AllByRecursion IsNarrow zs → AreTe
 numbers_are_texts [] narrow = tt
 numbers_are_texts (z ∷ zs) narrow = (signed_is_utf8 z narrow.0, numbers_are_texts zs narrow.1)
 
-multipliers_are_texts : (m : Multipliers) → AreNarrow m → AreTexts (multipliers_words m.weak m.strict)
+pub multipliers_are_texts : (m : Multipliers) → AreNarrow m → AreTexts (multipliers_words m.weak m.strict)
 multipliers_are_texts m narrow =
-    (ascii_is_utf8 (codes "multipliers") refl, texts_append (map signed_decimal m.weak) (codes "|" ∷ map signed_decimal m.strict) (numbers_are_texts m.weak narrow.0) (ascii_is_utf8 (codes "|") refl, numbers_are_texts m.strict narrow.1))
+    (ascii_is_utf8 (codes "multipliers") refl, all-append IsUtf8 (map signed_decimal m.weak) (codes "|" ∷ map signed_decimal m.strict) (numbers_are_texts m.weak narrow.0) (ascii_is_utf8 (codes "|") refl, numbers_are_texts m.strict narrow.1))
 
 certificate_are_texts : (c : Certificate) → IsNarrowCertificate c → AreTexts (certificate_words c)
 certificate_are_texts (certificates.Solution x) narrow = (ascii_is_utf8 (codes "solution") refl, numbers_are_texts x.steps narrow)
@@ -101,7 +99,7 @@ scope_are_texts t (One i) table within = (ascii_is_utf8 (codes "on") refl, ((IsI
 form_are_texts : (t : DecisionTable) (form : Form) → IsTable t → NamesWithin (length t.alternatives) (length t.criteria) form → AreTexts (form_words t form)
 form_are_texts t (Value a b) table within = pair_are_texts t (record { first = a; second = b }) table within
 form_are_texts t (Strength p q s) table within =
-    texts_append (pair_words t p) (pair_words t q ++ scope_words t s) (pair_are_texts t p table within.0) (texts_append (pair_words t q) (scope_words t s) (pair_are_texts t q table within.1) (scope_are_texts t s table within.2))
+    all-append IsUtf8 (pair_words t p) (pair_words t q ++ scope_words t s) (pair_are_texts t p table within.0) (all-append IsUtf8 (pair_words t q) (scope_words t s) (pair_are_texts t q table within.1) (scope_are_texts t s table within.2))
 
 property_are_texts : (t : DecisionTable) (p : Property) → IsTable t → HasWords t p → AreTexts (property_words t p)
 property_are_texts t Compatible table named = tt
@@ -139,7 +137,7 @@ proof_is_utf8 p printable =
 
 -- ---- numbers too wide
 
-small_numbers_are_texts : (ns : List ℕ) → AllByRecursion (λ n. n < 2 ^ 32) ns → AreTexts (map decimal ns)
+pub small_numbers_are_texts : (ns : List ℕ) → AllByRecursion (λ n. n < 2 ^ 32) ns → AreTexts (map decimal ns)
 small_numbers_are_texts [] small = tt
 small_numbers_are_texts (n ∷ ns) small = (decimal_is_utf8 n (omega (arith, small.0)), small_numbers_are_texts ns small.1)
 
@@ -150,6 +148,9 @@ place_word_is_text named.Denominator = ascii_is_utf8 (codes "denominator") refl
 place_word_is_text named.RowSum = ascii_is_utf8 (codes "rowsum") refl
 place_word_is_text named.ColumnSum = ascii_is_utf8 (codes "columnsum") refl
 
+pub place_are_texts : (p : PlaceText) → AllByRecursion (λ n. n < 2 ^ 32) (place_numbers p) → AreTexts (place_words p)
+place_are_texts p small = (place_word_is_text (place_name p), small_numbers_are_texts (place_numbers p) small)
+
 pivots_are_texts : (ps : List Pivot) → AllByRecursion IsPrintablePivot ps → AreTexts (map pivot_word ps)
 pivots_are_texts [] printable = tt
 pivots_are_texts (p ∷ ps) printable =
@@ -157,9 +158,9 @@ pivots_are_texts (p ∷ ps) printable =
 
 pub wide_is_utf8 : (system : ℕ) (note : WideText) → IsPrintableNote system note → IsUtf8 (wide_text system note)
 wide_is_utf8 system note printable =
-    let place : AreTexts (place_words note.place) = (place_word_is_text (place_name note.place), small_numbers_are_texts (place_numbers note.place) printable.place) in
+    let place = place_are_texts note.place printable.place in
     let path : AreTexts (codes "path" ∷ map pivot_word note.path) = (ascii_is_utf8 (codes "path") refl, pivots_are_texts note.path printable.path) in
-    line_text_is_utf8 (codes "wide" ∷ decimal system ∷ (place_words note.place ++ codes "path" ∷ map pivot_word note.path)) (ascii_is_utf8 (codes "wide") refl, (decimal_is_utf8 system (omega (arith, printable.number)), texts_append (place_words note.place) (codes "path" ∷ map pivot_word note.path) place path))
+    line_text_is_utf8 (codes "wide" ∷ decimal system ∷ (place_words note.place ++ codes "path" ∷ map pivot_word note.path)) (ascii_is_utf8 (codes "wide") refl, (decimal_is_utf8 system (omega (arith, printable.number)), all-append IsUtf8 (place_words note.place) (codes "path" ∷ map pivot_word note.path) place path))
 
 -- ---- answers
 
@@ -176,7 +177,7 @@ answer_text_is_utf8 t x table printable =
     let name = verdict_name x.verdict in
     let words = question_words t q ++ verdict_word name ∷ [] in
     let asked : AreTexts (question_words t q) = (question_word_is_text (question_name q), property_are_texts t (property_of q) table printable.named) in
-    let head = line_text_is_utf8 (codes "answer" ∷ words) (ascii_is_utf8 (codes "answer") refl, texts_append (question_words t q) (verdict_word name ∷ []) asked (verdict_is_text name, tt)) in
+    let head = line_text_is_utf8 (codes "answer" ∷ words) (ascii_is_utf8 (codes "answer") refl, all-append IsUtf8 (question_words t q) (verdict_word name ∷ []) asked (verdict_is_text name, tt)) in
     IsUtf8-append (head_text t q name) (verdict_text x.verdict) head (verdict_text_is_utf8 x.verdict printable.concluded)
 
 -- ---- repairs

@@ -281,7 +281,7 @@ small_number_says t place = record {
   ok = λ word n e. let sound = small_number_of-sound word n (number_sound small_number_of place word n e) in (n, sound.1, sound.0);
 }
 
-number_one : (t : DecisionTable) (place : ℕ) → SaysOne t place (number_in number_of place) a_number
+pub number_one : (t : DecisionTable) (place : ℕ) → SaysOne t place (number_in number_of place) a_number
 number_one t place = record { err = number_err place; ok = number_ok place }
 
 pub pivot_one : (t : DecisionTable) (place : ℕ) → SaysOne t place (pivot_in place) a_pivot
@@ -308,7 +308,7 @@ name_one t place word_of names = record {
   ok = λ word n e. named-there word_of names word n (need_ok (BadLine place) (name_of word_of names word) n e);
 }
 
-number_ends : (t : DecisionTable) (place : ℕ) (words : List (List ℕ)) → Ends t place (numbers_at place words) (expected_numbers words) words
+pub number_ends : (t : DecisionTable) (place : ℕ) (words : List (List ℕ)) → Ends t place (numbers_at place words) (expected_numbers words) words
 number_ends t place words = all_ends t place (number_in number_of place) a_number words tt (number_one t place)
 
 -- ---- numbers up to the bar

@@ -1,6 +1,6 @@
 -- The words of a report's line, read one by one from the left: the value of each, or the line's
 -- first fault.
-use Rattle.std.specs.Prelude.{ℕ, ◌+◌, not, List, [], ◌∷◌, length, take, drop, position, Option, Result, Ok, Err, ℤ, codes, ◌==◌, if◌then◌else◌}
+use Rattle.std.specs.Prelude.{ℕ, ◌+◌, not, List, [], ◌∷◌, length, take, drop, position, Option, None, Result, Ok, Err, ℤ, codes, ◌==◌, if◌then◌else◌}
 use Rattle.std.specs.Option.{option_map}
 use Rattle.std.specs.Str.{bytes_eq}
 use Rattle.ror_text.specs.Numbers.{number_of, small_number_of}
@@ -30,6 +30,11 @@ name_at word_of names place words = do
   word ← first_word place words
   name ← need (BadLine place) (name_of word_of names word.0)
   Ok (name, word.1)
+
+-- which of these the first word stands for, if it stands for one
+abbrev pub first_named : {N : Type 0} → (N → List ℕ) → List N → List (List ℕ) → Option N
+first_named word_of names [] = None
+first_named word_of names (word ∷ words) = name_of word_of names word
 
 -- no word is left
 abbrev pub no_more : ℕ → List (List ℕ) → Result (Unit {0}) ProofFault

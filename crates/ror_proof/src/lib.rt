@@ -25,6 +25,7 @@ mod print;
 pub mod questions;
 mod read;
 pub mod words;
+pub mod write;
 
 pub use answer::{Answer, Certificate, Part, Pivot, PlaceText, Proof, Verdict, WideText};
 pub use base::BaseLine;

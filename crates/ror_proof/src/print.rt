@@ -2,21 +2,22 @@
 #![tactic(auto, using(crate::proofs::PrintLemmas::in_front))]
 
 ghost use Rattle.std.specs.Prelude.{◌≡◌, ◌<◌, ◌^◌, [], ◌∷◌, ◌++◌, length, map, codes, IfOk, OnOk};
-ghost use Rattle.std.specs.Fmt.{signed_decimal};
 ghost use Rattle.std.specs.List.{flat_map};
 ghost use Rattle.ror_text.specs.SpacedLines.{line_text};
 ghost use Rattle.ror_statement.specs.Names.{PairWithin, ScopeWithin, NamesWithin, IsPropertyWithin, IsValidQuestion};
-ghost use Rattle.ror_table.specs.Table.{id_of, criterion_id_of};
+ghost use Rattle.ror_table.specs.Table.{criterion_id_of};
 ghost use Rattle.ror_proof.specs.Names.{verdict_name};
 ghost use Rattle.ror_proof.specs.Printing.{spaced, StandsInFront};
-ghost use Rattle.ror_proof.specs.Text.{pair_words, scope_words, form_words, property_words, question_words, multipliers_words, certificate_words, base_text, part_text, proof_text, place_words, pivot_word, wide_text, verdict_text, head_text, answer_text, repaired_text, dropped_text, kept_text, IsNarrowKept, IsNarrowVerdict};
+ghost use Rattle.ror_proof.specs.Text.{pair_words, scope_words, form_words, property_words, question_words, certificate_words, base_text, part_text, proof_text, place_words, pivot_word, wide_text, verdict_text, head_text, answer_text, repaired_text, dropped_text, kept_text, IsNarrowKept, IsNarrowVerdict};
 
 use crate::answer::{Answer, Certificate, Part, Pivot, PlaceText, Proof, Verdict, WideText};
 use crate::kept::{Dropped, Kept};
 use crate::names::{Name, PlaceName, QuestionName, VerdictName};
-use itoa::{Buffer, Integer};
+use crate::write::{
+    end_line, write_alternative, write_digits, write_multipliers, write_number, write_numbers,
+    write_word,
+};
 use ror_statement::{Form, Pair, Property, Question, Scope};
-use ror_system::{Multipliers, Numbers};
 use ror_table::Table;
 use std::alloc::{AllocError, Global};
 
@@ -186,19 +187,6 @@ fn write_scope(text: &mut Vec<u8>, table: &Table, scope: Scope) -> Result<(), Al
     }
 }
 
-fn write_alternative(
-    text: &mut Vec<u8>,
-    table: &Table,
-    alternative: usize,
-) -> Result<(), AllocError>
-    requires { alternative < length table.now.alternatives }
-    ensures ok { OnOk result (text.new.items
-        ≡ text.old.items ++ 32 ∷ id_of table.now alternative) }
-    ensures front { StandsInFront text.old.items text.new.items }
-{
-    write_word(text, table.alternative_id(alternative).as_bytes())
-}
-
 fn write_criterion(text: &mut Vec<u8>, table: &Table, criterion: usize) -> Result<(), AllocError>
     requires { criterion < length table.now.criteria }
     ensures ok { OnOk result (text.new.items
@@ -273,18 +261,6 @@ fn write_certificate(text: &mut Vec<u8>, certificate: &Certificate) -> Result<()
     }
 }
 
-/// The multipliers of the weak rows, a bar, and those of the strict rows.
-fn write_multipliers(text: &mut Vec<u8>, multipliers: &Multipliers) -> Result<(), AllocError>
-    ensures ok { OnOk result (text.new.items ≡ text.old.items
-        ++ spaced (multipliers_words multipliers.now.weak multipliers.now.strict)) }
-    ensures front { StandsInFront text.old.items text.new.items }
-{
-    write_word(text, b"multipliers")?;
-    write_numbers(text, &multipliers.weak)?;
-    write_word(text, b"|")?;
-    write_numbers(text, &multipliers.strict)
-}
-
 /// Writes the line of a number too wide on the way to the certificate of this system behind what is
 /// there, which stays in front also where memory runs out.
 pub fn write_wide(text: &mut Vec<u8>, system: u32, note: &WideText) -> Result<(), AllocError>
@@ -332,59 +308,4 @@ fn write_pivot(text: &mut Vec<u8>, pivot: Pivot) -> Result<(), AllocError>
     write_number(text, pivot.column)?;
     text.push(b':')?;
     write_digits(text, pivot.row)
-}
-
-fn write_numbers(text: &mut Vec<u8>, numbers: &Numbers) -> Result<(), AllocError>
-    ensures ok { OnOk result (text.new.items
-        ≡ text.old.items ++ spaced (map signed_decimal numbers.now)) }
-    ensures front { StandsInFront text.old.items text.new.items }
-{
-    for k in 0..numbers.len() {
-        write_often_zero(text, numbers.entry(k))?;
-    }
-    Ok(())
-}
-
-/// A number that is mostly 0, as the next word of a line.
-fn write_often_zero(text: &mut Vec<u8>, number: i128) -> Result<(), AllocError>
-    ensures ok { OnOk result (text.new.items ≡ text.old.items ++ 32 ∷ signed_decimal number) }
-    ensures front { StandsInFront text.old.items text.new.items }
-{
-    if number == 0 {
-        return text.extend_from_slice(b" 0");
-    }
-    write_number(text, number)
-}
-
-/// A number, as the next word of a line.
-fn write_number<N: Integer>(text: &mut Vec<u8>, number: N) -> Result<(), AllocError>
-    ensures ok { OnOk result (text.new.items ≡ text.old.items ++ 32 ∷ N.text number) }
-    ensures front { StandsInFront text.old.items text.new.items }
-{
-    text.push(b' ')?;
-    write_digits(text, number)
-}
-
-fn write_digits<N: Integer>(text: &mut Vec<u8>, number: N) -> Result<(), AllocError>
-    ensures ok { OnOk result (text.new.items ≡ text.old.items ++ N.text number) }
-    ensures front { StandsInFront text.old.items text.new.items }
-{
-    text.extend_from_slice(Buffer::new().format(number).as_bytes())
-}
-
-/// The next word of a line.
-fn write_word(text: &mut Vec<u8>, word: &[u8]) -> Result<(), AllocError>
-    ensures ok { OnOk result (text.new.items ≡ text.old.items ++ 32 ∷ word.now) }
-    ensures front { StandsInFront text.old.items text.new.items }
-{
-    text.push(b' ')?;
-    text.extend_from_slice(word)
-}
-
-fn end_line(text: &mut Vec<u8>) -> Result<(), AllocError>
-    ensures ok { OnOk result (text.new.items ≡ text.old.items ++ 10 ∷ []) }
-    ensures front { StandsInFront text.old.items text.new.items }
-{
-    text.push(b'\n')?;
-    Ok(())
 }

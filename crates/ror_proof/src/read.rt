@@ -7,13 +7,13 @@ ghost use Rattle.ror_proof.specs.Text.{IsNarrowKept, IsNarrowVerdict};
 ghost use Rattle.ror_proof.specs.Reading as reading;
 ghost use Rattle.ror_proof.specs.Reading.{answer_at, base_of, kept_at, wide_line_of, proof_fault, IsBaseLine, IsProofFaultWithin};
 
-use crate::answer::{Answer, Certificate, Part, PlaceText, Proof, Verdict, WideText};
+use crate::answer::{Answer, Certificate, Part, Proof, Verdict, WideText};
 use crate::base::{BaseLine, base_at, base_line};
 use crate::kept::{Dropped, Kept};
-use crate::names::{PLACE_NAMES, PlaceName, VERDICT_NAMES, VerdictName};
+use crate::names::{VERDICT_NAMES, VerdictName};
 use crate::questions::question_at;
 use crate::words::{
-    after_word, entry_at, multipliers_at, name_at, no_more, numbers_at, pivots_at, refutation_at,
+    after_word, multipliers_at, name_at, no_more, numbers_at, pivots_at, place_at, refutation_at,
     small_number_at, the_number_at,
 };
 use ror_statement::Question;
@@ -416,49 +416,4 @@ fn note_at(alloc: Global, place: usize, words: Words<'_>) -> Result<WideText, Pr
         path,
         place: number,
     })
-}
-
-/// The place of a number, which comes first.
-#[tactic(auto, unfolding(crate::specs::Reading::place_at))]
-fn place_at<'a>(place: usize, words: Words<'a>) -> Result<(PlaceText, Words<'a>), ProofFault>
-    ensures exact { Gives (λ x. (x.0, x.1)) proof_fault result
-        (reading.place_at place words.entry) }
-    ensures placed { IfErr result (IsProofFaultWithin place) }
-{
-    let (name, words) = name_at(&PLACE_NAMES, place, words)?;
-    numbered_at(place, name, words)
-}
-
-/// The number's place of this name, whose word is before these words.
-fn numbered_at<'a>(
-    place: usize,
-    name: PlaceName,
-    words: Words<'a>,
-) -> Result<(PlaceText, Words<'a>), ProofFault>
-    ensures exact { Gives (λ x. (x.0, x.1)) proof_fault result
-        (reading.numbered_at place name words.entry) }
-    ensures placed { IfErr result (IsProofFaultWithin place) }
-{
-    match name {
-        PlaceName::Start => {
-            let (row, column, words) = entry_at(place, words)?;
-            Ok((PlaceText::Start(row, column), words))
-        }
-        PlaceName::Step => {
-            let (row, column, words) = entry_at(place, words)?;
-            Ok((PlaceText::Step(row, column), words))
-        }
-        PlaceName::Denominator => {
-            let (row, words) = small_number_at(place, words)?;
-            Ok((PlaceText::Denominator(row), words))
-        }
-        PlaceName::RowSum => {
-            let (row, words) = small_number_at(place, words)?;
-            Ok((PlaceText::RowSum(row), words))
-        }
-        PlaceName::ColumnSum => {
-            let (column, words) = small_number_at(place, words)?;
-            Ok((PlaceText::ColumnSum(column), words))
-        }
-    }
 }

@@ -1,19 +1,20 @@
 //! The words of a line, read one by one.
 
-ghost use Rattle.std.specs.Prelude.{◌≡◌, ◌==◌, MatchOption, IfErr, position};
+ghost use Rattle.std.specs.Prelude.{◌≡◌, ◌≤◌, ◌==◌, length, MatchOption, IfErr, position};
+ghost use Rattle.ror_text.specs.Cursor.{cursor_at, line_words};
 ghost use Rattle.ror_text.specs.Numbers.{number_of, small_number_of};
 ghost use Rattle.ror_text.specs.Reading.{Gives};
 ghost use Rattle.ror_proof.specs.Words as spec;
 ghost use Rattle.ror_proof.specs.Reading as reading;
 ghost use Rattle.ror_proof.specs.Reading.{proof_fault, IsProofFaultWithin};
 
-use crate::answer::Pivot;
-use crate::names::{Name, named};
+use crate::answer::{Pivot, PlaceText};
+use crate::names::{Name, PLACE_NAMES, PlaceName, named};
 use crate::read::ProofFault;
 use ror_system::{Multipliers, Numbers};
 use ror_text::numbers::{read_number, read_small_number};
 use ror_text::reading::{need, refuse_if};
-use ror_text::spaced::Words;
+use ror_text::spaced::{Words, line_at};
 use std::alloc::Global;
 
 /// The words after one that has to come first.
@@ -53,6 +54,16 @@ pub fn name_at<'a, N: Name + Drop>(
     }
 }
 
+/// Which of these the first word of the line at a place stands for, if it stands for one.
+pub fn first_named<N: Name + Drop>(names: &[N], bytes: &[u8], from: usize) -> Option<N>
+    requires { from ≤ length bytes.now }
+    ensures { result ≡ spec.first_named N.word_of names.now (line_words (cursor_at bytes.now from)) }
+{
+    let (line, _) = line_at(bytes, from);
+    let (word, _) = Words::of(line).next()?;
+    named(names, word)
+}
+
 /// That no word is left.
 pub fn no_more(place: usize, words: Words<'_>) -> Result<(), ProofFault>
     ensures exact { Gives (λ _. tt) proof_fault result (spec.no_more place words.entry) }
@@ -87,6 +98,51 @@ pub fn entry_at<'a>(place: usize, words: Words<'a>) -> Result<(u32, u32, Words<'
     let (row, words) = small_number_at(place, words)?;
     let (column, words) = small_number_at(place, words)?;
     Ok((row, column, words))
+}
+
+/// The place of a number, which comes first.
+#[tactic(auto, unfolding(crate::specs::Reading::place_at))]
+pub fn place_at<'a>(place: usize, words: Words<'a>) -> Result<(PlaceText, Words<'a>), ProofFault>
+    ensures exact { Gives (λ x. (x.0, x.1)) proof_fault result
+        (reading.place_at place words.entry) }
+    ensures placed { IfErr result (IsProofFaultWithin place) }
+{
+    let (name, words) = name_at(&PLACE_NAMES, place, words)?;
+    numbered_at(place, name, words)
+}
+
+/// The number's place of this name, whose word is before these words.
+fn numbered_at<'a>(
+    place: usize,
+    name: PlaceName,
+    words: Words<'a>,
+) -> Result<(PlaceText, Words<'a>), ProofFault>
+    ensures exact { Gives (λ x. (x.0, x.1)) proof_fault result
+        (reading.numbered_at place name words.entry) }
+    ensures placed { IfErr result (IsProofFaultWithin place) }
+{
+    match name {
+        PlaceName::Start => {
+            let (row, column, words) = entry_at(place, words)?;
+            Ok((PlaceText::Start(row, column), words))
+        }
+        PlaceName::Step => {
+            let (row, column, words) = entry_at(place, words)?;
+            Ok((PlaceText::Step(row, column), words))
+        }
+        PlaceName::Denominator => {
+            let (row, words) = small_number_at(place, words)?;
+            Ok((PlaceText::Denominator(row), words))
+        }
+        PlaceName::RowSum => {
+            let (row, words) = small_number_at(place, words)?;
+            Ok((PlaceText::RowSum(row), words))
+        }
+        PlaceName::ColumnSum => {
+            let (column, words) = small_number_at(place, words)?;
+            Ok((PlaceText::ColumnSum(column), words))
+        }
+    }
 }
 
 /// The words after this number, which has to come first; any other is a bad number.
@@ -208,7 +264,7 @@ pub fn number_in(place: usize, word: &[u8]) -> Result<i128, ProofFault>
 }
 
 /// The small number that a word says.
-fn small_number_in(place: usize, word: &[u8]) -> Result<u32, ProofFault>
+pub fn small_number_in(place: usize, word: &[u8]) -> Result<u32, ProofFault>
     ensures exact { Gives (λ number. number) proof_fault result
         (spec.number_in small_number_of place word.now) }
     ensures placed { IfErr result (IsProofFaultWithin place) }

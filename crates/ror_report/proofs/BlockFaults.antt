@@ -1,7 +1,7 @@
 -- The fault of a block and of the last line is the one that is given.
-use Rattle.std.proofs.Common.{◌≡◌, ℕ, ◌+◌, ◌≤◌, zero, suc, true, false, not, eqb, Option, Some, None, List, [], ◌∷◌, length, length-append, Result, Ok, Err, refl, sym, ap, ◌∙◌, arith, inl, inr}
+use Rattle.std.proofs.Common.{◌≡◌, ℕ, zero, true, false, not, eqb, Option, Some, None, List, [], ◌∷◌, length, Result, Ok, Err, refl, sym, ap, arith, inl, inr}
 use Rattle.std.specs.Prelude.{◌≢◌, codes}
-use Rattle.std.proofs.lemmas.Bool.{cases_Bool, ne_eqb, eqb-false, not-true}
+use Rattle.std.proofs.lemmas.Bool.{ne_eqb, eqb-false, not-true}
 use Rattle.ror_text.specs.Cursor.{Cursor, line_words}
 use Rattle.ror_text.specs.Reading.{◌>>=◌, refuse}
 use Rattle.ror_text.proofs.ReadingLemmas.{bind_err, refuse_err}
@@ -10,55 +10,19 @@ use Rattle.ror_proof.specs.declared.answer.Answer.{Answer}
 use Rattle.ror_proof.specs.declared.read.ProofFault.{ProofFault}
 use Rattle.ror_proof.specs.declared.read.ProofFault.TheVariants.{BadLine}
 use Rattle.ror_proof.specs.Expected.{IsLine}
-use Rattle.ror_proof.specs.Reading.{answer_at}
-use Rattle.ror_proof.specs.Text.{answer_text}
-use Rattle.ror_proof.proofs.AnswerLemmas.{answer_is_text, is_read_iff_text}
 use Rattle.ror_proof.proofs.WordFaults.{no_fault}
-use Rattle.ror_proof.proofs.LineFaults.{answer_err, answer_fails, line_fails, line_goes}
+use Rattle.ror_proof.proofs.LineFaults.{line_fails, line_goes}
 use Rattle.ror_report.specs.declared.block.Block.{Block}
 use Rattle.ror_report.specs.declared.block.Body.{Body}
 use Rattle.ror_report.specs.declared.block.Body.TheVariants.{Answers}
 use Rattle.ror_report.specs.declared.names.BodyForm.{BodyForm}
 use Rattle.ror_report.specs.Reading.{numbered_line, form_lines, form_of, ends_body, body_answers, formed_at, answers_at, body_of, body_at, block_at, end_at}
-use Rattle.ror_report.specs.Faults.{expected_number, IsFaultOfAnswers, IsFaultOfBlock, IsFaultOfEnd}
-use Rattle.ror_report.specs.Faults.IsFaultOfAnswers.{this_answer, later_answer}
+use Rattle.ror_report.specs.Faults.{expected_number, IsFaultOfBlock, IsFaultOfEnd}
 use Rattle.ror_report.specs.Faults.IsFaultOfBlock.{in_name, in_form, after_form, in_answers}
 use Rattle.ror_report.specs.Faults.IsFaultOfEnd.{in_end, after_end}
-use Rattle.ror_report.proofs.Bodies.{answer_step, no_answers, goes_on_some}
-use Rattle.ror_report.proofs.BlockLemmas.{answer_has_bytes}
+use Rattle.ror_report.proofs.AnswerRuns.{answers_err, answers_fail}
+use Rattle.ror_report.proofs.Bodies.{body_ends}
 use Rattle.ror_report.proofs.FormFaults.{number_reads, reads_form}
-
--- ---- answers
-
-abbrev one_more : Answer → List Answer × Cursor → Result (List Answer × Cursor) ProofFault
-one_more x others = Ok (x ∷ others.0, others.1)
-
-answers_err : (t : DecisionTable) (most : ℕ) (c : Cursor) (f : ProofFault) → body_answers t most c ≡ Err f → IsFaultOfAnswers t f c
-unfolding body_answers
-answers_err t zero c f e = absurd (no_fault _ f e)
-answers_err t (suc most) c f e =
-    elim (cases_Bool (ends_body c.rest)) [
-      | inl ends ↦ absurd (no_fault _ f (sym (no_answers t (suc most) c ends) ∙ e))
-      | inr more ↦
-          elim (bind_err (answer_at t c) (λ first. body_answers t most first.1 >>= λ others. one_more first.0 others) f (sym (answer_step t most c more) ∙ e)) [
-            | inl here ↦ this_answer c more (answer_err t c f here)
-            | inr a ↦
-                elim (bind_err (body_answers t most a.0.1) (λ others. one_more a.0.0 others) f a.2) [
-                  | inl deeper ↦ later_answer c a.0.1 a.0.0 more (answer_is_text t c a.0.0 a.0.1 a.1) (answers_err t most a.0.1 f deeper)
-                  | inr none ↦ absurd (no_fault _ f none.2)
-                ]
-          ]
-    ]
-
-answers_fail : (t : DecisionTable) (most : ℕ) (c : Cursor) (f : ProofFault) → IsTable t → length c.rest ≤ most → IsFaultOfAnswers t f c → body_answers t most c ≡ Err f
-answers_fail t zero c f table room (this_answer _ more fault) = let some = goes_on_some c.rest more in absurd (omega (arith, some, room))
-answers_fail t zero c f table room (later_answer _ after x more text fault) = let some = goes_on_some c.rest more in absurd (omega (arith, some, room))
-answers_fail t (suc most) c f table room (this_answer _ more fault) = answer_step t most c more ∙ rw (answer_fails t c f fault) refl
-answers_fail t (suc most) c f table room (later_answer _ after x more text fault) =
-    let read = (is_read_iff_text t c x after table).1 text in
-    let all : length c.rest ≡ length (answer_text t x) + length after.rest = ap length text.text ∙ length-append (answer_text t x) after.rest in
-    let rest = answers_fail t most after f table (omega (arith, all, answer_has_bytes t x, room)) fault in
-    answer_step t most c more ∙ rw (read, rest) refl
 
 -- ---- blocks
 
@@ -76,7 +40,7 @@ body_err : (t : DecisionTable) (c at : Cursor) (form : Option BodyForm) (f : Pro
 unfolding formed_at answers_at
 body_err t c at None f line found e =
     elim (bind_err (body_answers t (length at.rest) at) (λ answers. answers_read answers) f e) [
-      | inl faulty ↦ in_answers at line found (answers_err t (length at.rest) at f faulty)
+      | inl faulty ↦ in_answers at line found (answers_err ends_body body_ends t (length at.rest) at f faulty)
       | inr none ↦ absurd (no_fault _ f none.2)
     ]
 body_err t c at (Some form) f line found e =
@@ -111,7 +75,7 @@ block_fails t c f table (in_form body form line found fault) =
 block_fails t c f table (after_form body after form line found own more is) =
     rw ((line_goes t (expected_number (codes "line")) c body (numbered_line (codes "line") c) (number_reads t (codes "line") c) line).1, found, ((reads_form t form body).goes after own).1, more) (ap Err (sym is))
 block_fails t c f table (in_answers body line found fault) =
-    rw ((line_goes t (expected_number (codes "line")) c body (numbered_line (codes "line") c) (number_reads t (codes "line") c) line).1, found, answers_fail t (length body.rest) body f table (omega arith) fault) refl
+    rw ((line_goes t (expected_number (codes "line")) c body (numbered_line (codes "line") c) (number_reads t (codes "line") c) line).1, found, answers_fail ends_body body_ends t (length body.rest) body f table (omega arith) fault) refl
 
 -- ---- the last line
 

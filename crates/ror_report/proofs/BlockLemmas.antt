@@ -1,8 +1,8 @@
 -- Blocks as texts, both ways: what was written is read again, and what is read was so written.
-use Rattle.std.proofs.Common.{◌≡◌, ℕ, zero, suc, ◌+◌, ◌<◌, ◌≤◌, ◌^◌, true, false, not, Option, Some, None, List, [], ◌∷◌, ◌++◌, length, Ok, refl, sym, ap, subst, ◌∙◌, append_assoc, arith, inl, inr, length-append}
+use Rattle.std.proofs.Common.{◌≡◌, ℕ, ◌+◌, ◌<◌, ◌≤◌, ◌^◌, true, not, Option, Some, None, List, [], ◌∷◌, ◌++◌, length, Ok, refl, sym, ap, subst, ◌∙◌, append_assoc, arith, length-append}
 use Rattle.std.specs.Prelude.{codes, ◌↔◌}
 use Rattle.std.specs.List.{flat_map, AllByRecursion}
-use Rattle.std.proofs.lemmas.Bool.{cases_Bool, not-false}
+use Rattle.std.proofs.lemmas.Bool.{not-false}
 use Rattle.ror_text.specs.Reading.{◌>>=◌, refuse}
 use Rattle.ror_text.specs.SpacedLines.{line_text}
 use Rattle.ror_text.proofs.ReadingLemmas.{bind_ok, refuse_ok}
@@ -12,8 +12,8 @@ use Rattle.ror_text.specs.Cursor.{Cursor, line_words}
 use Rattle.ror_proof.specs.declared.answer.WideText.{WideText}
 use Rattle.ror_proof.specs.declared.kept.Kept.{Kept}
 use Rattle.ror_proof.specs.Text.{answer_text, kept_text, wide_text, IsPrintable, IsPrintableKept, IsPrintableNote}
-use Rattle.ror_proof.specs.Reading.{begins_part, answer_at, kept_at, wide_line_of}
-use Rattle.ror_proof.proofs.AnswerLemmas.{answer_reads_back, answer_is_text, answer_begins}
+use Rattle.ror_proof.specs.Reading.{kept_at, wide_line_of}
+use Rattle.ror_proof.proofs.AnswerLemmas.{answer_begins}
 use Rattle.ror_proof.proofs.RepairLemmas.{kept_reads_back, kept_is_text, kept_begins}
 use Rattle.ror_proof.proofs.WideLines.{wide_line_of_again, wide_line_of_sound}
 use Rattle.ror_report.specs.declared.block.Block.{Block}
@@ -28,44 +28,12 @@ use Rattle.ror_report.specs.Names.{form_word}
 use Rattle.ror_report.specs.Text.{numbered_text, body_text, block_text, IsPrintableBody, IsPrintableBlock}
 use Rattle.ror_report.specs.Reading.{numbered_line, form_words, form_line, repaired_lines, repair_wide_lines, form_lines, form_of, ends_body, body_answers, formed_at, answers_at, body_of, body_at, block_at}
 use Rattle.ror_report.specs.Laws.{IsBlockText}
-use Rattle.ror_report.proofs.Bodies.{answer_step, no_answers}
+use Rattle.ror_report.proofs.AnswerRuns.{answers_have_bytes, answers_again, answers_sound}
+use Rattle.ror_report.proofs.Bodies.{body_ends}
 use Rattle.ror_text.proofs.CursorLemmas.{Spans, spans_then, line_again, line_spans}
-use Rattle.ror_report.proofs.LineForms.{base_is_small, numbered_again, numbered_sound, line_reads_back, line_is_read, IsOneLine, added_line, withdrawn_line, replaced_line, undone_line, refused_line, form_found, form_words_again, form_words_sound, goes_on_at_answer, ends_no_part, no_form_at_answer, ends_no_form, form_at_repaired, form_at_repair_wide, repair_wide_begins}
+use Rattle.ror_report.proofs.LineForms.{base_is_small, numbered_again, numbered_sound, line_reads_back, line_is_read, IsOneLine, added_line, withdrawn_line, replaced_line, undone_line, refused_line, form_found, form_words_again, form_words_sound, no_form_at_answer, ends_no_form, form_at_repaired, form_at_repair_wide, repair_wide_begins}
 
 -- ---- what was written is read again
-
-answer_goes_on : (t : DecisionTable) (x : Answer) (rest : List ℕ) → ends_body (answer_text t x ++ rest) ≡ false
-answer_goes_on t x rest =
-    let begins = answer_begins t x in
-    ap (λ (l : List ℕ). ends_body (l ++ rest)) begins.1 ∙ goes_on_at_answer (begins.0 ++ rest)
-
--- no part stands behind an answer
-no_part_behind : (t : DecisionTable) (xs : List Answer) (rest : List ℕ) → ends_body rest ≡ true → begins_part (flat_map (answer_text t) xs ++ rest) ≡ false
-no_part_behind t [] rest ends = ends_no_part rest ends
-no_part_behind t (x ∷ xs) rest ends = ap (λ (l : List ℕ). begins_part ((l ++ flat_map (answer_text t) xs) ++ rest)) (answer_begins t x).1
-
-body_again : (t : DecisionTable) (most place : ℕ) (xs : List Answer) (rest : List ℕ) → IsTable t → AllByRecursion (IsPrintable t) xs → ends_body rest ≡ true → length xs ≤ most
-    → body_answers t most (record { place = place; rest = flat_map (answer_text t) xs ++ rest }) ≡ Ok (xs, record { place = place + length (flat_map (answer_text t) xs); rest = rest })
-body_again t most place [] rest table printable ends room = no_answers t most (record { place = place; rest = rest }) ends ∙ ap (λ n. Ok ([], record { place = n; rest = rest })) (omega arith)
-body_again t zero place (x ∷ xs) rest table printable ends room = absurd (omega arith)
-body_again t (suc most) place (x ∷ xs) rest table printable ends room =
-    let front = answer_text t x in
-    let others = flat_map (answer_text t) xs in
-    let tail = others ++ rest in
-    let start : Cursor = record { place = place; rest = (front ++ others) ++ rest } in
-    let regrouped : (front ++ others) ++ rest ≡ front ++ tail = append_assoc front others rest in
-    let more : ends_body start.rest ≡ false = ap ends_body regrouped ∙ answer_goes_on t x tail in
-    let first : answer_at t start ≡ Ok (x, record { place = place + length front; rest = tail }) = ap (λ r. answer_at t (record { place = place; rest = r })) regrouped ∙ answer_reads_back t x place tail table printable.0 (no_part_behind t xs rest ends) in
-    let later = body_again t most (place + length front) xs rest table printable.1 ends (omega arith) in
-    let to : place + length front + length others ≡ place + length (front ++ others) = omega (arith, length-append front others) in
-    answer_step t most start more ∙ (rw (first, later) (ap (λ n. Ok (x ∷ xs, record { place = n; rest = rest })) to))
-
-pub answer_has_bytes : (t : DecisionTable) (x : Answer) → 0 < length (answer_text t x)
-answer_has_bytes t x = let begins = answer_begins t x in omega (arith, ap length begins.1)
-
-body_has_bytes : (t : DecisionTable) (xs : List Answer) → length xs ≤ length (flat_map (answer_text t) xs)
-body_has_bytes t [] = omega arith
-body_has_bytes t (x ∷ xs) = omega (arith, body_has_bytes t xs, answer_has_bytes t x, length-append (answer_text t x) (flat_map (answer_text t) xs))
 
 -- no other body stands where the answers begin
 no_form_ahead : (t : DecisionTable) (place : ℕ) (xs : List Answer) (rest : List ℕ) → ends_body rest ≡ true → form_of (line_words (record { place = place; rest = flat_map (answer_text t) xs ++ rest })) ≡ None
@@ -130,8 +98,8 @@ answers_read_back : (t : DecisionTable) (xs : List Answer) (place : ℕ) (rest :
 unfolding answers_at
 answers_read_back t xs place rest table printable ends =
     let body = flat_map (answer_text t) xs in
-    let room : length xs ≤ length (body ++ rest) = omega (arith, body_has_bytes t xs, length-append body rest) in
-    rw (body_again t (length (body ++ rest)) place xs rest table printable ends room) refl
+    let room : length xs ≤ length (body ++ rest) = omega (arith, answers_have_bytes t xs, length-append body rest) in
+    rw (answers_again ends_body body_ends t (length (body ++ rest)) place xs rest table printable ends room) refl
 
 body_reads_back : (t : DecisionTable) (body : Body) (place : ℕ) (rest : List ℕ) → IsTable t → IsPrintableBody t body → ends_body rest ≡ true
     → body_at t (record { place = place; rest = body_text t body ++ rest }) ≡ Ok (body, record { place = place + length (body_text t body); rest = rest })
@@ -158,38 +126,6 @@ block_reads_back t b place rest table printable ends =
     (ap (λ m. Ok (b, record { place = m; rest = rest })) to))
 
 -- ---- what is read was so written
-
--- what was read as the answers of a body
-record AreReadAnswers (t : DecisionTable) (c : Cursor) (xs : List Answer) (after : Cursor) : Type 0 where
-  spans : Spans c (flat_map (answer_text t) xs) after
-  printable : AllByRecursion (IsPrintable t) xs
-  ended : ends_body after.rest ≡ true
-
-no_answer_read : (t : DecisionTable) (most : ℕ) (c : Cursor) (x : List Answer × Cursor) → ends_body c.rest ≡ true → body_answers t most c ≡ Ok x → AreReadAnswers t c x.0 x.1
-no_answer_read t most c x ends e =
-    subst (λ (y : List Answer × Cursor). AreReadAnswers t c y.0 y.1) (ok_is ([], c) x (sym (no_answers t most c ends) ∙ e)) (record { spans = record { rest = refl; place = omega arith }; printable = tt; ended = ends })
-
-nothing_ends : (bytes : List ℕ) → length bytes ≤ 0 → ends_body bytes ≡ true
-nothing_ends [] none = refl
-nothing_ends (b ∷ bs) none = absurd (omega arith)
-
-body_sound : (t : DecisionTable) (most : ℕ) (c : Cursor) (x : List Answer × Cursor) → body_answers t most c ≡ Ok x → length c.rest ≤ most → AreReadAnswers t c x.0 x.1
-body_sound t zero c x e room = no_answer_read t zero c x (nothing_ends c.rest room) e
-body_sound t (suc most) c x e room =
-    elim (cases_Bool (ends_body c.rest)) [
-      | inl ends ↦ no_answer_read t (suc most) c x ends e
-      | inr more ↦
-          let a = bind_ok (answer_at t c) (λ first. body_answers t most first.1 >>= λ others. done (first.0 ∷ others.0, others.1)) x (sym (answer_step t most c more) ∙ e) in
-          let b = bind_ok (body_answers t most a.0.1) (λ others. done (a.0.0 ∷ others.0, others.1)) x a.2 in
-          let first = answer_is_text t c a.0.0 a.0.1 a.1 in
-          let all : length c.rest ≡ length (answer_text t a.0.0) + length a.0.1.rest = ap length first.text ∙ length-append (answer_text t a.0.0) a.0.1.rest in
-          let others = body_sound t most a.0.1 b.0 b.1 (omega (arith, all, answer_has_bytes t a.0.0)) in
-          subst (λ (y : List Answer × Cursor). AreReadAnswers t c y.0 y.1) (ok_is (a.0.0 ∷ b.0.0, b.0.1) x b.2) (record {
-            spans = spans_then c a.0.1 b.0.1 (answer_text t a.0.0) (flat_map (answer_text t) b.0.0) (record { rest = first.text; place = first.place }) others.spans;
-            printable = (first.printable, others.printable);
-            ended = others.ended;
-          })
-    ]
 
 -- what was read as a body
 record IsReadBody (t : DecisionTable) (c : Cursor) (body : Body) (after : Cursor) : Type 0 where
@@ -251,11 +187,11 @@ formed_sound t form c x e =
       ended = not-false _ (refuse_ok _ _ b.0 b.1);
     })
 
-answers_sound : (t : DecisionTable) (c : Cursor) (x : Body × Cursor) → answers_at t c ≡ Ok x → IsReadBody t c x.0 x.1
+answers_are_read : (t : DecisionTable) (c : Cursor) (x : Body × Cursor) → answers_at t c ≡ Ok x → IsReadBody t c x.0 x.1
 unfolding answers_at
-answers_sound t c x e =
+answers_are_read t c x e =
     let a = bind_ok (body_answers t (length c.rest) c) (λ answers. done (Answers answers.0, answers.1)) x e in
-    let answers = body_sound t (length c.rest) c a.0 a.1 (omega arith) in
+    let answers = answers_sound ends_body body_ends t (length c.rest) c a.0 a.1 (omega arith) in
     subst (λ (y : Body × Cursor). IsReadBody t c y.0 y.1) {x = (Answers a.0.0, a.0.1)} (ok_is (Answers a.0.0, a.0.1) x a.2) (record {
       spans = answers.spans;
       printable = answers.printable;
@@ -264,7 +200,7 @@ answers_sound t c x e =
 
 read_body_of : (t : DecisionTable) (form : Option BodyForm) (c : Cursor) (x : Body × Cursor) → body_of t form c ≡ Ok x → IsReadBody t c x.0 x.1
 read_body_of t (Some form) c x e = formed_sound t form c x e
-read_body_of t None c x e = answers_sound t c x e
+read_body_of t None c x e = answers_are_read t c x e
 
 read_body : (t : DecisionTable) (c : Cursor) (x : Body × Cursor) → body_at t c ≡ Ok x → IsReadBody t c x.0 x.1
 unfolding body_at

@@ -1,3 +1,5 @@
+pub mod DeskLemmas
+pub mod AnswerRuns
 pub mod Bodies
 pub mod LineForms
 pub mod BlockLemmas

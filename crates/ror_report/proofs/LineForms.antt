@@ -7,20 +7,20 @@ use Rattle.std.proofs.lemmas.Bool.{cases_Bool, and_from, and_parts, not-true, ne
 use Rattle.std.proofs.lemmas.Bool.Decides.{Decides-eqb}
 use Rattle.std.proofs.lemmas.List.{append-nil}
 use Rattle.std.proofs.lemmas.Slice.Eq.{starts_is}
-use Rattle.ror_text.specs.Reading.{◌>>=◌, need}
+use Rattle.ror_text.specs.Reading.{◌>>=◌}
 use Rattle.ror_text.specs.Lines.{is_line_end}
 use Rattle.ror_text.specs.SpacedLines.{spaced_words, is_word, are_words, line_text}
 use Rattle.ror_text.specs.Cursor.{Cursor, line_words, line_after}
 use Rattle.ror_text.proofs.NumberLemmas.{is_word-decimal}
-use Rattle.ror_text.proofs.ReadingLemmas.{bind_ok, need_ok}
+use Rattle.ror_text.proofs.ReadingLemmas.{bind_ok}
 use Rattle.ror_text.proofs.SpacedLemmas.{is_one_line}
-use Rattle.ror_text.proofs.CursorLemmas.{Spans, line_again, line_spans}
+use Rattle.ror_text.proofs.CursorLemmas.{Spans, line_spans}
 use Rattle.ror_table.specs.Table.{DecisionTable}
 use Rattle.ror_proof.specs.declared.read.ProofFault.{ProofFault}
-use Rattle.ror_proof.specs.declared.read.ProofFault.TheVariants as words
 use Rattle.ror_proof.specs.Names.{name_of}
 use Rattle.ror_proof.specs.Words.{after_word, name_at, no_more, small_number_at}
 use Rattle.ror_proof.specs.Reading.{begins_part, ended}
+use Rattle.ror_proof.proofs.AnswerLemmas.{ended_again, ended_sound}
 use Rattle.ror_proof.proofs.WordLemmas.{after_word_again, after_word_sound, no_more_sound, small_number_again, small_number_sound, name_again, name_sound, done, ok_is}
 use Rattle.ror_report.specs.declared.block.Block.{Block}
 use Rattle.ror_report.specs.declared.block.Body.{Body}
@@ -44,19 +44,11 @@ base_is_small = omega arith
 -- a line that was written is read as its words are
 pub line_reads_back : {A : Type 0} (reading : ℕ → List (List ℕ) → Result A ProofFault) (x : A) (place : ℕ) (word : List ℕ) (ws : List (List ℕ)) (rest : List ℕ) → are_words (word ∷ ws) ≡ true → reading place (word ∷ ws) ≡ Ok x
     → ended (record { place = place; rest = line_text (word ∷ ws) ++ rest }) (reading place (line_words (record { place = place; rest = line_text (word ∷ ws) ++ rest }))) ≡ Ok (x, record { place = place + length (line_text (word ∷ ws)); rest = rest })
-unfolding ended
-line_reads_back reading x place word ws rest are read =
-    let line = line_again place word ws rest are in
-    rw (line.0, read, line.1) refl
+line_reads_back reading x place word ws rest are read = ended_again reading place word ws rest x are read
 
 -- what is read of a line is read of its words, and a line feed ends it
 pub line_is_read : {A : Type 0} (c : Cursor) (reading : Result A ProofFault) (x : A × Cursor) → ended c reading ≡ Ok x → (reading ≡ Ok x.0) × (line_after c ≡ Some x.1)
-unfolding ended
-line_is_read c reading x e =
-    let a = bind_ok reading (λ value. need (words.BadLine c.place) (line_after c) >>= λ next. done (value, next)) x e in
-    let b = bind_ok (need (words.BadLine c.place) (line_after c)) (λ next. done (a.0, next)) x a.2 in
-    let same = ok_is (a.0, b.0) x b.2 in
-    (a.1 ∙ ap (λ y. done y.0) same, need_ok (words.BadLine c.place) (line_after c) b.0 b.1 ∙ ap (λ y. Some y.1) same)
+line_is_read c reading x e = let read = ended_sound c reading x e in (read.words, read.line)
 
 -- ---- a line of a name and a number
 

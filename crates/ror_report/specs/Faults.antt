@@ -1,6 +1,6 @@
 -- The fault of a block or of the last line: that of its first faulty word, in its first faulty
 -- line.
-use Rattle.std.specs.Prelude.{◌≡◌, ◌≢◌, ◌⊎◌, ℕ, List, [], ◌∷◌, ◌++◌, map, codes, Some, None, false}
+use Rattle.std.specs.Prelude.{◌≡◌, ◌≢◌, ◌⊎◌, ℕ, Bool, List, [], ◌∷◌, ◌++◌, map, codes, Some, None, true, false}
 use Rattle.ror_text.specs.Cursor.{Cursor, line_words}
 use Rattle.ror_table.specs.Table.{DecisionTable}
 use Rattle.ror_proof.specs.declared.answer.Answer.{Answer}
@@ -53,12 +53,20 @@ IsFaultOfForm t bodies.RepairWide c fault =
     ⊎ ((wide : Cursor) × IsLine t expected_repair_wide c wide
     × IsFaultOfLine t (expected_wide_of 0) wide fault)
 
--- the fault of the first faulty answer of a body
-pub data IsFaultOfAnswers (t : DecisionTable) (fault : ProofFault) : Cursor → Type 0 where
-  this_answer : (c : Cursor) → ends_body c.rest ≡ false → IsFaultOfAnswer t c fault
-      → IsFaultOfAnswers t fault c
-  later_answer : (c after : Cursor) (x : Answer) → ends_body c.rest ≡ false
-      → IsAnswerText t c x after → IsFaultOfAnswers t fault after → IsFaultOfAnswers t fault c
+-- from here on stand texts of answers, up to bytes at which they end
+pub data AreAnswerTexts (ends : List ℕ → Bool) (t : DecisionTable) (after : Cursor)
+    : Cursor → Type 0 where
+  no_answer : (c : Cursor) → ends c.rest ≡ true → c ≡ after → AreAnswerTexts ends t after c
+  one_answer : (c next : Cursor) (x : Answer) → ends c.rest ≡ false → IsAnswerText t c x next
+      → AreAnswerTexts ends t after next → AreAnswerTexts ends t after c
+
+-- the fault of the first faulty one of them
+pub data IsFaultOfAnswers (ends : List ℕ → Bool) (t : DecisionTable) (fault : ProofFault)
+    : Cursor → Type 0 where
+  this_answer : (c : Cursor) → ends c.rest ≡ false → IsFaultOfAnswer t c fault
+      → IsFaultOfAnswers ends t fault c
+  later_answer : (c next : Cursor) (x : Answer) → ends c.rest ≡ false → IsAnswerText t c x next
+      → IsFaultOfAnswers ends t fault next → IsFaultOfAnswers ends t fault c
 
 -- the fault of the block that begins here: of the line that names the session's line, of the lines
 -- of a body that its first word tells, of a line after them that no body goes on with, or of an
@@ -73,7 +81,7 @@ pub data IsFaultOfBlock (t : DecisionTable) (c : Cursor) (fault : ProofFault) : 
       → form_of (line_words body) ≡ Some form → AreFormLines t form body after
       → ends_body after.rest ≡ false → fault ≡ BadLine after.place → IsFaultOfBlock t c fault
   in_answers : (body : Cursor) → IsLine t (expected_number (codes "line")) c body
-      → form_of (line_words body) ≡ None → IsFaultOfAnswers t fault body → IsFaultOfBlock t c fault
+      → form_of (line_words body) ≡ None → IsFaultOfAnswers ends_body t fault body → IsFaultOfBlock t c fault
 
 -- the fault of the last line, or of the bytes after it
 pub data IsFaultOfEnd (t : DecisionTable) (c : Cursor) (fault : ProofFault) : Type 0 where

@@ -1,3 +1,4 @@
+pub mod Desk
 pub mod Names
 pub mod Text
 pub mod Printing

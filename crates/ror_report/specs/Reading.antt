@@ -5,8 +5,7 @@ use Rattle.std.specs.List.{starts_with}
 use Rattle.ror_text.specs.Reading.{◌>>=◌, refuse}
 use Rattle.ror_table.specs.Table.{DecisionTable}
 use Rattle.ror_text.specs.Cursor.{Cursor, line_words}
-use Rattle.ror_proof.specs.Names.{name_of}
-use Rattle.ror_proof.specs.Words.{after_word, name_at, no_more, small_number_at}
+use Rattle.ror_proof.specs.Words.{after_word, first_named, name_at, no_more, small_number_at}
 use Rattle.ror_proof.specs.Reading.{answer_at, ended, kept_at, wide_line_of}
 use Rattle.ror_proof.specs.declared.answer.Answer.{Answer}
 use Rattle.ror_proof.specs.declared.read.ProofFault.{ProofFault}
@@ -47,13 +46,18 @@ begins_end bytes = starts_with nat_eq bytes (codes "end ")
 abbrev pub ends_body : List ℕ → Bool
 ends_body bytes = length bytes == 0 || begins_block bytes || begins_end bytes
 
--- the answers of a body, and so many at most
-unfoldable pub body_answers : DecisionTable → ℕ → Cursor → Result (List Answer × Cursor) ProofFault
-body_answers t zero c = Ok ([], c)
-body_answers t (suc most) c = if ends_body c.rest then Ok ([], c) else (do
+-- the answers up to bytes at which they end, and so many at most
+unfoldable pub answers_until : (List ℕ → Bool) → DecisionTable → ℕ → Cursor
+    → Result (List Answer × Cursor) ProofFault
+answers_until ends t zero c = Ok ([], c)
+answers_until ends t (suc most) c = if ends c.rest then Ok ([], c) else (do
   first ← answer_at t c
-  others ← body_answers t most first.1
+  others ← answers_until ends t most first.1
   Ok (first.0 ∷ others.0, others.1))
+
+-- the answers of a body, and so many at most
+abbrev pub body_answers : DecisionTable → ℕ → Cursor → Result (List Answer × Cursor) ProofFault
+body_answers t most c = answers_until ends_body t most c
 
 -- what follows the first word of a body of one line of this form
 abbrev pub operand_at : LineForm → ℕ → List (List ℕ) → Result (Body × List (List ℕ)) ProofFault
@@ -118,8 +122,7 @@ answers_at t c = do
 
 -- the form for which the first of these words stands
 abbrev pub form_of : List (List ℕ) → Option BodyForm
-form_of [] = None
-form_of (word ∷ words) = name_of body_word body_forms word
+form_of words = first_named body_word body_forms words
 
 -- a body of a form, or answers
 abbrev pub body_of : DecisionTable → Option BodyForm → Cursor → Result (Body × Cursor) ProofFault

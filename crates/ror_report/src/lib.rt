@@ -12,14 +12,17 @@
 //! refused NothingToUndo
 //! end 2
 //! ```
+//!
+//! Reports that go desk by desk name each in a line of its own ([`desk`]).
 #![tactic(auto)]
 
 mod block;
+pub mod desk;
 pub mod laws;
 mod names;
 mod print;
 mod read;
 
 pub use block::{Block, Body, LineFault};
-pub use print::{header, print_block, print_end, write_answers};
-pub use read::{begins_end, read_block, read_end, read_header};
+pub use print::{header, print_block, print_end, write_answers, write_number_line};
+pub use read::{begins_end, numbered_line, read_block, read_end, read_header};

@@ -95,7 +95,7 @@ pub fn write_answers(
 }
 
 /// The line of a name and a number.
-fn write_number_line(text: &mut Vec<u8>, name: &[u8], number: u32) -> Result<(), AllocError>
+pub fn write_number_line(text: &mut Vec<u8>, name: &[u8], number: u32) -> Result<(), AllocError>
     ensures { OnOk result (text.new.items ≡ text.old.items ++ numbered_text name.now number) }
 {
     write_word_line(text, name, Buffer::new().format(number).as_bytes())

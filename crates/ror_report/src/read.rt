@@ -2,7 +2,7 @@
 
 ghost use Rattle.std.specs.Prelude.{◌≡◌, ◌≤◌, ◌<◌, ◌-◌, codes, drop, length, IfErr, IfOk, IfSome};
 ghost use Rattle.ror_text.specs.Reading.{Gives};
-ghost use Rattle.ror_text.specs.Cursor.{cursor_at, line_words};
+ghost use Rattle.ror_text.specs.Cursor.{cursor_at};
 ghost use Rattle.ror_proof.specs.Reading.{proof_fault, IsProofFaultWithin};
 ghost use Rattle.ror_report.specs.Reading as reading;
 ghost use Rattle.ror_report.specs.Reading.{block_at, end_at, header_at};
@@ -10,8 +10,8 @@ ghost use Rattle.ror_report.specs.Reading.{block_at, end_at, header_at};
 use crate::block::{Block, Body};
 use crate::names::{BODY_FORMS, BodyForm, LINE_FAULTS, LineForm};
 use crate::print::header;
-use ror_proof::names::{Name, named};
-use ror_proof::words::{after_word, name_at, no_more, small_number_at};
+use ror_proof::names::Name;
+use ror_proof::words::{after_word, first_named, name_at, no_more, small_number_at};
 use ror_proof::{Answer, BaseLine, ProofFault, read_answer_after, read_kept, read_wide};
 use ror_table::Table;
 use ror_text::Items;
@@ -67,20 +67,10 @@ fn body_at(
     ensures within { IfOk result (λ x. x.1 ≤ length bytes.now) }
     ensures placed { IfErr result (IsProofFaultWithin (length bytes.now)) }
 {
-    match form_at(bytes, from) {
+    match first_named(&BODY_FORMS, bytes, from) {
         Some(form) => formed_at(alloc, form, bytes, from),
         None => answers_at(alloc, table, bytes, from),
     }
-}
-
-/// The form for which the first word of the line at a place stands.
-fn form_at(bytes: &[u8], from: usize) -> Option<BodyForm>
-    requires { from ≤ length bytes.now }
-    ensures { result ≡ reading.form_of (line_words (cursor_at bytes.now from)) }
-{
-    let (line, _) = line_at(bytes, from);
-    let (word, _) = Words::of(line).next()?;
-    named(&BODY_FORMS, word)
 }
 
 /// A body of this form, at the end of whose lines it ends.
@@ -232,7 +222,7 @@ fn body_answers(
 
 /// The number of a line of a name and a number, and where the next line begins.
 #[tactic(auto, using(ror_proof::proofs::Places::placed_on), unfolding(crate::specs::Reading::number_words, ror_proof::specs::Reading::ended))]
-fn numbered_line(name: &[u8], bytes: &[u8], from: usize) -> Result<(u32, usize), ProofFault>
+pub fn numbered_line(name: &[u8], bytes: &[u8], from: usize) -> Result<(u32, usize), ProofFault>
     requires { from ≤ length bytes.now }
     ensures exact { Gives (λ x. (x.0, cursor_at bytes.now x.1)) proof_fault result
         (reading.numbered_line name.now (cursor_at bytes.now from)) }

@@ -9,10 +9,11 @@ ghost use Rattle.ror_spans.specs.Printing.{HasAlternatives, HasNarrowAnswers, Ha
 ghost use Rattle.ror_spans.specs.Text.{entry_text, known_text, level_answer_text, wide_text};
 
 use crate::entry::{Entry, Form};
-use itoa::Buffer;
 use ror_confidence::{LevelAnswer, Span};
 use ror_proof::names::Name;
+use ror_proof::write::{write_alternative, write_number, write_word};
 use ror_proof::write_answer;
+use ror_report::write_number_line;
 use ror_table::Table;
 use std::alloc::{AllocError, Global};
 
@@ -102,8 +103,8 @@ fn write_pair(
         (codes "pair" ∷ id_of table.now first ∷ id_of table.now second ∷ [])) }
 {
     text.extend_from_slice(b"pair")?;
-    write_id(text, table, first)?;
-    write_id(text, table, second)
+    write_alternative(text, table, first)?;
+    write_alternative(text, table, second)
 }
 
 /// The answers with the lines of their levels.
@@ -124,25 +125,13 @@ fn write_answers(
 }
 
 /// An answer with the line of its level.
-#[tactic(auto, unfolding(ror_text::specs::SpacedLines::line_text))]
 fn write_level_answer(text: &mut Vec<u8>, table: &Table, x: &LevelAnswer) -> Result<(), AllocError>
     requires valid { HasValidQuestion table.now x.now.answer }
     requires narrow { HasNarrowVerdict x.now.answer }
     ensures { OnOk result (text.new.items ≡ text.old.items ++ level_answer_text table.now x.now) }
 {
-    text.extend_from_slice(b"level")?;
-    write_number(text, x.level)?;
-    text.push(b'\n')?;
+    write_number_line(text, b"level", x.level)?;
     write_answer(text, table, &x.answer)
-}
-
-/// The id of an alternative, as the next word of a line.
-fn write_id(text: &mut Vec<u8>, table: &Table, alternative: usize) -> Result<(), AllocError>
-    requires { alternative < length table.now.alternatives }
-    ensures { OnOk result (text.new.items
-        ≡ text.old.items ++ 32 ∷ id_of table.now alternative) }
-{
-    write_word(text, table.alternative_id(alternative).as_bytes())
 }
 
 /// A number behind its name, as the next words of a line.
@@ -152,19 +141,4 @@ fn write_named(text: &mut Vec<u8>, name: &[u8], number: u32) -> Result<(), Alloc
 {
     write_word(text, name)?;
     write_number(text, number)
-}
-
-/// A number, as the next word of a line.
-fn write_number(text: &mut Vec<u8>, number: u32) -> Result<(), AllocError>
-    ensures { OnOk result (text.new.items ≡ text.old.items ++ 32 ∷ decimal number) }
-{
-    write_word(text, Buffer::new().format(number).as_bytes())
-}
-
-/// The next word of a line.
-fn write_word(text: &mut Vec<u8>, word: &[u8]) -> Result<(), AllocError>
-    ensures { OnOk result (text.new.items ≡ text.old.items ++ 32 ∷ word.now) }
-{
-    text.push(b' ')?;
-    text.extend_from_slice(word)
 }

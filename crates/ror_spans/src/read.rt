@@ -12,6 +12,7 @@ use ror_confidence::{LevelAnswer, Span};
 use ror_proof::questions::alternative_at;
 use ror_proof::words::{after_word, name_at, no_more, small_number_at};
 use ror_proof::{ProofFault, read_answer};
+use ror_report::numbered_line;
 use ror_table::Table;
 use ror_text::Items;
 use ror_text::reading::need;
@@ -157,27 +158,9 @@ fn level_answer_at(
     ensures within { IfOk result (λ x. x.1 ≤ length bytes.now) }
     ensures placed { IfErr result (IsProofFaultWithin (length bytes.now)) }
 {
-    let (level, next) = level_line(bytes, from)?;
+    let (level, next) = numbered_line(b"level", bytes, from)?;
     let (answer, next) = read_answer(alloc, table, bytes, next)?;
     Ok((LevelAnswer { level, answer }, next))
-}
-
-/// The line of a level, and where the next line begins.
-#[tactic(auto, using(ror_proof::proofs::Places::placed_on), unfolding(ror_report::specs::Reading::number_words, ror_proof::specs::Reading::ended))]
-fn level_line(bytes: &[u8], from: usize) -> Result<(u32, usize), ProofFault>
-    requires { from ≤ length bytes.now }
-    ensures exact { Gives (λ x. (x.0, cursor_at bytes.now x.1)) proof_fault result
-        (reading.level_line (cursor_at bytes.now from)) }
-    ensures onward { IfOk result (λ x. from < x.1) }
-    ensures within { IfOk result (λ x. x.1 ≤ length bytes.now) }
-    ensures placed { IfErr result (IsProofFaultWithin (length bytes.now)) }
-{
-    let (line, next) = line_at(bytes, from);
-    let words = after_word(from, b"level", Words::of(line))?;
-    let (level, words) = small_number_at(from, words)?;
-    no_more(from, words)?;
-    let next = need(next, ProofFault::BadLine(from))?;
-    Ok((level, next))
 }
 
 /// The line of a pair, and where the next line begins.

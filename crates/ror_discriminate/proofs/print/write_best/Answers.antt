@@ -18,4 +18,4 @@ returns-clause-ok c =
     let fits_too : FitsSigned w128 c.args.total = search rules in
     let first : c.write_margin.new.text.items ≡ start ++ margin = rw (to_z-of_z w128 c.args.margin fits, to_z-of_z w128 c.args.total fits_too) at c.in_ok-write_margin.ensures.ok in
     let second : c.write_solution.new.text.items ≡ start ++ (margin ++ solution) = c.in_ok-write_solution.ensures.ok ∙ ap (λ (l : List ℕ). l ++ solution) first ∙ append_assoc start margin solution in
-    on_ok c.write_multipliers.result c.write_multipliers.ensures.ok (λ e. e ∙ ap (λ (l : List ℕ). l ++ multipliers) second ∙ append_assoc start (margin ++ solution) multipliers ∙ ap (λ (l : List ℕ). start ++ l) (append_assoc margin solution multipliers))
+    on_ok c.write_multipliers_line.result c.write_multipliers_line.ensures.ok (λ e. e ∙ ap (λ (l : List ℕ). l ++ multipliers) second ∙ append_assoc start (margin ++ solution) multipliers ∙ ap (λ (l : List ℕ). start ++ l) (append_assoc margin solution multipliers))

@@ -1,16 +1,12 @@
-use Rattle.std.proofs.Common.{[], ◌∷◌, ◌++◌, map, ◌∙◌}
+use Rattle.std.proofs.Common.{◌∙◌}
 use Rattle.std.specs.Prelude.{codes}
-use Rattle.std.specs.Fmt.{signed_decimal}
-use Rattle.ror_proof.proofs.PrintLemmas.{first_word, more_words, line_made, on_ok}
+use Rattle.ror_proof.specs.Text.{multipliers_words}
+use Rattle.ror_proof.proofs.PrintLemmas.{line_made, on_ok}
 use Rattle.ror_discriminate.proofs.print.write_contradiction.Goals as goal
 
 pub returns-clause-ok : goal.returns-clause-ok
 returns-clause-ok c =
     let m = c.args.multipliers.now in
     let begun = c.extend_from_slice.new.self.items in
-    let worded = c.write_word.new.text.items in
-    let text = c.write_weak_and_strict.new.text.items in
-    let numbers = map signed_decimal m.weak ++ codes "|" ∷ map signed_decimal m.strict in
-    let first = first_word begun worded (codes "multipliers") c.in_ok-write_word.ensures.ok in
-    let all = more_words begun worded text (codes "multipliers" ∷ []) numbers first c.in_ok-write_weak_and_strict.ensures.ok in
-    on_ok c.end_line.result c.end_line.ensures.ok (λ e. e ∙ line_made c.args.text.now.items begun text (codes "contradiction") (codes "multipliers" ∷ numbers) c.in_ok-extend_from_slice.ensures.items all)
+    let text = c.write_multipliers.new.text.items in
+    on_ok c.end_line.result c.end_line.ensures.ok (λ e. e ∙ line_made c.args.text.now.items begun text (codes "contradiction") (multipliers_words m.weak m.strict) c.in_ok-extend_from_slice.ensures.items c.in_ok-write_multipliers.ensures.ok)

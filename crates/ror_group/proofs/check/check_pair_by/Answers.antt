@@ -16,7 +16,7 @@ returns-then-answers-judges-clause-not_proved c =
     let lists = lists_of c.args.judges.now in
     let xs = c.args.answers.now in
     let count : length xs ≢ 2 * length lists = λ (e : length xs ≡ 2 * length lists). omega (arith, c.if-answers-judges.true, length-map c.args.judges.now (λ (j : Judge). j.statements)) in
-    not_proved {A = Unit {0}} t lists c.args.a c.args.b xs c.args.q.now (Err faults.Count) (count_refused t lists c.args.a c.args.b xs c.args.q.now count)
+    not_proved {A = Unit {0}} t lists c.args.pair.first c.args.pair.second xs c.args.q.now (Err faults.Count) (count_refused t lists c.args.pair.first c.args.pair.second xs c.args.q.now count)
 
 pub returns-in_err-check_each-clause-refused : goal.returns-in_err-check_each-clause-refused
 returns-in_err-check_each-clause-refused c =
@@ -24,16 +24,16 @@ returns-in_err-check_each-clause-refused c =
     let xs = c.args.answers.now in
     let count : length xs ≡ 2 * length lists = omega (arith, c.if-answers-judges.false, length-map c.args.judges.now (λ (j : Judge). j.statements)) in
     let p = err_from_is_err_and c.from_residual.result c.from_residual.ensures.1 in
-    rw (p.1, p.2) (pair_refused c.args.table.now lists c.args.a c.args.b xs c.args.q.now c.in_err-check_each.field-0.0 count c.in_err-check_each.ensures.refused)
+    rw (p.1, p.2) (pair_refused c.args.table.now lists c.args.pair.first c.args.pair.second xs c.args.q.now c.in_err-check_each.field-0.0 count c.in_err-check_each.ensures.refused)
 
 pub returns-in_err-check_each-clause-not_proved : goal.returns-in_err-check_each-clause-not_proved
 returns-in_err-check_each-clause-not_proved c =
-    not_proved c.args.table.now (lists_of c.args.judges.now) c.args.a c.args.b c.args.answers.now c.args.q.now c.from_residual.result (returns-in_err-check_each-clause-refused c)
+    not_proved c.args.table.now (lists_of c.args.judges.now) c.args.pair.first c.args.pair.second c.args.answers.now c.args.q.now c.from_residual.result (returns-in_err-check_each-clause-refused c)
 
 pub returns-then-not-is_same-clause-refused : goal.returns-then-not-is_same-clause-refused
 returns-then-not-is_same-clause-refused c =
     let wrong : c.args.q.now ≢ combined c.args.answers.now = search rules in
-    words_refused c.args.table.now (lists_of c.args.judges.now) c.args.a c.args.b c.args.answers.now c.args.q.now c.in_ok-check_each.ensures.accepted wrong
+    words_refused c.args.table.now (lists_of c.args.judges.now) c.args.pair.first c.args.pair.second c.args.answers.now c.args.q.now c.in_ok-check_each.ensures.accepted wrong
 
 pub returns-clause-accepted : goal.returns-clause-accepted
 returns-clause-accepted c =
@@ -43,6 +43,6 @@ returns-clause-accepted c =
 pub returns-clause-true_answers : goal.returns-clause-true_answers
 returns-clause-true_answers c =
     let t = c.args.table.now in
-    let necessary : IsAskedIn t (Necessary c.args.a c.args.b) = search rules in
-    let possible : IsAskedIn t (Possible c.args.a c.args.b) = search rules in
-    proved_are_true t (lists_of c.args.judges.now) c.args.a c.args.b c.args.answers.now c.args.q.now (lawful_lists t c.args.judges.now c.requires.judges) necessary possible (returns-clause-accepted c)
+    let necessary : IsAskedIn t (Necessary c.args.pair.first c.args.pair.second) = search rules in
+    let possible : IsAskedIn t (Possible c.args.pair.first c.args.pair.second) = search rules in
+    proved_are_true t (lists_of c.args.judges.now) c.args.pair.first c.args.pair.second c.args.answers.now c.args.q.now (lawful_lists t c.args.judges.now c.requires.judges) necessary possible (returns-clause-accepted c)

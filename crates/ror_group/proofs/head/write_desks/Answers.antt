@@ -15,7 +15,7 @@ names-preserved c =
     let more : take (i + 1) names ≡ take i names ++ name ∷ [] = take_more names i name c.names-test.true ∙ ap (λ (x : List ℕ). take i names ++ x ∷ []) (sym c.name-item.is) in
     let visible = named_at (λ name. is_visible_name name ≡ true) names i name c.names-test.true c.name-item.is c.requires in
     let rest = rest_is names i name c.names-test.true c.name-item.is in
-    let written : c.write_desk.new.text.items ≡ c.names.text.items ++ desk_text name = c.in_ok-write_desk.ensures ∙ ap (λ (x : List ℕ). c.names.text.items ++ desk_text x) (c.as_bytes.ensures.value ∙ c.as_str.ensures) in
+    let written : c.write_desk.new.text.items ≡ c.names.text.items ++ desk_text name = c.in_ok-write_desk.ensures.ok ∙ ap (λ (x : List ℕ). c.names.text.items ++ desk_text x) (c.as_bytes.ensures.value ∙ c.as_str.ensures) in
     record {
       printed = ap (λ (l : List ℕ). l ++ flat_map desk_text (drop (i + 1) names)) written
           ∙ append_assoc c.names.text.items (desk_text name) (flat_map desk_text (drop (i + 1) names))

@@ -2,8 +2,8 @@ use Rattle.std.proofs.Common.{◌≡◌, ◌-◌, ◌+◌, ◌<◌, suc, true, l
 use Rattle.std.proofs.lemmas.Result.{err_from_is_err_and}
 use Rattle.std.proofs.lemmas.List.{length_push}
 use Rattle.ror_text.specs.Cursor.{cursor_at}
-use Rattle.ror_proof.specs.Reading.{begins_part, part_lines}
-use Rattle.ror_proof.proofs.Loops.{with_front, parts_go_on, parts_exit, parts_end, begins_some}
+use Rattle.ror_proof.specs.Reading.{begins_part, part_line, part_lines}
+use Rattle.ror_proof.proofs.Loops.{with_front, lines_go_on, lines_exit, lines_end, part_step, no_parts, begins_some}
 use Rattle.ror_proof.proofs.read.part_lines.Goals as goal
 
 pub returns-in_err-part-clause-exact : goal.returns-in_err-part-clause-exact
@@ -15,7 +15,7 @@ returns-in_err-part-clause-exact c =
     let most = length bytes - c.args.from - length c.parts.parts.items in
     let is : most ≡ suc (most - 1) = omega (arith, length-drop next bytes, c.parts.invariant.room) in
     let p = err_from_is_err_and c.from_residual.result c.from_residual.ensures.1 in
-    rw (p.1, p.2) (parts_exit most (most - 1) c.parts.parts.items (cursor_at bytes next) c.in_err-part.field-0.0 (part_lines (length bytes - c.args.from) (cursor_at bytes c.args.from)) is begins c.in_err-part.ensures.exact c.parts.invariant.reads)
+    rw (p.1, p.2) (lines_exit part_lines (part_line (cursor_at bytes next)) most (most - 1) c.parts.parts.items (cursor_at bytes next) c.in_err-part.field-0.0 (part_lines (length bytes - c.args.from) (cursor_at bytes c.args.from)) is (part_step (most - 1) (cursor_at bytes next) begins) c.in_err-part.ensures.exact c.parts.invariant.reads)
 
 pub parts-preserved : goal.parts-preserved
 parts-preserved c =
@@ -31,7 +31,7 @@ parts-preserved c =
       onward = omega (arith, c.in_ok-part.ensures.onward);
       within = c.in_ok-part.ensures.within;
       room = omega (arith, one_more, c.in_ok-part.ensures.onward, c.in_ok-part.ensures.within, c.parts.invariant.room);
-      reads = ap (λ xs. with_front xs (part_lines left (cursor_at bytes c.in_ok-part.after))) c.in_ok-push.ensures.items ∙ parts_go_on most left c.parts.parts.items (cursor_at bytes next) (cursor_at bytes c.in_ok-part.after) c.in_ok-part.part (part_lines (length bytes - c.args.from) (cursor_at bytes c.args.from)) is begins c.in_ok-part.ensures.exact c.parts.invariant.reads;
+      reads = ap (λ xs. with_front xs (part_lines left (cursor_at bytes c.in_ok-part.after))) c.in_ok-push.ensures.items ∙ lines_go_on part_lines (part_line (cursor_at bytes next)) most left c.parts.parts.items (cursor_at bytes next) (cursor_at bytes c.in_ok-part.after) c.in_ok-part.part (part_lines (length bytes - c.args.from) (cursor_at bytes c.args.from)) is (part_step left (cursor_at bytes next) begins) c.in_ok-part.ensures.exact c.parts.invariant.reads;
     }
 
 pub returns-clause-exact : goal.returns-clause-exact
@@ -39,4 +39,4 @@ returns-clause-exact c =
     let bytes = c.args.bytes.now in
     let next = c.parts.next in
     let most = length bytes - c.args.from - length c.parts.parts.items in
-    parts_end most c.parts.parts.items (cursor_at bytes next) (part_lines (length bytes - c.args.from) (cursor_at bytes c.args.from)) (sym c.parts-test.ensures) c.parts.invariant.reads
+    lines_end (part_lines most (cursor_at bytes next)) c.parts.parts.items (cursor_at bytes next) (part_lines (length bytes - c.args.from) (cursor_at bytes c.args.from)) (no_parts most (cursor_at bytes next) (sym c.parts-test.ensures)) c.parts.invariant.reads

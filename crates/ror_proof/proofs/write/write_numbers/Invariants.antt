@@ -1,7 +1,7 @@
 use Rattle.std.proofs.Common.{◌≡◌, ◌++◌, drop, map}
 use Rattle.std.specs.Fmt.{signed_decimal}
 use Rattle.ror_proof.specs.Printing.{spaced, StandsInFront}
-use Rattle.ror_proof.proofs.print.write_numbers.Given as goal
+use Rattle.ror_proof.proofs.write.write_numbers.Given as goal
 
 abbrev pub invariant-loop-k : goal.invariant-loop-k
 invariant-loop-k l = record {

@@ -1,6 +1,6 @@
 use Rattle.std.proofs.Common.{◌≡◌, ◌++◌, ◌∷◌, [], ◌∙◌, OnOk, List, ℕ, ℤ, pos, ap, sym, subst, refl, rules}
 use Rattle.std.specs.Fmt.{signed_decimal}
-use Rattle.ror_proof.proofs.print.write_often_zero.Goals as goal
+use Rattle.ror_proof.proofs.write.write_often_zero.Goals as goal
 
 zero_text : 48 ∷ [] ≡ signed_decimal (pos 0)
 unfolding Rattle.std.specs.Fmt.digits

@@ -2,7 +2,7 @@ use Rattle.std.proofs.Common.{◌∷◌, ◌++◌, map, ◌∙◌}
 use Rattle.std.specs.Prelude.{codes}
 use Rattle.std.specs.Fmt.{signed_decimal}
 use Rattle.ror_proof.proofs.PrintLemmas.{line_made, on_ok}
-use Rattle.ror_discriminate.proofs.print.write_multipliers.Goals as goal
+use Rattle.ror_discriminate.proofs.print.write_multipliers_line.Goals as goal
 
 pub returns-clause-ok : goal.returns-clause-ok
 returns-clause-ok c =
