@@ -378,10 +378,7 @@ first_read start before line lines total bytes from table first =
     let after : Cursor = record { place = from + length (block_text start.table first.block); rest = first.after } in
     (is_read_iff_text start.table (cursor_at bytes from) first.block after table).1 (record { text = first.text; place = refl; printable = first.printable; ended = first.ended })
 
-ok_read : Block × Cursor → Result (Block × Cursor) ProofFault
-ok_read p = Ok p
-
-pub one_read : (r : Result (Block × Cursor) ProofFault) (p q : Block × Cursor) → r ≡ Ok p → r ≡ Ok q → q ≡ p
+pub one_read : {A F : Type 0} (r : Result A F) (p q : A) → r ≡ Ok p → r ≡ Ok q → q ≡ p
 one_read r p q e f = (let both = sym e ∙ f in cc)
 
 next_not_first : (start : Workbench) (before : List (Line × Block)) (line : Line) (lines : List Line) (total : ℕ) (bytes : List ℕ) (from : ℕ) (reason : Reason) → IsTable start.table → HasFirst start before line lines total (drop from bytes) → RejectsNext start.table (revisions_then start before line.desk) line bytes from reason → ⊥
@@ -460,7 +457,7 @@ pub rejects_by : (P Q : Rejection → Type 0) (e : ReportError) → ((rejection 
 rejects_by P Q (errors.Rejected rejection) by h = by rejection h
 rejects_by P Q errors.Memory by h = tt
 
-abbrev AtBlock : ℕ → (Reason → Type 0) → Rejection → Type 0
+abbrev pub AtBlock : ℕ → (Reason → Type 0) → Rejection → Type 0
 AtBlock block P rejection = (rejection.block ≡ block) × P rejection.reason
 
 pub early_rejects : (t : DecisionTable) (r : Revisions) (line : Line) (bytes : List ℕ) (from block : ℕ) (e : ReportError) → begins_end (drop from bytes) ≡ true → IfRejected (AtBlock block (IsEarlyEnd bytes from)) e → IfRejected (AtBlock block (RejectsNext t r line bytes from)) e

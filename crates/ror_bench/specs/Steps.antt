@@ -167,7 +167,7 @@ with_passed accepted passed = record {
   wide = accepted.wide + passed.wide;
 }
 
--- a last line stands at the place, where a block is due
+-- a last line stands at the place, where a block is due, or an entry
 abbrev pub IsEarlyEnd : List ℕ → ℕ → Reason → Type 0
 IsEarlyEnd bytes from reason = ((n : ℕ) × (end_at (cursor_at bytes from) ≡ Ok n)
     × (reason ≡ reasons.WrongBlock)) ⊎ ((fault : ProofFault)

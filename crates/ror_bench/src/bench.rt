@@ -16,7 +16,8 @@ ghost use Rattle.ror_bench.specs.Rooms.{revisions_of, HasRoomBelow};
 ghost use Rattle.ror_bench.specs.Steps as steps;
 ghost use Rattle.ror_bench.specs.declared.bench.BlockFault.TheVariants.{Memory};
 
-use crate::desk::{check, perform};
+use crate::checking::check;
+use crate::desk::{Search, perform};
 use ror_check::{AnswersChecker, AnswersFault, CheckFault, RepairCheckFault};
 use ror_history::History;
 use ror_pivot::Bits;
@@ -123,11 +124,10 @@ pub struct Bench {
     alloc: Global,
     table: Table,
     desks: Vec<History>,
-    /// Decides the questions of all desks.
-    engine: Engine,
+    /// Decides the questions and repairs of all desks.
+    search: Search,
     /// Checks the answers of all desks.
     checker: AnswersChecker,
-    repair_pivots: u64,
 }
 
 impl Model for Bench {
@@ -141,7 +141,7 @@ impl Model for Bench {
     ghost view = { λ b. record {
       table = b.table;
       state = map (λ h. h.state) b.desks.items;
-      pivots = pivots_together b.engine.pivots b.repair_pivots;
+      pivots = pivots_together b.search.engine.pivots b.search.repair_pivots;
       spare = map (λ h. h.spare) b.desks.items;
     } };
 
@@ -161,14 +161,17 @@ impl Bench {
     {
         let Input { table, opening } = input;
         let desks = histories(alloc, opening.as_slice(), desks)?;
+        let search = Search {
+            engine: Engine::new(alloc),
+            repair_pivots: 0,
+        };
         let checker = AnswersChecker::new();
         Ok(Bench {
             alloc,
             table,
             desks,
-            engine: Engine::new(alloc),
+            search,
             checker,
-            repair_pivots: 0,
         })
     }
 
@@ -185,7 +188,10 @@ impl Bench {
     pub fn pivots(&self) -> u64
         ensures { result ≡ self.now.pivots }
     {
-        self.engine.pivots().saturating_add(self.repair_pivots)
+        self.search
+            .engine
+            .pivots()
+            .saturating_add(self.search.repair_pivots)
     }
 
     /// What stands at a desk, with its numbers, in increasing order of number: what may stand over the table.
@@ -261,8 +267,7 @@ impl Bench {
         let history = &mut self.desks[line.desk as usize];
         let body = perform(
             self.alloc,
-            &mut self.engine,
-            &mut self.repair_pivots,
+            &mut self.search,
             &self.table,
             history,
             &line.command,

@@ -1,31 +1,26 @@
-//! What comes of a command at a desk: what it changes there, and whether a block says so.
+//! What comes of a command at a desk: what it changes there, and its body.
 
-ghost use Rattle.std.specs.Prelude.{◌≡◌, ◌≢◌, ◌↔◌, ◌+◌, ◌-◌, ◌^◌, ◌<◌, ◌≤◌, length, map, IsTrue, IsOk, OnOk, IfOk, IfErr, Err};
-ghost use Rattle.std.specs.List.{AllByRecursion, AllZip};
+ghost use Rattle.std.specs.Prelude.{◌≡◌, ◌≢◌, ◌+◌, ◌-◌, ◌^◌, ◌<◌, ◌≤◌, IsOk, OnOk, IfOk, IfErr, Err};
 ghost use Rattle.ror_pivot.specs.Answers.{most_of};
-ghost use Rattle.ror_value.specs.Over.{IsAskedIn};
-ghost use Rattle.ror_check.specs.Checkers.{IsCheckerOver};
 ghost use Rattle.ror_check.specs.Repair.{AreNumbersIn, numbers_of};
 ghost use Rattle.ror_history.specs.History.{next_number, standing, statements_of, withdrawal, with_revision};
 ghost use Rattle.ror_session.specs.declared.session.Command.TheVariants.{State, Withdraw, Replace, Repair, Undo, Ask};
-ghost use Rattle.ror_bench.specs.Allowed.{IsProvedUnlessWide, IsRepairAt, given_at, proved_unless_wide};
+ghost use Rattle.ror_bench.specs.Allowed.{IsRepairAt, given_at};
 ghost use Rattle.ror_bench.specs.Bench.{IsLawfulThroughout};
 ghost use Rattle.ror_bench.specs.Names as names;
-ghost use Rattle.ror_bench.specs.Blocks.{AreAnswers, IsBodyOf, answers_passed, passed_of, revisions_with, NeedsNoSearch, most_room};
-ghost use Rattle.ror_bench.specs.Steps.{body_of, IsMade, IsOneMore, IsSaidOf, RefusesCommand, RefusesSaid, RefusesBody, RefusesAnswers, EndsWithRevision, IsTakenBack};
+ghost use Rattle.ror_bench.specs.Blocks.{AreAnswers, IsBodyOf, revisions_with, NeedsNoSearch, most_room};
+ghost use Rattle.ror_bench.specs.Steps.{body_of, IsMade, IsOneMore, IsSaidOf, RefusesCommand};
 
-use crate::bench::{BlockFault, Passed};
 use crate::names::{questions_of, statement_of};
 use crate::stop::LineStop;
-use ror_check::{AnswersChecker, check_repair};
 use ror_history::{History, HistoryFault};
 use ror_pivot::Bits;
 use ror_proof::{Answer, Dropped};
-use ror_relation::decide_each_warm;
+use ror_relation::DecidedList;
 use ror_repair::{RepairFault, repair_counted};
-use ror_report::{Body, LineFault};
+use ror_report::Body;
 use ror_session::{Asked, Command, Named};
-use ror_statement::{Question, Statement, statements_in};
+use ror_statement::{Statement, statements_in};
 use ror_table::Table;
 use ror_text::Items;
 use ror_warm::Engine;
@@ -54,7 +49,7 @@ impl From<Made> for Body {
 }
 
 /// Adds the statement of these names.
-fn add(table: &Table, history: &mut History, named: &Named) -> Result<Made, LineStop>
+pub(crate) fn add(table: &Table, history: &mut History, named: &Named) -> Result<Made, LineStop>
     requires number { next_number history.old.state < 2 ^ 32 - 1 }
     ensures made { IfOk result (λ made. IsMade table.now history.old.state (State named.now)
         made history.new.state) }
@@ -70,7 +65,7 @@ fn add(table: &Table, history: &mut History, named: &Named) -> Result<Made, Line
 }
 
 /// Withdraws the statement with a number.
-fn withdraw(table: &Table, history: &mut History, number: u32) -> Result<Made, LineStop>
+pub(crate) fn withdraw(table: &Table, history: &mut History, number: u32) -> Result<Made, LineStop>
     ensures made { IfOk result (λ made. IsMade table.now history.old.state (Withdraw number)
         made history.new.state) }
     ensures one_more { IfOk result (λ _. IsOneMore history.old.state history.new.state) }
@@ -84,7 +79,7 @@ fn withdraw(table: &Table, history: &mut History, number: u32) -> Result<Made, L
 }
 
 /// Puts the statement of these names in the place of the one with a number.
-fn replace(
+pub(crate) fn replace(
     table: &Table,
     history: &mut History,
     number: u32,
@@ -105,7 +100,7 @@ fn replace(
 }
 
 /// Takes the last surviving revision back.
-fn undo(table: &Table, history: &mut History) -> Result<Made, LineStop>
+pub(crate) fn undo(table: &Table, history: &mut History) -> Result<Made, LineStop>
     ensures made { IfOk result (λ made. IsMade table.now history.old.state Undo
         made history.new.state) }
     ensures refused { IfErr result (RefusesCommand table.now history.old.state Undo) }
@@ -117,14 +112,18 @@ fn undo(table: &Table, history: &mut History) -> Result<Made, LineStop>
     Ok(Made::Undone)
 }
 
-// ---- the block of a line
+/// What decides questions and repairs: the engine of questions, and how many pivots repairs made so far.
+#[derive(Drop)]
+pub(crate) struct Search {
+    pub(crate) engine: Engine,
+    pub(crate) repair_pivots: u64,
+}
 
 /// Does the command at a desk, whose questions and repairs are decided at this width, and gives its body. Questions go to the
-/// engine, and the pivots of a repair are added to a count.
+/// engine, and the pivots of a repair are added to their count.
 pub(crate) fn perform(
     alloc: Global,
-    engine: &mut Engine,
-    repair_pivots: &mut u64,
+    search: &mut Search,
     table: &Table,
     history: &mut History,
     command: &Command,
@@ -139,16 +138,23 @@ pub(crate) fn perform(
     ensures kept { IfErr result (λ _. history.new.state ≡ history.old.state) }
     ensures ready { 0 < history.old.spare → NeedsNoSearch command.now → IsOk result }
     ensures room { history.old.spare ≤ history.new.spare + most_room command.now }
-    ensures counted { engine.old.pivots ≤ engine.new.pivots }
-    ensures repairs_counted { repair_pivots.old ≤ repair_pivots.new }
+    ensures counted { search.old.engine.pivots ≤ search.new.engine.pivots }
+    ensures repairs_counted { search.old.repair_pivots ≤ search.new.repair_pivots }
 {
     match command {
         Command::State(named) => said(add(table, history, named)),
         Command::Withdraw(number) => said(withdraw(table, history, *number)),
         Command::Replace(number, named) => said(replace(table, history, *number, named)),
-        Command::Repair => repair_at(alloc, table, history, bits, repair_pivots),
+        Command::Repair => repair_at(alloc, table, history, bits, &mut search.repair_pivots),
         Command::Undo => said(undo(table, history)),
-        Command::Ask(asked) => match answers_to(alloc, engine, table, history, asked, bits) {
+        Command::Ask(asked) => match answers_to(
+            alloc,
+            &mut search.engine,
+            table,
+            history,
+            asked,
+            bits,
+        ) {
             Ok(answers) => Ok(Body::Answers(Items::from(answers))),
             Err(LineStop::Refused(fault)) => Ok(Body::Refused(fault)),
             Err(LineStop::Memory) => Err(AllocError),
@@ -184,7 +190,7 @@ fn repair_at(
 }
 
 /// Withdraws the dropped statements, which stand and may be none, in one revision. Want of memory changes nothing.
-fn withdraw_dropped(
+pub(crate) fn withdraw_dropped(
     alloc: Global,
     history: &mut History,
     dropped: &[Dropped],
@@ -244,262 +250,16 @@ fn answers_to(
     ensures counted { engine.old.pivots ≤ engine.new.pivots }
 {
     let questions = questions_of(alloc, table, asked)?;
-    let list = statements_at(alloc, history)?;
-    let answers = decide_each_warm(
-        alloc,
-        engine,
-        table,
-        list.as_slice(),
-        questions.as_slice(),
-        bits,
-    )?;
-    Ok(answers)
+    let statements = statements_at(alloc, history)?;
+    let list = Items::from(statements);
+    let decided = DecidedList::new(alloc, engine, table, list, bits)?;
+    Ok(decided.answer_each(alloc, engine, table, questions.as_slice(), bits)?)
 }
 
 /// The statements that stand, in order.
-fn statements_at(alloc: Global, history: &History) -> Result<Vec<Statement>, AllocError>
+pub(crate) fn statements_at(alloc: Global, history: &History) -> Result<Vec<Statement>, AllocError>
     ensures { IfOk result (λ list. list.items ≡ statements_of history.now.state) }
 {
     let standing = history.standing()?;
     statements_in(alloc, standing.as_slice())
-}
-
-// ---- the check of a block
-
-/// Does the command at a desk where the body is its body, and says how many of its answers passed.
-pub(crate) fn check(
-    alloc: Global,
-    checker: &mut AnswersChecker,
-    table: &Table,
-    history: &mut History,
-    command: &Command,
-    body: &Body,
-) -> Result<Passed, BlockFault>
-    requires number { next_number history.old.state < 2 ^ 32 - 1 }
-    requires lawful { IsLawfulThroughout table.now history.old.state }
-    requires checker { IsCheckerOver table.now checker.old }
-    ensures checker { IsCheckerOver table.now checker.new }
-    ensures body { OnOk result (IsBodyOf proved_unless_wide table.now history.old.state
-        command.now body.now) }
-    ensures passed { IfOk result (λ passed. passed ≡ passed_of body.now) }
-    ensures refused { IfErr result (RefusesBody table.now history.old.state command.now body.now) }
-    ensures moved { OnOk result (history.new.state
-        ≡ revisions_with table.now history.old.state command.now body.now) }
-    ensures kept { IfErr result (λ _. history.new.state ≡ history.old.state) }
-{
-    match command {
-        Command::State(named) => {
-            let made = add(table, history, named);
-            settle(history, made, body)
-        }
-        Command::Withdraw(number) => {
-            let made = withdraw(table, history, *number);
-            settle(history, made, body)
-        }
-        Command::Replace(number, named) => {
-            let made = replace(table, history, *number, named);
-            settle(history, made, body)
-        }
-        Command::Repair => check_repaired(alloc, table, history, body),
-        Command::Undo => check_undone(table, history, body),
-        Command::Ask(asked) => check_answered(alloc, checker, table, history, asked, body),
-    }
-}
-
-/// Whether the body says what was made; otherwise the revision is taken back.
-fn settle(
-    history: &mut History,
-    made: Result<Made, LineStop>,
-    body: &Body,
-) -> Result<Passed, BlockFault>
-    requires last { IfOk made (λ _. EndsWithRevision history.old.state) }
-    ensures said { OnOk result (IsSaidOf made body.now) }
-    ensures passed { IfOk result (λ passed. passed ≡ record { answers = 0; wide = 0 }) }
-    ensures kept { OnOk result (history.new.state ≡ history.old.state) }
-    ensures refused { IfErr result (RefusesSaid made body.now) }
-    ensures taken_back { IfErr result (λ _. IsTakenBack made history.old.state history.new.state) }
-{
-    match made {
-        Ok(made) => {
-            if is_body_of(made, body) {
-                return Ok(Passed {
-                    answers: 0,
-                    wide: 0,
-                });
-            }
-            let _ = history.undo();
-            Err(BlockFault::WrongBlock)
-        }
-        Err(stop) => check_refused(stop, body),
-    }
-}
-
-/// Whether the body is the one of a revision that was made.
-fn is_body_of(made: Made, body: &Body) -> bool
-    ensures { IsTrue result ↔ (body.now ≡ body_of made) }
-{
-    match (made, body) {
-        (Made::Added(m), Body::Added(n)) => m == *n,
-        (Made::Withdrawn(m), Body::Withdrawn(n)) => m == *n,
-        (Made::Replaced(m), Body::Replaced(n)) => m == *n,
-        (Made::Undone, Body::Undone) => true,
-        _ => false,
-    }
-}
-
-/// Whether the body says that the line is refused for what stopped it.
-fn check_refused(stop: LineStop, body: &Body) -> Result<Passed, BlockFault>
-    ensures said { OnOk result (IsSaidOf (Err stop) body.now) }
-    ensures passed { IfOk result (λ passed. passed ≡ record { answers = 0; wide = 0 }) }
-    ensures refused { IfErr result (RefusesSaid (Err stop) body.now) }
-{
-    let fault = match stop {
-        LineStop::Refused(fault) => fault,
-        LineStop::Memory => return Err(BlockFault::Memory),
-    };
-    match body {
-        Body::Refused(named) if *named == fault => Ok(Passed {
-            answers: 0,
-            wide: 0,
-        }),
-        _ => Err(BlockFault::WrongBlock),
-    }
-}
-
-/// Whether the body is the one of an undo, which is then done.
-fn check_undone(table: &Table, history: &mut History, body: &Body) -> Result<Passed, BlockFault>
-    ensures body { OnOk result (IsBodyOf proved_unless_wide table.now history.old.state
-        Undo body.now) }
-    ensures passed { IfOk result (λ passed. passed ≡ passed_of body.now) }
-    ensures refused { IfErr result (RefusesBody table.now history.old.state Undo body.now) }
-    ensures moved { OnOk result (history.new.state
-        ≡ revisions_with table.now history.old.state Undo body.now) }
-    ensures kept { IfErr result (λ _. history.new.state ≡ history.old.state) }
-{
-    if !is_body_of(Made::Undone, body) {
-        if history.can_undo() {
-            return Err(BlockFault::WrongBlock);
-        }
-        return check_refused(LineStop::Refused(LineFault::NothingToUndo), body);
-    }
-    match undo(table, history) {
-        Ok(_) => Ok(Passed {
-            answers: 0,
-            wide: 0,
-        }),
-        Err(stop) => check_refused(stop, body),
-    }
-}
-
-/// Whether the body is one of a repair of what stands. What it drops is then withdrawn, and nothing where it is too wide.
-fn check_repaired(
-    alloc: Global,
-    table: &Table,
-    history: &mut History,
-    body: &Body,
-) -> Result<Passed, BlockFault>
-    requires lawful { IsLawfulThroughout table.now history.old.state }
-    ensures body { OnOk result (IsBodyOf proved_unless_wide table.now history.old.state
-        Repair body.now) }
-    ensures passed { IfOk result (λ passed. passed ≡ passed_of body.now) }
-    ensures refused { IfErr result (RefusesBody table.now history.old.state Repair body.now) }
-    ensures moved { OnOk result (history.new.state
-        ≡ revisions_with table.now history.old.state Repair body.now) }
-    ensures kept { IfErr result (λ _. history.new.state ≡ history.old.state) }
-{
-    match body {
-        Body::Repaired(kept) => {
-            let standing = history.standing()?;
-            check_repair(alloc, table, standing.as_slice(), kept)?;
-            withdraw_dropped(alloc, history, kept.dropped.as_slice())?;
-            Ok(Passed {
-                answers: 0,
-                wide: 0,
-            })
-        }
-        Body::RepairWide(_, _) => Ok(Passed {
-            answers: 0,
-            wide: 1,
-        }),
-        _ => Err(BlockFault::WrongBlock),
-    }
-}
-
-/// Whether the body is the one of a line that asks.
-fn check_answered(
-    alloc: Global,
-    checker: &mut AnswersChecker,
-    table: &Table,
-    history: &History,
-    asked: &Asked,
-    body: &Body,
-) -> Result<Passed, BlockFault>
-    requires lawful { IsLawfulThroughout table.now history.now.state }
-    requires checker { IsCheckerOver table.now checker.old }
-    ensures checker { IsCheckerOver table.now checker.new }
-    ensures body { OnOk result (IsBodyOf proved_unless_wide table.now history.now.state
-        (Ask asked.now) body.now) }
-    ensures passed { IfOk result (λ passed. passed ≡ passed_of body.now) }
-    ensures refused { IfErr result
-        (RefusesBody table.now history.now.state (Ask asked.now) body.now) }
-{
-    match questions_of(alloc, table, asked) {
-        Ok(questions) => match body {
-            Body::Answers(answers) => {
-                check_each(
-                    alloc,
-                    checker,
-                    table,
-                    history,
-                    questions.as_slice(),
-                    answers.as_slice(),
-                )
-            }
-            _ => Err(BlockFault::WrongBlock),
-        },
-        Err(stop) => check_refused(stop, body),
-    }
-}
-
-/// Whether the answers are to these questions in order, each too wide or with its proof over what stands.
-fn check_each(
-    alloc: Global,
-    checker: &mut AnswersChecker,
-    table: &Table,
-    history: &History,
-    questions: &[Question],
-    answers: &[Answer],
-) -> Result<Passed, BlockFault>
-    requires lawful { IsLawfulThroughout table.now history.now.state }
-    requires asked { AllByRecursion (IsAskedIn table.now) questions.now }
-    requires few { length questions.now ≤ 20000 }
-    requires checker { IsCheckerOver table.now checker.old }
-    ensures checker { IsCheckerOver table.now checker.new }
-    ensures each { OnOk result (AllZip (IsProvedUnlessWide table.now
-        (statements_of history.now.state)) questions.now answers.now) }
-    ensures passed { IfOk result (λ passed. passed ≡ answers_passed answers.now) }
-    ensures refused { IfErr result (RefusesAnswers table.now (statements_of history.now.state)
-        questions.now answers.now) }
-{
-    if !are_to(questions, answers) {
-        return Err(BlockFault::WrongBlock);
-    }
-    let list = statements_at(alloc, history)?;
-    checker.check(alloc, table, list, answers)?;
-    Ok(Passed::of(answers))
-}
-
-/// Whether the answers are to these questions, in order.
-fn are_to(questions: &[Question], answers: &[Answer]) -> bool
-    ensures { IsTrue result ↔ (map (λ x. x.question) answers.now ≡ questions.now) }
-{
-    if questions.len() != answers.len() {
-        return false;
-    }
-    for (place, answer) in answers.iter().enumerate() {
-        if !answer.question.is_same(questions[place]) {
-            return false;
-        }
-    }
-    true
 }

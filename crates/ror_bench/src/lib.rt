@@ -19,6 +19,7 @@
 #![tactic(auto)]
 
 mod bench;
+mod checking;
 mod desk;
 mod generated;
 mod kept;
@@ -34,6 +35,6 @@ pub use kept::{Keep, KeptLine};
 pub use names::{MOST_RELATED, statement_of};
 pub use report::{
     Accepted, MOST_REPORT_BYTES, Reason, Rejection, ReportError, check_report,
-    check_report_keeping, refused_block,
+    check_report_keeping, early_end, misread, refused_block, wrong_block,
 };
 pub use wide::has_wide;

@@ -265,8 +265,8 @@ fn check_end(
     }
 }
 
-/// Why a last line that stands where a block is due is refused: its own faults come first.
-fn early_end(bytes: &[u8], from: usize, block: u32) -> ReportError
+/// Why a last line that stands where a block is due, or an entry, is refused: its own faults come first.
+pub fn early_end(bytes: &[u8], from: usize, block: u32) -> ReportError
     requires within { from ≤ length bytes.now }
     requires length { length bytes.now ≤ MOST_REPORT_BYTES }
     ensures rejected { IfRejected (λ rejection. (rejection.block ≡ block)
@@ -293,7 +293,8 @@ fn late_block(alloc: Global, table: &Table, bytes: &[u8], from: usize, block: u3
     }
 }
 
-fn wrong_block(block: u32) -> ReportError
+/// The error of what isn't the block that is due, or the entry.
+pub fn wrong_block(block: u32) -> ReportError
     ensures { result ≡ rejected block Reason.WrongBlock }
 {
     ReportError::Rejected(Rejection {
@@ -315,8 +316,9 @@ pub fn refused_block(block: u32, fault: BlockFault) -> ReportError
     ReportError::Rejected(Rejection { block, reason })
 }
 
-/// The error of a block or a last line that is not as it is to be, by the number of its line.
-fn misread(bytes: &[u8], block: u32, fault: ProofFault) -> ReportError
+/// The rejection of what is not as it is to be, by the number of its line, in this block of a report of at most
+/// `MOST_REPORT_BYTES`; or that memory ran out.
+pub fn misread(bytes: &[u8], block: u32, fault: ProofFault) -> ReportError
     requires { length bytes.now ≤ MOST_REPORT_BYTES }
     ensures { result ≡ misread_error bytes.now block fault }
 {

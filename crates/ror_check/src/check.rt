@@ -12,6 +12,7 @@ ghost use Rattle.ror_check.specs.Steps as steps;
 ghost use Rattle.ror_check.specs.Steps.{IsAcceptedFor, IsBaseOf, AreUsable, AreShownBefore, NameSystems, RefusesBase, RefusesParts, systems_with};
 
 use crate::base::{Base, accept};
+use crate::claim::Claim;
 use crate::fault::{AnswersFault, CheckFault};
 use crate::few::is_shown_by_few;
 use crate::side::has_kinds;
@@ -138,7 +139,11 @@ pub(crate) fn check_verdict(
 {
     match concluded(verdict) {
         Some((conclusion, proof)) => {
-            check_proof(alloc, table, list, base, asked, conclusion, proof)
+            let claim = Claim {
+                question: *asked,
+                conclusion,
+            };
+            check_proof(alloc, table, list, base, claim, proof)
         }
         None => Err(CheckFault::WrongVerdict),
     }
@@ -157,32 +162,32 @@ fn concluded(verdict: &Verdict) -> Option<(Conclusion, &Proof)>
     }
 }
 
-/// Whether the proof proves the conclusion.
+/// Whether the proof proves the claim.
 fn check_proof(
     alloc: Global,
     table: &Table,
     list: &[Statement],
     base: &mut Base,
-    asked: &Question,
-    conclusion: Conclusion,
+    claim: Claim,
     proof: &Proof,
 ) -> Result<(), CheckFault>
     requires lawful { IsLawfulIn table.now list.now }
-    requires named { IsAskedIn table.now asked.now }
+    requires named { IsAskedIn table.now claim.question }
     requires base { IsBaseOf (base_system table.now list.now) base.old }
-    ensures ok { OnOk result (Proves table.now list.now asked.now conclusion proof.now) }
+    ensures ok { OnOk result (Proves table.now list.now claim.question claim.conclusion proof.now) }
     ensures base { IsBaseOf (base_system table.now list.now) base.new }
     ensures err { IfErr result (IsRefusedBy
-        (FailsProof table.now list.now asked.now conclusion proof.now)
+        (FailsProof table.now list.now claim.question claim.conclusion proof.now)
         IsEarlierFault CheckFault.Memory) }
 {
-    if !has_kinds(asked, conclusion, proof) {
+    let asked = &claim.question;
+    if !has_kinds(asked, claim.conclusion, proof) {
         return Err(CheckFault::WrongVerdict);
     }
     let systems = question_systems(alloc, table, list, asked)?;
     let extras = systems.as_slice();
     let parts = proof.parts.as_slice();
-    if !are_numbered_for(kind_of(asked), conclusion, extras.len(), parts) {
+    if !are_numbered_for(kind_of(asked), claim.conclusion, extras.len(), parts) {
         return Err(CheckFault::PartCount);
     }
     check_base(alloc, base, &proof.base)?;

@@ -79,24 +79,30 @@ fn alone(alloc: Global, level: u32, answer: Answer) -> Result<Vec<LevelAnswer>, 
     Ok(answers)
 }
 
+/// A level with its list.
+#[derive(Clone, Copy)]
+struct LevelList<'a> {
+    level: u32,
+    list: &'a [Statement],
+}
+
 /// The answer to the question over the list of a level.
 fn decide_at<K: Decider>(
     alloc: Global,
     decider: &mut K,
     table: &Table,
-    list: &[Statement],
-    level: u32,
+    at: LevelList,
     q: &Question,
     bits: Bits,
 ) -> Result<Vec<LevelAnswer>, AllocError>
-    requires lawful { IsLawfulIn table.now list.now }
+    requires lawful { IsLawfulIn table.now at.list.now }
     requires asked { IsAskedIn table.now q.now }
     requires no_class { names_class q.now ≡ false }
     ensures { IfOk result (λ answers.
-        IsDecidedAt (most_of bits) table.now list.now q.now level answers.items) }
+        IsDecidedAt (most_of bits) table.now at.entry.list.now q.now at.entry.level answers.items) }
 {
-    let answer = decider.decide(alloc, table, list, q, bits)?;
-    let answers = alone(alloc, level, answer)?;
+    let answer = decider.decide(alloc, table, at.list, q, bits)?;
+    let answers = alone(alloc, at.level, answer)?;
     Ok(answers)
 }
 
@@ -115,34 +121,44 @@ fn level_between(low: u32, high: u32, guess: u32) -> u32
     high - 1
 }
 
-/// The border of a question among the levels before `end`, tried from a guess on.
+/// The border that is sought: of this question, among the levels before `end`, tried from a guess on.
+#[derive(Clone, Copy)]
+pub(crate) struct Sought {
+    pub(crate) question: Question,
+    pub(crate) guess: u32,
+    pub(crate) end: u32,
+}
+
+/// The border that is sought over the lists of the levels.
 pub(crate) fn find_border<K: Decider>(
     alloc: Global,
     decider: &mut K,
     table: &Table,
     lists: &[Items<Statement>],
-    q: &Question,
-    guess: u32,
-    end: u32,
+    sought: Sought,
     bits: Bits,
 ) -> Result<Border, SpanFault>
     requires lists { AreLevelLists table.now lists.now }
-    requires asked { IsAskedIn table.now q.now }
-    requires no_class { names_class q.now ≡ false }
-    requires some { 1 ≤ end }
-    requires within { end ≤ length lists.now + 1 }
-    requires sides { HasTwoSides (most_of bits) table.now lists.now q.now end }
-    ensures border { IfOk result (IsBorder (most_of bits) table.now lists.now q.now end) }
-    ensures wide { IfErr result (IsWideBorder (most_of bits) table.now lists.now q.now end) }
+    requires asked { IsAskedIn table.now sought.question }
+    requires no_class { names_class sought.question ≡ false }
+    requires some { 1 ≤ sought.end }
+    requires within { sought.end ≤ length lists.now + 1 }
+    requires sides { HasTwoSides (most_of bits) table.now lists.now sought.question sought.end }
+    ensures border { IfOk result
+        (IsBorder (most_of bits) table.now lists.now sought.question sought.end) }
+    ensures wide { IfErr result
+        (IsWideBorder (most_of bits) table.now lists.now sought.question sought.end) }
 {
+    let q = &sought.question;
     let mut low = 0;
-    let mut high = end;
+    let mut high = sought.end;
     let mut below = Vec::new(alloc);
     let mut from = Vec::new(alloc);
     'levels: while low + 1 < high {
-        let level = level_between(low, high, guess);
+        let level = level_between(low, high, sought.guess);
         let list = lists[level as usize - 1].as_slice();
-        let answers = decide_at(alloc, decider, table, list, level, q, bits)?;
+        let at = LevelList { level, list };
+        let answers = decide_at(alloc, decider, table, at, q, bits)?;
         if is_above(kind_of(q), answers.as_slice()) {
             high = level;
             from = answers;

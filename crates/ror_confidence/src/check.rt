@@ -16,10 +16,10 @@ ghost use Rattle.ror_confidence.specs.Steps.{AreCheckers, AreDuesWithin, Refuses
 use crate::due::{Due, dues_of, is_in_range};
 use crate::fault::SpanCheckFault;
 use crate::level::LevelChecker;
-use crate::levels::{Levels, list_at};
+use crate::levels::{Levelled, Levels, list_at};
 use crate::span::{LevelAnswer, Span};
 use ror_check::CheckFault;
-use ror_statement::Numbered;
+use ror_statement::{Numbered, Pair};
 use ror_table::Table;
 use std::alloc::{AllocError, Global};
 
@@ -35,30 +35,33 @@ use std::alloc::{AllocError, Global};
 pub fn check_span(
     alloc: Global,
     table: &Table,
-    standing: &[Numbered],
-    levels: &Levels,
-    a: usize,
-    b: usize,
+    levelled: Levelled,
+    pair: Pair,
     x: &Span,
 ) -> Result<(), SpanCheckFault>
-    requires lawful { IsLawfulIn table.now (statements_in standing.now) }
-    requires levels { AreLevelsOf standing.now levels.now }
-    requires first { a < length table.now.alternatives }
-    requires second { b < length table.now.alternatives }
+    requires lawful { IsLawfulIn table.now (statements_in levelled.standing.now) }
+    requires levels { AreLevelsOf levelled.standing.now levelled.levels.now }
+    requires first { pair.first < length table.now.alternatives }
+    requires second { pair.second < length table.now.alternatives }
 
     ensures accepted { OnOk result
-        (IsProvedSpan table.now (level_lists standing.now levels.now) a b x.now) }
-    ensures true_span { OnOk result (IsSpan table.now (level_lists standing.now levels.now) a b
+        (IsProvedSpan table.now (level_lists levelled.entry.standing.now levelled.entry.levels.now)
+        pair.first pair.second x.now) }
+    ensures true_span { OnOk result (IsSpan table.now
+        (level_lists levelled.entry.standing.now levelled.entry.levels.now) pair.first pair.second
         x.now.contradictory x.now.necessary x.now.possible) }
 
     ensures not_proved { IfErr result (λ e. e ≢ SpanCheckFault.Memory
-        → IsProvedSpan table.now (level_lists standing.now levels.now) a b x.now → ⊥) }
+        → IsProvedSpan table.now (level_lists levelled.entry.standing.now levelled.entry.levels.now)
+        pair.first pair.second x.now → ⊥) }
     ensures refused { IfErr result (IsRefusedBy
-        (FailsSpan table.now (level_lists standing.now levels.now) a b x.now)
+        (FailsSpan table.now (level_lists levelled.entry.standing.now levelled.entry.levels.now)
+        pair.first pair.second x.now)
         IsEarlierSpanFault SpanCheckFault.Memory) }
 {
+    let Levelled { standing, levels } = levelled;
     let mut checker = SpanChecker::new(alloc, table, standing, levels)?;
-    checker.check(alloc, table, a, b, x)
+    checker.check(alloc, table, pair, x)
 }
 
 /// Checks spans over the same levels, one after the other: the statements of each level and their system are made once, and
@@ -105,24 +108,24 @@ impl SpanChecker {
         &mut self,
         alloc: Global,
         table: &Table,
-        a: usize,
-        b: usize,
+        pair: Pair,
         x: &Span,
     ) -> Result<(), SpanCheckFault>
         requires checkers { AreCheckers table.now self.old.levels.items }
         requires nested { AreLevelLists table.now (lists_of self.old.levels.items) }
         requires few { length self.old.levels.items < 2 ^ 16 }
-        requires first { a < length table.now.alternatives }
-        requires second { b < length table.now.alternatives }
+        requires first { pair.first < length table.now.alternatives }
+        requires second { pair.second < length table.now.alternatives }
 
         ensures accepted { OnOk result
-            (IsProvedSpan table.now (lists_of self.old.levels.items) a b x.now) }
-        ensures true_span { OnOk result (IsSpan table.now (lists_of self.old.levels.items) a b
-            x.now.contradictory x.now.necessary x.now.possible) }
+            (IsProvedSpan table.now (lists_of self.old.levels.items) pair.first pair.second x.now) }
+        ensures true_span { OnOk result (IsSpan table.now (lists_of self.old.levels.items)
+            pair.first pair.second x.now.contradictory x.now.necessary x.now.possible) }
         ensures not_proved { IfErr result (λ e. e ≢ SpanCheckFault.Memory
-            → IsProvedSpan table.now (lists_of self.old.levels.items) a b x.now → ⊥) }
+            → IsProvedSpan table.now (lists_of self.old.levels.items)
+            pair.first pair.second x.now → ⊥) }
         ensures refused { IfErr result (IsRefusedBy
-            (FailsSpan table.now (lists_of self.old.levels.items) a b x.now)
+            (FailsSpan table.now (lists_of self.old.levels.items) pair.first pair.second x.now)
             IsEarlierSpanFault SpanCheckFault.Memory) }
 
         ensures checkers { AreCheckers table.now self.new.levels.items }
@@ -132,7 +135,7 @@ impl SpanChecker {
         if !is_in_range(n, x) {
             return Err(SpanCheckFault::Range);
         }
-        let dues = dues_of(alloc, n, a, b, x)?;
+        let dues = dues_of(alloc, n, pair, x)?;
         let answers = x.proof.as_slice();
         if !has_shape(&dues, answers) {
             return Err(SpanCheckFault::Shape);

@@ -6,7 +6,7 @@ ghost use Rattle.ror_confidence.specs.Proof.{conclusion_from, conclusion_below, 
 
 use crate::span::Span;
 use ror_proof::Verdict;
-use ror_statement::{Conclusion, Question, QuestionKind, kind_of};
+use ror_statement::{Conclusion, Pair, Question, QuestionKind, kind_of};
 use std::alloc::{AllocError, Global};
 
 /// A conclusion on a question at a level.
@@ -84,26 +84,31 @@ fn push_below(dues: &mut Vec<Due>, question: Question, level: u32) -> Result<(),
 }
 
 /// What is due for a span over so many levels, in order.
-pub(crate) fn dues_of(
-    alloc: Global,
-    n: u32,
-    a: usize,
-    b: usize,
-    x: &Span,
-) -> Result<Vec<Due>, AllocError>
+pub(crate) fn dues_of(alloc: Global, n: u32, pair: Pair, x: &Span) -> Result<Vec<Due>, AllocError>
     requires few { n < 2 ^ 16 }
     requires range { is_in_range n x.now.contradictory x.now.necessary x.now.possible ≡ true }
     ensures { IfOk result (λ dues. dues.items
-        ≡ dues_of n a b x.now.contradictory x.now.necessary x.now.possible) }
+        ≡ dues_of n pair.first pair.second x.now.contradictory x.now.necessary x.now.possible) }
 {
+    let Pair { first, second } = pair;
     let end = x.contradictory;
     let mut dues = Vec::new(alloc);
     push_from(&mut dues, Question::Consistent, end, n + 1)?;
     push_below(&mut dues, Question::Consistent, end)?;
-    push_from(&mut dues, Question::Necessary(a, b), x.necessary, end)?;
-    push_below(&mut dues, Question::Necessary(a, b), x.necessary)?;
-    push_below(&mut dues, Question::Possible(a, b), x.possible + 1)?;
-    push_from(&mut dues, Question::Possible(a, b), x.possible + 1, end)?;
+    push_from(
+        &mut dues,
+        Question::Necessary(first, second),
+        x.necessary,
+        end,
+    )?;
+    push_below(&mut dues, Question::Necessary(first, second), x.necessary)?;
+    push_below(&mut dues, Question::Possible(first, second), x.possible + 1)?;
+    push_from(
+        &mut dues,
+        Question::Possible(first, second),
+        x.possible + 1,
+        end,
+    )?;
     Ok(dues)
 }
 

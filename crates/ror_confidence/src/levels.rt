@@ -21,6 +21,13 @@ pub struct Levels {
     pub put: Items<(u32, u32)>,
 }
 
+/// The statements that stand, and their levels.
+#[derive(Clone, Copy)]
+pub struct Levelled<'a> {
+    pub standing: &'a [Numbered],
+    pub levels: &'a Levels,
+}
+
 /// The level of the statement with this number.
 fn level_in(put: &[(u32, u32)], number: u32) -> u32
     ensures { result ≡ spec.level_in put.now number }

@@ -35,7 +35,7 @@ mod span;
 pub use check::{SpanChecker, check_span};
 pub use decider::Decider;
 pub use fault::{LevelsFault, SpanCheckFault, SpanFault};
-pub use levels::{Levels, MOST_LEVELS};
+pub use levels::{Levelled, Levels, MOST_LEVELS};
 pub use read::{MOST_LEVELS_BYTES, read_levels};
 pub use search::{LevelSearch, find_span};
 pub use span::{LevelAnswer, Span};

@@ -10,13 +10,13 @@ ghost use Rattle.ror_confidence.specs.Proof.{IsProvedSpan, IsSpanWithin};
 ghost use Rattle.ror_confidence.specs.Finding.{HasNoWideQuestions, IsDueSpanFault};
 ghost use Rattle.ror_confidence.specs.Searching.{IsBase, IsOpenBase, IsSearchOf, answers_of};
 
-use crate::border::{Border, find_border};
+use crate::border::{Border, Sought, find_border};
 use crate::decider::Decider;
 use crate::fault::SpanFault;
-use crate::levels::{Levels, level_lists};
+use crate::levels::{Levelled, Levels, level_lists};
 use crate::span::{LevelAnswer, Span};
 use ror_pivot::Bits;
-use ror_statement::{Numbered, Question, Statement};
+use ror_statement::{Numbered, Pair, Question, Statement};
 use ror_table::Table;
 use ror_text::Items;
 use std::alloc::{AllocError, Global};
@@ -33,30 +33,32 @@ pub fn find_span<K: Decider>(
     alloc: Global,
     decider: &mut K,
     table: &Table,
-    standing: &[Numbered],
-    levels: &Levels,
-    a: usize,
-    b: usize,
+    levelled: Levelled,
+    pair: Pair,
     bits: Bits,
 ) -> Result<Span, SpanFault>
-    requires lawful { IsLawfulIn table.now (statements_in standing.now) }
-    requires levels { AreLevelsOf standing.now levels.now }
-    requires first { a < length table.now.alternatives }
-    requires second { b < length table.now.alternatives }
+    requires lawful { IsLawfulIn table.now (statements_in levelled.standing.now) }
+    requires levels { AreLevelsOf levelled.standing.now levelled.levels.now }
+    requires first { pair.first < length table.now.alternatives }
+    requires second { pair.second < length table.now.alternatives }
 
     ensures proved { IfOk result
-        (IsProvedSpan table.now (level_lists standing.now levels.now) a b) }
-    ensures true_span { IfOk result (λ x. IsSpan table.now (level_lists standing.now levels.now)
-        a b x.contradictory x.necessary x.possible) }
+        (IsProvedSpan table.now (level_lists levelled.entry.standing.now levelled.entry.levels.now)
+        pair.first pair.second) }
+    ensures true_span { IfOk result (λ x. IsSpan table.now
+        (level_lists levelled.entry.standing.now levelled.entry.levels.now) pair.first pair.second
+        x.contradictory x.necessary x.possible) }
     ensures narrow { IfOk result (IsSpanWithin (most_of bits)) }
 
     ensures due { IfErr result (IsDueSpanFault (most_of bits) table.now
-        (level_lists standing.now levels.now) a b) }
+        (level_lists levelled.entry.standing.now levelled.entry.levels.now) pair.first pair.second) }
     ensures complete { HasNoWideQuestions (most_of bits) table.now
-        (level_lists standing.now levels.now) a b → IfErr result (λ e. e ≡ SpanFault.Memory) }
+        (level_lists levelled.entry.standing.now levelled.entry.levels.now) pair.first pair.second
+        → IfErr result (λ e. e ≡ SpanFault.Memory) }
 {
+    let Levelled { standing, levels } = levelled;
     let mut search = LevelSearch::new(alloc, decider, table, standing, levels, bits)?;
-    search.find(alloc, decider, table, a, b, bits)
+    search.find(alloc, decider, table, pair, bits)
 }
 
 /// Where statements begin to contradict each other, or the answer that leaves it open.
@@ -112,36 +114,43 @@ impl LevelSearch {
         alloc: Global,
         decider: &mut K,
         table: &Table,
-        a: usize,
-        b: usize,
+        pair: Pair,
         bits: Bits,
     ) -> Result<Span, SpanFault>
         requires search { IsSearchOf (most_of bits) table.now self.old }
-        requires first { a < length table.now.alternatives }
-        requires second { b < length table.now.alternatives }
+        requires first { pair.first < length table.now.alternatives }
+        requires second { pair.second < length table.now.alternatives }
 
-        ensures proved { IfOk result (IsProvedSpan table.now self.old.lists.items a b) }
-        ensures true_span { IfOk result (λ x. IsSpan table.now self.old.lists.items a b
-            x.contradictory x.necessary x.possible) }
+        ensures proved { IfOk result (IsProvedSpan table.now self.old.lists.items
+            pair.first pair.second) }
+        ensures true_span { IfOk result (λ x. IsSpan table.now self.old.lists.items
+            pair.first pair.second x.contradictory x.necessary x.possible) }
         ensures narrow { IfOk result (IsSpanWithin (most_of bits)) }
 
         ensures due { IfErr result
-            (IsDueSpanFault (most_of bits) table.now self.old.lists.items a b) }
-        ensures complete { HasNoWideQuestions (most_of bits) table.now self.old.lists.items a b
-            → IfErr result (λ e. e ≡ SpanFault.Memory) }
+            (IsDueSpanFault (most_of bits) table.now self.old.lists.items
+            pair.first pair.second) }
+        ensures complete { HasNoWideQuestions (most_of bits) table.now self.old.lists.items
+            pair.first pair.second → IfErr result (λ e. e ≡ SpanFault.Memory) }
 
         ensures search { IsSearchOf (most_of bits) table.now self.new }
         ensures lists { self.new.lists.items ≡ self.old.lists.items }
     {
         let contradictory = copied_base(alloc, &self.base)?;
         let end = contradictory.level;
-        let asked = Question::Necessary(a, b);
-        let guess = self.necessary;
-        let necessary = find_border(alloc, decider, table, &self.lists, &asked, guess, end, bits)?;
+        let sought = Sought {
+            question: Question::Necessary(pair.first, pair.second),
+            guess: self.necessary,
+            end,
+        };
+        let necessary = find_border(alloc, decider, table, &self.lists, sought, bits)?;
         self.necessary = necessary.level;
-        let asked = Question::Possible(a, b);
-        let guess = self.possible;
-        let possible = find_border(alloc, decider, table, &self.lists, &asked, guess, end, bits)?;
+        let sought = Sought {
+            question: Question::Possible(pair.first, pair.second),
+            guess: self.possible,
+            end,
+        };
+        let possible = find_border(alloc, decider, table, &self.lists, sought, bits)?;
         self.possible = possible.level;
         Ok(span_of(alloc, contradictory, necessary, possible)?)
     }
@@ -160,16 +169,12 @@ fn base_of<K: Decider>(
     ensures { IfOk result (IsBase (most_of bits) table.now lists.now) }
 {
     let end = lists.len() as u32 + 1;
-    match find_border(
-        alloc,
-        decider,
-        table,
-        lists,
-        &Question::Consistent,
+    let sought = Sought {
+        question: Question::Consistent,
+        guess: end,
         end,
-        end,
-        bits,
-    ) {
+    };
+    match find_border(alloc, decider, table, lists, sought, bits) {
         Ok(border) => Ok(Base::Found(border)),
         Err(SpanFault::Wide(x)) => Ok(Base::Open(x)),
         Err(SpanFault::Memory) => Err(AllocError),

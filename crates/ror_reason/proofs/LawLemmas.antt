@@ -53,7 +53,7 @@ meets-fewer t xs ys w h each = record {
       each.classes at.0 beside.0 r s x y at.1 beside.1 is_first is_second above;
 }
 
-fewer : (t : DecisionTable) (xs ys : List Statement) → IsSublist xs ys → (w : List ℤ) → IsCompatible t ys w → IsCompatible t xs w
+pub fewer : (t : DecisionTable) (xs ys : List Statement) → IsSublist xs ys → (w : List ℤ) → IsCompatible t ys w → IsCompatible t xs w
 fewer t xs ys h w compatible = record { function = compatible.function; meets = each_meets t w xs (meets-fewer t xs ys w h (meets_each t w ys compatible.meets)) }
 
 -- fewer assignments leave wider intervals of classes

@@ -13,6 +13,7 @@ use Rattle.ror_table.specs.Table.{DecisionTable}
 use Rattle.ror_value.specs.Over.{IsLawfulIn}
 use Rattle.ror_check.specs.Repair.{AreNumbersIn, is_among}
 use Rattle.ror_check.proofs.Numbers.{member-here, member-later, member-cases, Rises, rises, increases, AreIn, first_in, first_not_in, numbers_among, own_members}
+use Rattle.ror_check.proofs.RepairWalk.{length-numbers}
 use Rattle.ror_reason.specs.Reducts.{part_of, stated, without}
 use Rattle.ror_reason.specs.Laws.{AreAmong}
 
@@ -91,10 +92,6 @@ numbers-whole list up = record { rising = up; each_stands = own_members (numbers
 
 pub numbers-without : (list : List Numbered) (n : ℕ) (ns : List ℕ) → AreNumbersIn list ns → AreNumbersIn list (without n ns)
 numbers-without list n ns are = numbers-sublist list (without n ns) ns (sublist-filter (λ m. not (nat_eq n m)) ns) are
-
-length-numbers : (list : List Numbered) → length (numbers_in list) ≡ length list
-length-numbers [] = refl
-length-numbers (x ∷ list) = ap suc (length-numbers list)
 
 length-statements : (list : List Numbered) → length (statements_in list) ≡ length list
 length-statements [] = refl

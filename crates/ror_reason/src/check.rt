@@ -16,7 +16,7 @@ ghost use Rattle.ror_reason.specs.CheckSteps.{RefusesPart, RefusesOther, Refuses
 use crate::fault::ReductFault;
 use crate::part::{are_numbers_in, concludes, rests_on_part, stated, without};
 use crate::reducts::Reduct;
-use ror_check::{CheckFault, check_answer};
+use ror_check::{CheckFault, Claim, check_answer};
 use ror_proof::Answer;
 use ror_statement::{Conclusion, Numbered, Question};
 use ror_table::Table;
@@ -70,7 +70,11 @@ pub fn check_reduct(
         return Err(ReductFault::AnotherAnswer);
     }
     check_part(alloc, table, list, question, numbers, &x.answer)?;
-    check_others(alloc, table, list, question, conclusion, numbers, others)
+    let claim = Claim {
+        question: *question,
+        conclusion,
+    };
+    check_others(alloc, table, list, claim, numbers, others)
 }
 
 /// Checks the answer over the part with these numbers.
@@ -102,28 +106,37 @@ fn check_others(
     alloc: Global,
     table: &Table,
     list: &[Numbered],
-    question: &Question,
-    conclusion: Conclusion,
+    claim: Claim,
     numbers: &[u32],
     others: &[Answer],
 ) -> Result<(), ReductFault>
     requires lawful { IsLawfulIn table.now (statements_in list.now) }
-    requires asked { IsAskedIn table.now question.now }
+    requires asked { IsAskedIn table.now claim.question }
     requires as_many { length others.now ≡ length numbers.now }
     requires few { length numbers.now < 2 ^ 32 }
-    ensures ok { OnOk result (AreProvedBefore table.now list.now question.now conclusion
+    ensures ok { OnOk result (AreProvedBefore table.now list.now claim.question claim.conclusion
         numbers.now others.now (length numbers.now)) }
-    ensures err { IfErr result (RefusesOthers table.now list.now question.now conclusion
+    ensures err { IfErr result (RefusesOthers table.now list.now claim.question claim.conclusion
         numbers.now others.now) }
 {
     for (place, number) in numbers.iter().enumerate() {
-        let at = place as u32 + 1;
-        let other = &others[place];
-        check_other(
-            alloc, table, list, question, conclusion, numbers, at, *number, other,
-        )?;
+        let answer = &others[place];
+        let other = Other {
+            at: place as u32 + 1,
+            number: *number,
+            answer,
+        };
+        check_other(alloc, table, list, claim, numbers, other)?;
     }
     Ok(())
+}
+
+/// An answer at a place, counted from 1, and the number that it stands beside.
+#[derive(Clone, Copy)]
+struct Other<'a> {
+    at: u32,
+    number: u32,
+    answer: &'a Answer,
 }
 
 /// Checks the answer at a place, over all but the number that it stands beside.
@@ -131,29 +144,26 @@ fn check_other(
     alloc: Global,
     table: &Table,
     list: &[Numbered],
-    question: &Question,
-    conclusion: Conclusion,
+    claim: Claim,
     numbers: &[u32],
-    at: u32,
-    number: u32,
-    other: &Answer,
+    other: Other,
 ) -> Result<(), ReductFault>
     requires lawful { IsLawfulIn table.now (statements_in list.now) }
-    requires asked { IsAskedIn table.now question.now }
-    ensures ok { OnOk result (IsProvedOther table.now list.now question.now conclusion
-        numbers.now number other.now) }
-    ensures err { IfErr result (RefusesOther table.now list.now question.now conclusion
-        numbers.now at number other.now) }
+    requires asked { IsAskedIn table.now claim.question }
+    ensures ok { OnOk result (IsProvedOther table.now list.now claim.question claim.conclusion
+        numbers.now other.entry.number other.entry.answer.now) }
+    ensures err { IfErr result (RefusesOther table.now list.now claim.question claim.conclusion
+        numbers.now other.entry.at other.entry.number other.entry.answer.now) }
 {
-    if concludes(&other.verdict, conclusion) {
-        return Err(ReductFault::SameAnswer(at));
+    if concludes(&other.answer.verdict, claim.conclusion) {
+        return Err(ReductFault::SameAnswer(other.at));
     }
-    let rest = without(alloc, number, numbers)?;
+    let rest = without(alloc, other.number, numbers)?;
     let part = stated(alloc, list, rest.as_slice())?;
     let statements = part.as_slice();
-    match check_answer(alloc, table, statements, question, other) {
+    match check_answer(alloc, table, statements, &claim.question, other.answer) {
         Ok(()) => Ok(()),
         Err(CheckFault::Memory) => Err(ReductFault::Memory),
-        Err(fault) => Err(ReductFault::Other(at, fault)),
+        Err(fault) => Err(ReductFault::Other(other.at, fault)),
     }
 }

@@ -8,7 +8,8 @@
 //! proved (`IsProvedReduct`), and what is proved of an answer that is true of the list is a reduct
 //! (`laws::proved_reducts_are_true`). Where some function has what is asked, or some one lacks it, one function shows so, and
 //! the reason has the answer with its proof, in which that function stands (`laws::one_function_decides`). That every function
-//! leaves an alternative a class is carried by no statement either.
+//! leaves an alternative a class is carried by no statement either. `rests_on_part` tells these answers apart, and `stated` gives
+//! what a part states.
 //!
 //! Let alternative 0 be evaluated 3 and 10, 1 with 2 and 8 and 2 with 1 and 12, where more of the first and less of the second
 //! criterion is better, and let these be stated:
@@ -34,5 +35,6 @@ mod weights;
 
 pub use check::check_reduct;
 pub use fault::ReductFault;
+pub use part::{is_among, part_of, rests_on_part, stated};
 pub use reasons::{reduct, reduct_of};
 pub use reducts::{Reason, Reduct};

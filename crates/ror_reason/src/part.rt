@@ -32,7 +32,7 @@ pub(crate) fn are_numbers_in(list: &[Numbered], numbers: &[u32]) -> bool
 }
 
 /// Whether the number is one of these.
-fn is_among(numbers: &[u32], number: u32) -> bool
+pub fn is_among(numbers: &[u32], number: u32) -> bool
     ensures { result ≡ is_member nat_eq numbers.now number }
 {
     match numbers {
@@ -48,8 +48,22 @@ pub(crate) fn numbers_of(alloc: Global, list: &[Numbered]) -> Result<Vec<u32>, A
     list.iter().map(|x| x.number).collect(alloc)
 }
 
-/// What the part of the list with these numbers states.
-pub(crate) fn stated(
+/// The part of the list that these numbers name. The one error is want of memory.
+pub fn part_of(
+    alloc: Global,
+    list: &[Numbered],
+    numbers: &[u32],
+) -> Result<Vec<Numbered>, AllocError>
+    ensures { IfOk result (λ part. part.items ≡ reducts.part_of numbers.now list.now) }
+{
+    list.iter()
+        .filter(|x| is_among(numbers, x.number))
+        .copied()
+        .collect(alloc)
+}
+
+/// What the part of the list with these numbers states. The one error is want of memory.
+pub fn stated(
     alloc: Global,
     list: &[Numbered],
     numbers: &[u32],
@@ -86,7 +100,7 @@ pub(crate) fn concludes(verdict: &Verdict, conclusion: Conclusion) -> bool
 }
 
 /// Whether statements carry that a question is answered so.
-pub(crate) fn rests_on_part(question: &Question, conclusion: Conclusion) -> bool
+pub fn rests_on_part(question: &Question, conclusion: Conclusion) -> bool
     ensures { result ≡ reducts.rests_on_part (questions.kind_of question.now) (questions.property_of question.now) conclusion }
 {
     match (kind_of(question), question.property(), conclusion) {

@@ -19,6 +19,7 @@ use Rattle.ror_statement.specs.Questions.{kind_of}
 use Rattle.ror_table.specs.Table.{DecisionTable}
 use Rattle.ror_system.specs.System.{LinearSystem}
 use Rattle.ror_system.specs.declared.accept.Multipliers.{Multipliers}
+use Rattle.ror_system.specs.declared.accept.Solution.{Solution}
 use Rattle.ror_value.specs.Over.{IsLawfulIn, IsAskedIn}
 use Rattle.ror_rows.specs.declared.extra.Extra.{Extra}
 use Rattle.ror_rows.specs.Rows.{system_for, extended_by, extras_of, systems_of_question}
@@ -154,23 +155,27 @@ extended_each : (t : DecisionTable) (list : List Statement) (s : LinearSystem) (
 extended_each t list s [] is = refl
 extended_each t list s (extra ∷ extras) is = ap₂ (λ (first : LinearSystem) (rest : List LinearSystem). first ∷ rest) (extended_is t list extra s (extended_by t s extra) is refl) (extended_each t list s extras is)
 
-pub searched : (most : ℕ) (t : DecisionTable) (list : List Statement) (q : Question) (s : LinearSystem) (systems slice : List (SmallVec Extra)) (x : Search) → s ≡ base_system t list → slice ≡ systems → map extras_of systems ≡ systems_of_question list q
-    → IsSearch most (map (extended_by t s) (map extras_of slice)) x → IsSearch most (question_systems_of t list q) x
-searched most t list q s systems slice x base is are h =
+pub systems_of_list : (list slice : List Statement) (systems : List (SmallVec Extra)) (q : Question) → slice ≡ list → map extras_of systems ≡ systems_of_question slice q → map extras_of systems ≡ systems_of_question list q
+systems_of_list list slice systems q is are = are ∙ ap (λ (list : List Statement). systems_of_question list q) is
+
+pub search_found : (most : ℕ) (t : DecisionTable) (list : List Statement) (q : Question) (s : LinearSystem) (systems slice : List (SmallVec Extra)) (r : Result Search AllocError) → s ≡ base_system t list → slice ≡ systems → map extras_of systems ≡ systems_of_question list q
+    → IfOk r (IsSearch most (map (extended_by t s) (map extras_of slice))) → IfOk r (IsSearch most (question_systems_of t list q))
+search_found most t list q s systems slice (Ok x) base is are h =
     let extras = ap (map extras_of) is ∙ are in
     subst (λ (ss : List LinearSystem). IsSearch most ss x) (ap (map (extended_by t s)) extras ∙ extended_each t list s (systems_of_question list q) base) h
-
-pub concluded_given : (most : ℕ) (t : DecisionTable) (list : List Statement) (q : Question) (base : Certificate) (x : Search) (k : QuestionKind) (r : Result Verdict AllocError) → IsLawfulIn t list → IsAskedIn t q → ShowsAsBase most conclusions.Yes (base_system t list) base
-    → IsSearch most (question_systems_of t list q) x → k ≡ kind_of q → IfOk r (λ v. v ≡ verdict_of k base x) → IfOk r (IsGivenVerdict most t list q)
-concluded_given most t list q base x k (Ok v) lawful asked shows search is gives =
-    rw (gives, is) (concluded most t list q base lawful asked shows x search)
-concluded_given most t list q base x k (Err e) lawful asked shows search is gives = tt
+search_found most t list q s systems slice (Err e) base is are h = tt
 
 pub given : (most : ℕ) (t : DecisionTable) (list : List Statement) (q : Question) (v known : Verdict) → v ≡ known → IsGivenVerdict most t list q known → IsGiven most t list q (record { question = q; verdict = v })
 given most t list q v known is h =
     rw is (record { allowed = record { question = refl; verdict = h.allowed }; narrow = h.narrow; true_answer = h.true_verdict })
 
 -- a verdict by a base that is decided
+pub searched : (most : ℕ) (t : DecisionTable) (list : List Statement) (q : Question) (base : Decision) (solution : Solution) (x : Search) (k : QuestionKind) (v : Verdict) → IsLawfulIn t list → IsAskedIn t q → IsDecision most (base_system t list) base → base ≡ decisions.Solvable solution
+    → IsSearch most (question_systems_of t list q) x → k ≡ kind_of q → v ≡ verdict_of k (certificates.Solution solution) x → IsGivenVerdict most t list q v
+searched most t list q base solution x k v lawful asked decided is found kind gives =
+    let shows : ShowsAsBase most conclusions.Yes (base_system t list) (certificates.Solution solution) = subst (λ (d : Decision). IsDecision most (base_system t list) d) is decided in
+    rw (gives, kind) (concluded most t list q (certificates.Solution solution) lawful asked shows x found)
+
 pub contradicted : (most : ℕ) (t : DecisionTable) (list : List Statement) (q : Question) (base : Decision) (m copy : Multipliers) (parts : List Part) → IsLawfulIn t list → IsAskedIn t q → IsDecision most (base_system t list) base → base ≡ decisions.NotSolvable m → copy ≡ m → parts ≡ []
     → IsGivenVerdict most t list q (verdicts.Contradiction (record { base = certificates.Multipliers copy; parts = parts }))
 contradicted most t list q base m copy parts lawful asked decided is same none =

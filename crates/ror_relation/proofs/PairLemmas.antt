@@ -63,7 +63,7 @@ others a first (suc n) h = by (a == first) refl (others a (first + 1) n (λ j l 
     by false is rest = ap suc rest
 
 -- one of these alternatives is the one
-others_of : (a first n : ℕ) → first ≤ a → a < first + n → length (flat_map (pair_of_different a) (range_with_len first n)) + 1 ≡ n
+pub others_of : (a first n : ℕ) → first ≤ a → a < first + n → length (flat_map (pair_of_different a) (range_with_len first n)) + 1 ≡ n
 others_of a first zero least most = absurd (omega arith)
 others_of a first (suc n) least most = by (a == first) refl (λ after. others_of a (first + 1) n after (omega arith))
   where

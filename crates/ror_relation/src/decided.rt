@@ -1,11 +1,12 @@
 //! A list whose base is decided once, and answers over it.
 
 ghost use Rattle.std.specs.Prelude.{◌≡◌, ◌≤◌, IfOk};
+ghost use Rattle.std.specs.List.{AllByRecursion, AllZip};
 ghost use Rattle.ror_pivot.specs.Answers.{most_of};
 ghost use Rattle.ror_value.specs.Over.{IsLawfulIn, IsAskedIn};
-ghost use Rattle.ror_check.specs.Proof.{base_system};
+ghost use Rattle.ror_check.specs.Proof.{question_systems_of};
 ghost use Rattle.ror_given.specs.Answers.{IsGiven};
-ghost use Rattle.ror_relation.specs.Decisions.{IsDecision, IsGivenVerdict, verdict_of};
+ghost use Rattle.ror_relation.specs.Decisions.{IsSearch, verdict_of};
 ghost use Rattle.ror_relation.specs.DecidedLists.{IsDecidedList, statements_of};
 
 use crate::decision::{Decision, decide_system_warm};
@@ -14,7 +15,7 @@ use ror_pivot::Bits;
 use ror_proof::{Answer, Certificate, Part, Proof, Verdict};
 use ror_rows::{question_systems, system_of};
 use ror_statement::{Question, QuestionKind, Statement, kind_of};
-use ror_system::{Multipliers, Solution, System};
+use ror_system::{Solution, System};
 use ror_table::Table;
 use ror_text::Items;
 use ror_warm::Engine;
@@ -49,13 +50,6 @@ impl DecidedList {
         Ok(DecidedList { list, system, base })
     }
 
-    /// The statements of the list.
-    pub fn statements(&self) -> &[Statement]
-        ensures { result.now ≡ statements_of self.now }
-    {
-        self.list.as_slice()
-    }
-
     /// Answers the question over the list as `decide` does, at the width at which its base was decided. The question is valid
     /// for the table. Its one error is want of memory.
     pub fn answer(
@@ -72,11 +66,10 @@ impl DecidedList {
             (IsGiven (most_of bits) table.now (statements_of self.now) question.now) }
         ensures counted { engine.old.pivots ≤ engine.new.pivots }
     {
-        let list = self.list.as_slice();
-        let system = &self.system;
         let verdict = match &self.base {
             Decision::Solvable(solution) => {
-                verdict_over(alloc, engine, table, list, system, solution, question, bits)?
+                let search = self.search(alloc, engine, table, question, bits)?;
+                concluded(alloc, kind_of(question), solution, search)?
             }
             Decision::NotSolvable(multipliers) => Verdict::Contradiction(Proof {
                 base: Certificate::Multipliers(multipliers.copied(alloc)?),
@@ -92,41 +85,61 @@ impl DecidedList {
             verdict,
         })
     }
+
+    /// Answers each of these questions over the list, in order, as `answer` does.
+    pub fn answer_each(
+        &self,
+        alloc: Global,
+        engine: &mut Engine,
+        table: &Table,
+        questions: &[Question],
+        bits: Bits,
+    ) -> Result<Vec<Answer>, AllocError>
+        requires decided { IsDecidedList (most_of bits) table.now self.now }
+        requires asked { AllByRecursion (IsAskedIn table.now) questions.now }
+        ensures given { IfOk result (λ answers. AllZip
+            (IsGiven (most_of bits) table.now (statements_of self.now)) questions.now answers.items) }
+        ensures counted { engine.old.pivots ≤ engine.new.pivots }
+    {
+        let mut answers = Vec::with_capacity(alloc, questions.len())?;
+        for question in questions {
+            let answer = self.answer(alloc, engine, table, question, bits)?;
+            answers.push(answer)?;
+        }
+        Ok(answers)
+    }
+
+    /// What the search among the systems of the question comes to, in order.
+    fn search(
+        &self,
+        alloc: Global,
+        engine: &mut Engine,
+        table: &Table,
+        question: &Question,
+        bits: Bits,
+    ) -> Result<Search, AllocError>
+        requires decided { IsDecidedList (most_of bits) table.now self.now }
+        requires asked { IsAskedIn table.now question.now }
+        ensures found { IfOk result (IsSearch (most_of bits)
+            (question_systems_of table.now (statements_of self.now) question.now)) }
+        ensures counted { engine.old.pivots ≤ engine.new.pivots }
+    {
+        let systems = question_systems(alloc, table, self.list.as_slice(), question)?;
+        first_solvable(alloc, engine, table, &self.system, systems.as_slice(), bits)
+    }
 }
 
-/// The verdict on the question, where the system of the statements, the base, has this solution.
-fn verdict_over(
-    alloc: Global,
-    engine: &mut Engine,
-    table: &Table,
-    list: &[Statement],
-    system: &System,
-    base: &Solution,
-    question: &Question,
-    bits: Bits,
-) -> Result<Verdict, AllocError>
-    requires lawful { IsLawfulIn table.now list.now }
-    requires asked { IsAskedIn table.now question.now }
-    requires system { system.now ≡ base_system table.now list.now }
-    requires base { IsDecision (most_of bits) system.now (Decision.Solvable base.now) }
-    ensures given { IfOk result (IsGivenVerdict (most_of bits) table.now list.now question.now) }
-    ensures counted { engine.old.pivots ≤ engine.new.pivots }
-{
-    let systems = question_systems(alloc, table, list, question)?;
-    let search = first_solvable(alloc, engine, table, system, systems.as_slice(), bits)?;
-    let base = Certificate::Solution(base.copied(alloc)?);
-    concluded(alloc, kind_of(question), base, search)
-}
-
-/// The verdict on a question of this kind, where the base is solvable and the search among its systems comes to this.
+/// The verdict on a question of this kind, where the base has this solution and the search among the question's systems comes
+/// to this.
 fn concluded(
     alloc: Global,
     kind: QuestionKind,
-    base: Certificate,
+    base: &Solution,
     search: Search,
 ) -> Result<Verdict, AllocError>
-    ensures { IfOk result (λ v. v ≡ verdict_of kind base search) }
+    ensures { IfOk result (λ v. v ≡ verdict_of kind (Certificate.Solution base.now) search) }
 {
+    let base = Certificate::Solution(base.copied(alloc)?);
     match search {
         Search::Solvable(part) => {
             let mut parts = Vec::new(alloc);

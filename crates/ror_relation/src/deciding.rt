@@ -95,10 +95,5 @@ pub fn decide_each_warm(
 {
     let list = Items::from(Vec::from_slice(alloc, list)?);
     let decided = DecidedList::new(alloc, engine, table, list, bits)?;
-    let mut answers = Vec::with_capacity(alloc, questions.len())?;
-    for question in questions {
-        let answer = decided.answer(alloc, engine, table, question, bits)?;
-        answers.push(answer)?;
-    }
-    Ok(answers)
+    decided.answer_each(alloc, engine, table, questions, bits)
 }

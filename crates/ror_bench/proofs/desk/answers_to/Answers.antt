@@ -11,9 +11,9 @@ returns-in_err-questions-clause-refused c =
     let exit = err_from_is_err_and c.from_residual.result c.from_residual.ensures.1 in
     rw (exit.1, exit.2) (refuses_asked c.args.table.now c.args.history.now.state c.args.asked.now c.in_err-questions.field-0.0 c.in_err-questions.ensures.exact)
 
-pub decide_each_warm-requires-clause-lawful : goal.decide_each_warm-requires-clause-lawful
-decide_each_warm-requires-clause-lawful c =
+pub new-requires : goal.new-requires
+new-requires c =
     let t = c.args.table.now in
     let r = c.args.history.now.state in
-    let list : c.as_slice.result.now ≡ statements_of r = c.as_slice.ensures.value ∙ c.in_ok-list.ensures in
-    subst (IsLawfulIn t) (sym list) (lawful_now t r c.requires.lawful)
+    let list : c.from-list.result ≡ statements_of r = c.from-list.ensures ∙ c.in_ok-statements.ensures in
+    record { lawful = subst (IsLawfulIn t) (sym list) (lawful_now t r c.requires.lawful) }

@@ -12,7 +12,7 @@ use Rattle.ror_confidence.proofs.border.find_border.Goals as goal
 pub levels-preserved-then-is_above : goal.levels-preserved-then-is_above
 levels-preserved-then-is_above g c =
     let lists = c.args.lists.now in
-    let q = c.args.q.now in
+    let q = c.args.sought.question in
     let most = most_of c.args.bits in
     let level = c.level_between-level.result in
     let inv = c.levels.invariant in
@@ -25,12 +25,12 @@ levels-preserved-then-is_above g c =
     let decided = subst (λ (list : List Statement). IsDecidedAt most c.args.table.now list q level answers) same c.in_ok-answers.ensures in
     let kind = subst (λ (kind : QuestionKind). is_above kind c.as_slice.result.now ≡ true) c.kind_of.ensures (sym c.is_above.ensures ∙ c.if-is_above.true) in
     let is = subst (λ (xs : List LevelAnswer). is_above (kind_of q) xs ≡ true) c.as_slice.ensures.value kind in
-    has_above most c.args.table.now lists q c.args.end c.levels.low c.levels.high level c.levels.below.items c.levels.from.items answers inv over under decided is
+    has_above most c.args.table.now lists q c.args.sought.end c.levels.low c.levels.high level c.levels.below.items c.levels.from.items answers inv over under decided is
 
 pub levels-preserved : goal.levels-preserved
 levels-preserved g c =
     let lists = c.args.lists.now in
-    let q = c.args.q.now in
+    let q = c.args.sought.question in
     let most = most_of c.args.bits in
     let level = c.level_between-level.result in
     let inv = c.levels.invariant in
@@ -43,15 +43,15 @@ levels-preserved g c =
     let decided = subst (λ (list : List Statement). IsDecidedAt most c.args.table.now list q level answers) same c.in_ok-answers.ensures in
     let kind = subst (λ (kind : QuestionKind). is_above kind c.as_slice.result.now ≡ false) c.kind_of.ensures (sym c.is_above.ensures ∙ c.if-is_above.false) in
     let is = subst (λ (xs : List LevelAnswer). is_above (kind_of q) xs ≡ false) c.as_slice.ensures.value kind in
-    has_below most c.args.table.now lists q c.args.end c.levels.low c.levels.high level c.levels.below.items c.levels.from.items answers c.requires.sides inv over under decided is
+    has_below most c.args.table.now lists q c.args.sought.end c.levels.low c.levels.high level c.levels.below.items c.levels.from.items answers c.requires.sides inv over under decided is
 
 pub border_of-requires : goal.border_of-requires
-border_of-requires g c = few_from (most_of c.args.bits) c.args.table.now c.args.lists.now c.args.q.now c.args.end c.levels.low c.levels.high c.levels.below.items c.levels.from.items c.levels.invariant
+border_of-requires g c = few_from (most_of c.args.bits) c.args.table.now c.args.lists.now c.args.sought.question c.args.sought.end c.levels.low c.levels.high c.levels.below.items c.levels.from.items c.levels.invariant
 
 pub returns-clause-border : goal.returns-clause-border
 returns-clause-border g c =
-    border_found (most_of c.args.bits) c.args.table.now c.args.lists.now c.args.q.now c.args.end c.levels.low c.levels.high c.levels.below.items c.levels.from.items c.border_of.result c.levels.invariant (omega (arith, c.levels-test.false)) c.border_of.ensures.border c.border_of.ensures.narrow
+    border_found (most_of c.args.bits) c.args.table.now c.args.lists.now c.args.sought.question c.args.sought.end c.levels.low c.levels.high c.levels.below.items c.levels.from.items c.border_of.result c.levels.invariant (omega (arith, c.levels-test.false)) c.border_of.ensures.border c.border_of.ensures.narrow
 
 pub returns-clause-wide : goal.returns-clause-wide
 returns-clause-wide g c =
-    border_open (most_of c.args.bits) c.args.table.now c.args.lists.now c.args.q.now c.args.end c.levels.low c.levels.high c.levels.below.items c.levels.from.items c.border_of.result c.levels.invariant (omega (arith, c.levels-test.false)) c.border_of.ensures.wide
+    border_open (most_of c.args.bits) c.args.table.now c.args.lists.now c.args.sought.question c.args.sought.end c.levels.low c.levels.high c.levels.below.items c.levels.from.items c.border_of.result c.levels.invariant (omega (arith, c.levels-test.false)) c.border_of.ensures.wide

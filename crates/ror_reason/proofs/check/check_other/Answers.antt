@@ -8,4 +8,4 @@ pub check_answer-requires-clause-lawful : goal.check_answer-requires-clause-lawf
 check_answer-requires-clause-lawful c =
     let list = c.args.list.now in
     let is = c.as_slice-statements.ensures.value ∙ c.in_ok-part.ensures ∙ ap (λ ns. stated ns list) (c.as_slice.ensures.value ∙ c.in_ok-rest.ensures) in
-    subst (IsLawfulIn c.args.table.now) (sym is) (stated_lawful c.args.table.now list (without c.args.number c.args.numbers.now) c.requires.lawful)
+    subst (IsLawfulIn c.args.table.now) (sym is) (stated_lawful c.args.table.now list (without c.args.other.number c.args.numbers.now) c.requires.lawful)

@@ -17,7 +17,7 @@ invariant_of-self c =
     let views = c.self.inside.desks.items in
     let within : c.args.line.now.desk < length (map (λ h. h.state) views) = search rules in
     record {
-      lawful = checked_lawful c.self.inside.table (pivots_together c.self.inside.engine.pivots c.self.inside.repair_pivots) views c.args.line.now c.args.block.now c.index_mut-history.result.now c.check.new.history c.args.self.now proved_unless_wide c.check.result c.self.invariant.lawful within c.index_mut-history.ensures.value c.check.ensures.body c.check.ensures.moved c.check.ensures.kept;
+      lawful = checked_lawful c.self.inside.table (pivots_together c.self.inside.search.engine.pivots c.self.inside.search.repair_pivots) views c.args.line.now c.args.block.now c.index_mut-history.result.now c.check.new.history c.args.self.now proved_unless_wide c.check.result c.self.invariant.lawful within c.index_mut-history.ensures.value c.check.ensures.body c.check.ensures.moved c.check.ensures.kept;
       checker = c.check.ensures.checker;
     }
 
@@ -27,7 +27,7 @@ returns-clause-accepted c =
     let views = c.self.inside.desks.items in
     let old = c.index_mut-history.result.now in
     let within : c.args.line.now.desk < length (map (λ h. h.state) views) = search rules in
-    at_bench (λ t r. OnOk c.check.result (IsProvedBlock t r c.args.line.now c.args.block.now)) t (pivots_together c.self.inside.engine.pivots c.self.inside.repair_pivots) views c.args.line.now.desk old c.args.self.now within c.index_mut-history.ensures.value c.self.view_is
+    at_bench (λ t r. OnOk c.check.result (IsProvedBlock t r c.args.line.now c.args.block.now)) t (pivots_together c.self.inside.search.engine.pivots c.self.inside.search.repair_pivots) views c.args.line.now.desk old c.args.self.now within c.index_mut-history.ensures.value c.self.view_is
     (checked_proved t old.state c.args.line.now c.args.block.now c.check.result c.if-block-line.false c.check.ensures.body)
 
 pub returns-clause-true_block : goal.returns-clause-true_block
@@ -36,7 +36,7 @@ returns-clause-true_block c =
     let views = c.self.inside.desks.items in
     let old = c.index_mut-history.result.now in
     let within : c.args.line.now.desk < length (map (λ h. h.state) views) = search rules in
-    at_bench (λ t r. OnOk c.check.result (IsTrueBlock t r c.args.block.now)) t (pivots_together c.self.inside.engine.pivots c.self.inside.repair_pivots) views c.args.line.now.desk old c.args.self.now within c.index_mut-history.ensures.value c.self.view_is
+    at_bench (λ t r. OnOk c.check.result (IsTrueBlock t r c.args.block.now)) t (pivots_together c.self.inside.search.engine.pivots c.self.inside.search.repair_pivots) views c.args.line.now.desk old c.args.self.now within c.index_mut-history.ensures.value c.self.view_is
     (checked_true t old.state c.args.line.now c.args.block.now c.check.result (lawful_now t old.state (kept_at t views c.args.line.now.desk old c.self.invariant.lawful within c.index_mut-history.ensures.value))
     (checked_proved t old.state c.args.line.now c.args.block.now c.check.result c.if-block-line.false c.check.ensures.body))
 
@@ -46,7 +46,7 @@ returns-clause-refused c =
     let views = c.self.inside.desks.items in
     let old = c.index_mut-history.result.now in
     let within : c.args.line.now.desk < length (map (λ h. h.state) views) = search rules in
-    at_bench (λ t r. IfErr c.check.result (IsRefusedBy (FailsBlock t r c.args.line.now c.args.block.now) IsEarlierBlockFault faults.Memory)) t (pivots_together c.self.inside.engine.pivots c.self.inside.repair_pivots) views c.args.line.now.desk old c.args.self.now within c.index_mut-history.ensures.value c.self.view_is
+    at_bench (λ t r. IfErr c.check.result (IsRefusedBy (FailsBlock t r c.args.line.now c.args.block.now) IsEarlierBlockFault faults.Memory)) t (pivots_together c.self.inside.search.engine.pivots c.self.inside.search.repair_pivots) views c.args.line.now.desk old c.args.self.now within c.index_mut-history.ensures.value c.self.view_is
     (checked_refused t old.state c.args.line.now c.args.block.now c.check.result c.if-block-line.false c.check.ensures.refused)
 
 pub returns-clause-not_proved : goal.returns-clause-not_proved
@@ -56,14 +56,14 @@ pub returns-clause-moved : goal.returns-clause-moved
 returns-clause-moved c =
     let views = c.self.inside.desks.items in
     let within : c.args.line.now.desk < length (map (λ h. h.state) views) = search rules in
-    checked_moves c.self.inside.table (pivots_together c.self.inside.engine.pivots c.self.inside.repair_pivots) views c.args.line.now c.args.block.now c.index_mut-history.result.now c.check.new.history c.args.self.now c.check.result within c.index_mut-history.ensures.value c.self.view_is c.check.ensures.moved
+    checked_moves c.self.inside.table (pivots_together c.self.inside.search.engine.pivots c.self.inside.search.repair_pivots) views c.args.line.now c.args.block.now c.index_mut-history.result.now c.check.new.history c.args.self.now c.check.result within c.index_mut-history.ensures.value c.self.view_is c.check.ensures.moved
 
 pub returns-clause-kept : goal.returns-clause-kept
-returns-clause-kept c = checked_keeps c.self.inside.table (pivots_together c.self.inside.engine.pivots c.self.inside.repair_pivots) c.self.inside.desks.items c.args.line.now c.args.block.now c.index_mut-history.result.now c.check.new.history c.args.self.now c.check.result c.index_mut-history.ensures.value c.self.view_is c.check.ensures.kept
+returns-clause-kept c = checked_keeps c.self.inside.table (pivots_together c.self.inside.search.engine.pivots c.self.inside.search.repair_pivots) c.self.inside.desks.items c.args.line.now c.args.block.now c.index_mut-history.result.now c.check.new.history c.args.self.now c.check.result c.index_mut-history.ensures.value c.self.view_is c.check.ensures.kept
 
 pub returns-clause-room : goal.returns-clause-room
 returns-clause-room c =
     let views = c.self.inside.desks.items in
     let within : c.args.line.now.desk < length (map (λ h. h.state) views) = search rules in
-    let p = pivots_together c.self.inside.engine.pivots c.self.inside.repair_pivots in
+    let p = pivots_together c.self.inside.search.engine.pivots c.self.inside.search.repair_pivots in
     room_elsewhere c.self.inside.table p p views c.args.line.now.desk c.index_mut-history.result.now c.check.new.history c.args.self.now within c.index_mut-history.ensures.value c.self.view_is

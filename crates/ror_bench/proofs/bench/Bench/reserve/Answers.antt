@@ -18,18 +18,18 @@ invariant_of-self c =
 pub returns-clause-room : goal.returns-clause-room
 returns-clause-room c =
     let views = c.self.inside.desks.items in
-    let p = pivots_together c.self.inside.engine.pivots c.self.inside.repair_pivots in
+    let p = pivots_together c.self.inside.search.engine.pivots c.self.inside.search.repair_pivots in
     let within : c.args.desk < length (map (λ h. h.state) views) = search rules in
     room_made c.self.inside.table p p views c.args.desk c.index_mut-history.result.now c.reserve.new.self c.args.self.now within c.index_mut-history.ensures.value c.self.view_is c.args.revisions c.reserve.result c.reserve.ensures.room
 
 pub returns-clause-kept : goal.returns-clause-kept
 returns-clause-kept c =
-    let p = pivots_together c.self.inside.engine.pivots c.self.inside.repair_pivots in
+    let p = pivots_together c.self.inside.search.engine.pivots c.self.inside.search.repair_pivots in
     bench_stays c.self.inside.table p p c.self.inside.desks.items c.args.desk c.index_mut-history.result.now c.reserve.new.self c.args.self.now c.index_mut-history.ensures.value c.self.view_is c.reserve.ensures.unchanged
 
 pub returns-clause-no_less : goal.returns-clause-no_less
 returns-clause-no_less c =
     let views = c.self.inside.desks.items in
-    let p = pivots_together c.self.inside.engine.pivots c.self.inside.repair_pivots in
+    let p = pivots_together c.self.inside.search.engine.pivots c.self.inside.search.repair_pivots in
     let within : c.args.desk < length (map (λ h. h.state) views) = search rules in
     room_kept c.self.inside.table p p views c.args.desk c.index_mut-history.result.now c.reserve.new.self c.args.self.now within c.index_mut-history.ensures.value c.self.view_is c.reserve.ensures.kept

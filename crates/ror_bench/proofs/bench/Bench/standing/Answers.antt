@@ -9,7 +9,7 @@ use Rattle.ror_bench.proofs.bench.Bench.standing.Goals as goal
 pub returns-clause-lawful : goal.returns-clause-lawful
 returns-clause-lawful c =
     let t = c.self.inside.table in
-    let p = pivots_together c.self.inside.engine.pivots c.self.inside.repair_pivots in
+    let p = pivots_together c.self.inside.search.engine.pivots c.self.inside.search.repair_pivots in
     let views = c.self.inside.desks.items in
     let here = c.index.result.now in
     let within : c.args.desk < length (map (λ h. h.state) views) = search rules in

@@ -14,7 +14,7 @@ use Rattle.ror_bench.proofs.bench.Bench.step.Goals as goal
 pub returns-in_err-body-clause-kept : goal.returns-in_err-body-clause-kept
 returns-in_err-body-clause-kept c =
     let exit = err_from_is_err_and c.from_residual.result c.from_residual.ensures.1 in
-    rw exit.1 (bench_stays c.self.inside.table (pivots_together c.self.inside.engine.pivots c.self.inside.repair_pivots) (pivots_together c.perform.new.engine.pivots c.perform.new.repair_pivots) c.self.inside.desks.items c.args.line.now.desk c.index_mut-history.result.now c.perform.new.history c.args.self.now c.index_mut-history.ensures.value c.self.view_is c.in_err-body.ensures.kept)
+    rw exit.1 (bench_stays c.self.inside.table (pivots_together c.self.inside.search.engine.pivots c.self.inside.search.repair_pivots) (pivots_together c.perform.new.search.engine.pivots c.perform.new.search.repair_pivots) c.self.inside.desks.items c.args.line.now.desk c.index_mut-history.result.now c.perform.new.history c.args.self.now c.index_mut-history.ensures.value c.self.view_is c.in_err-body.ensures.kept)
 
 pub invariant_of-self-2 : goal.invariant_of-self-2
 invariant_of-self-2 c =
@@ -34,7 +34,7 @@ returns-clause-block c =
     let given = given_at (most_of c.args.bits) in
     let views = c.self.inside.desks.items in
     let within : c.args.line.now.desk < length (map (λ h. h.state) views) = search rules in
-    at_bench (λ t r. IsBlockOf given t r c.args.line.now (record { line = c.args.line.now.number; body = c.in_ok-body.body })) c.self.inside.table (pivots_together c.self.inside.engine.pivots c.self.inside.repair_pivots) views c.args.line.now.desk c.index_mut-history.result.now c.args.self.now within c.index_mut-history.ensures.value c.self.view_is
+    at_bench (λ t r. IsBlockOf given t r c.args.line.now (record { line = c.args.line.now.number; body = c.in_ok-body.body })) c.self.inside.table (pivots_together c.self.inside.search.engine.pivots c.self.inside.search.repair_pivots) views c.args.line.now.desk c.index_mut-history.result.now c.args.self.now within c.index_mut-history.ensures.value c.self.view_is
     (record { number = refl; body = c.in_ok-body.ensures.body })
 
 pub returns-clause-text : goal.returns-clause-text
@@ -45,24 +45,24 @@ returns-clause-text c =
     let line = c.args.line.now in
     let within : line.desk < length (map (λ h. h.state) views) = search rules in
     let lawful = lawful_now t old.state (kept_at t views line.desk old c.self.invariant.lawful within c.index_mut-history.ensures.value) in
-    let here : old.state ≡ revisions_at c.args.self.now line.desk = state_here t (pivots_together c.self.inside.engine.pivots c.self.inside.repair_pivots) views line.desk old within c.index_mut-history.ensures.value ∙ ap (λ (b : Workbench). revisions_at b line.desk) c.self.view_is in
+    let here : old.state ≡ revisions_at c.args.self.now line.desk = state_here t (pivots_together c.self.inside.search.engine.pivots c.self.inside.search.repair_pivots) views line.desk old within c.index_mut-history.ensures.value ∙ ap (λ (b : Workbench). revisions_at b line.desk) c.self.view_is in
     let number = subst (λ (r : Revisions). next_number r < 2 ^ 32 - 1) (sym here) c.requires.number in
     let small : line.number < 2 ^ 32 = search rules in
-    at_bench (λ t r. HasText t (record { line = line.number; body = c.in_ok-body.body })) t (pivots_together c.self.inside.engine.pivots c.self.inside.repair_pivots) views line.desk old c.args.self.now within c.index_mut-history.ensures.value c.self.view_is
+    at_bench (λ t r. HasText t (record { line = line.number; body = c.in_ok-body.body })) t (pivots_together c.self.inside.search.engine.pivots c.self.inside.search.repair_pivots) views line.desk old c.args.self.now within c.index_mut-history.ensures.value c.self.view_is
     (has_text c.args.bits t old.state c.alternatives.ensures.table lawful number line (record { line = line.number; body = c.in_ok-body.body }) small (record { number = refl; body = c.in_ok-body.ensures.body }))
 
 pub returns-clause-moved : goal.returns-clause-moved
 returns-clause-moved c =
     let views = c.self.inside.desks.items in
     let within : c.args.line.now.desk < length (map (λ h. h.state) views) = search rules in
-    bench_moves c.self.inside.table (pivots_together c.self.inside.engine.pivots c.self.inside.repair_pivots) (pivots_together c.perform.new.engine.pivots c.perform.new.repair_pivots) views c.args.line.now (record { line = c.args.line.now.number; body = c.in_ok-body.body }) c.index_mut-history.result.now c.perform.new.history c.args.self.now within c.index_mut-history.ensures.value c.self.view_is c.in_ok-body.ensures.moved
+    bench_moves c.self.inside.table (pivots_together c.self.inside.search.engine.pivots c.self.inside.search.repair_pivots) (pivots_together c.perform.new.search.engine.pivots c.perform.new.search.repair_pivots) views c.args.line.now (record { line = c.args.line.now.number; body = c.in_ok-body.body }) c.index_mut-history.result.now c.perform.new.history c.args.self.now within c.index_mut-history.ensures.value c.self.view_is c.in_ok-body.ensures.moved
 
 pub returns-in_err-body-clause-ready : goal.returns-in_err-body-clause-ready
 returns-in_err-body-clause-ready c =
     let exit = err_from_is_err_and c.from_residual.result c.from_residual.ensures.1 in
     let views = c.self.inside.desks.items in
     let within : c.args.line.now.desk < length (map (λ h. h.state) views) = search rules in
-    let p = pivots_together c.self.inside.engine.pivots c.self.inside.repair_pivots in
+    let p = pivots_together c.self.inside.search.engine.pivots c.self.inside.search.repair_pivots in
     let here = spare_old c.self.inside.table p p views c.args.line.now.desk c.index_mut-history.result.now c.perform.new.history c.args.self.now within c.index_mut-history.ensures.value c.self.view_is in
     rw exit.1 (λ some plain. c.in_err-body.ensures.ready (subst (λ (n : ℕ). 0 < n) (sym here) some) plain)
 
@@ -70,10 +70,10 @@ pub returns-in_err-body-clause-room : goal.returns-in_err-body-clause-room
 returns-in_err-body-clause-room c =
     let views = c.self.inside.desks.items in
     let within : c.args.line.now.desk < length (map (λ h. h.state) views) = search rules in
-    leaves_room c.self.inside.table (pivots_together c.self.inside.engine.pivots c.self.inside.repair_pivots) (pivots_together c.perform.new.engine.pivots c.perform.new.repair_pivots) views c.args.line.now c.index_mut-history.result.now c.perform.new.history c.args.self.now within c.index_mut-history.ensures.value c.self.view_is c.in_err-body.ensures.room
+    leaves_room c.self.inside.table (pivots_together c.self.inside.search.engine.pivots c.self.inside.search.repair_pivots) (pivots_together c.perform.new.search.engine.pivots c.perform.new.search.repair_pivots) views c.args.line.now c.index_mut-history.result.now c.perform.new.history c.args.self.now within c.index_mut-history.ensures.value c.self.view_is c.in_err-body.ensures.room
 
 pub returns-clause-room : goal.returns-clause-room
 returns-clause-room c =
     let views = c.self.inside.desks.items in
     let within : c.args.line.now.desk < length (map (λ h. h.state) views) = search rules in
-    leaves_room c.self.inside.table (pivots_together c.self.inside.engine.pivots c.self.inside.repair_pivots) (pivots_together c.perform.new.engine.pivots c.perform.new.repair_pivots) views c.args.line.now c.index_mut-history.result.now c.perform.new.history c.args.self.now within c.index_mut-history.ensures.value c.self.view_is c.in_ok-body.ensures.room
+    leaves_room c.self.inside.table (pivots_together c.self.inside.search.engine.pivots c.self.inside.search.repair_pivots) (pivots_together c.perform.new.search.engine.pivots c.perform.new.search.repair_pivots) views c.args.line.now c.index_mut-history.result.now c.perform.new.history c.args.self.now within c.index_mut-history.ensures.value c.self.view_is c.in_ok-body.ensures.room

@@ -3,7 +3,7 @@ use Rattle.ror_session.specs.declared.session.Command.TheVariants.{Ask}
 use Rattle.ror_bench.specs.Allowed.{proved_unless_wide}
 use Rattle.ror_bench.proofs.BodyLemmas.{settled_body, settled_refused}
 use Rattle.ror_bench.proofs.AnswerLemmas.{Ok_of, answered_checked, answered_refused, not_answered, refuses_asked}
-use Rattle.ror_bench.proofs.desk.check_answered.Goals as goal
+use Rattle.ror_bench.proofs.checking.check_answered.Goals as goal
 
 pub returns-in-Answers-clause-body : goal.returns-in-Answers-clause-body
 returns-in-Answers-clause-body c =

@@ -6,7 +6,7 @@ use Rattle.ror_check.specs.Proof.{IsWideOrProved}
 use Rattle.ror_history.specs.History.{statements_of}
 use Rattle.ror_bench.proofs.AnswerLemmas.{asked_each, each_proved}
 use Rattle.ror_bench.proofs.LawfulLemmas.{lawful_now}
-use Rattle.ror_bench.proofs.desk.check_each.Goals as goal
+use Rattle.ror_bench.proofs.checking.check_each.Goals as goal
 
 pub check-requires-clause-lawful : goal.check-requires-clause-lawful
 check-requires-clause-lawful c =

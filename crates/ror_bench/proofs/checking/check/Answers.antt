@@ -5,7 +5,7 @@ use Rattle.ror_session.specs.declared.session.Command.TheVariants.{State, Withdr
 use Rattle.ror_bench.specs.Allowed.{proved_unless_wide}
 use Rattle.ror_bench.specs.Blocks.{IsBodyOf}
 use Rattle.ror_bench.proofs.BodyLemmas.{settled_body}
-use Rattle.ror_bench.proofs.desk.check.Goals as goal
+use Rattle.ror_bench.proofs.checking.check.Goals as goal
 
 pub returns-in-State-clause-body : goal.returns-in-State-clause-body
 returns-in-State-clause-body c =

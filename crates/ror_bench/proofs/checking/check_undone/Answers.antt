@@ -4,7 +4,7 @@ use Rattle.ror_report.specs.declared.block.LineFault.TheVariants as lines
 use Rattle.ror_bench.specs.declared.stop.LineStop.TheVariants as stops
 use Rattle.ror_bench.specs.Allowed.{proved_unless_wide}
 use Rattle.ror_bench.proofs.BodyLemmas.{settled_body, nothing_refused}
-use Rattle.ror_bench.proofs.desk.check_undone.Goals as goal
+use Rattle.ror_bench.proofs.checking.check_undone.Goals as goal
 
 pub returns-then-not-is_body_of-clause-body : goal.returns-then-not-is_body_of-clause-body
 returns-then-not-is_body_of-clause-body c =

@@ -4,7 +4,7 @@ use Rattle.ror_value.specs.Over.{IsLawfulIn}
 use Rattle.ror_statement.specs.Statements.{statements_in}
 use Rattle.ror_history.specs.History.{standing}
 use Rattle.ror_bench.proofs.LawfulLemmas.{lawful_now}
-use Rattle.ror_bench.proofs.desk.check_repaired.Goals as goal
+use Rattle.ror_bench.proofs.checking.check_repaired.Goals as goal
 
 pub check_repair-requires-clause-lawful : goal.check_repair-requires-clause-lawful
 check_repair-requires-clause-lawful c =

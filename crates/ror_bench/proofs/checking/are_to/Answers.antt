@@ -1,6 +1,6 @@
 use Rattle.std.proofs.Common.{refl}
 use Rattle.ror_bench.proofs.AnswerLemmas.{to_more, to_all}
-use Rattle.ror_bench.proofs.desk.are_to.Goals as goal
+use Rattle.ror_bench.proofs.checking.are_to.Goals as goal
 
 pub loop-place-init : goal.loop-place-init
 loop-place-init c = refl
