@@ -14,13 +14,13 @@ use Rattle.ror_bench.specs.declared.report.Reason.{Reason}
 use Rattle.ror_bench.specs.declared.report.ReportError.{ReportError}
 use Rattle.ror_bench.specs.declared.report.ReportError.TheVariants as errors
 use Rattle.ror_bench.specs.Reports.{IfRejected}
-use Rattle.ror_bench.specs.Steps.{with_passed, misread_error}
-use Rattle.ror_bench.proofs.ReportProofs.{same_accepted, both_ways, rejects_by}
+use Rattle.ror_bench.specs.Steps.{IsEarlyEnd, with_passed, misread_error}
+use Rattle.ror_bench.proofs.ReportProofs.{same_accepted, both_ways, rejects_by, AtBlock}
 use Rattle.ror_entries.specs.declared.check.EntryFault.{EntryFault}
 use Rattle.ror_entries.specs.declared.check.EntryFault.TheVariants as faults
 use Rattle.ror_entries.specs.Kind.{Kind, IsKind, IsSameKind}
 use Rattle.ror_entries.specs.Reports.{IsProvedEntries, IsAcceptedEntries, RejectsNext, RejectsEnd, IsRejectedFrom, IsRejectedEntries, end_misread, ends_early, entry_misread, refused, one_too_many, at_entry, at_end, later}
-use Rattle.ror_entries.specs.Steps.{IfRefused, IsNextEntry, IsEarlyEnd, IsLateEntry, IsRest, refused_error}
+use Rattle.ror_entries.specs.Steps.{IfRefused, IsNextEntry, IsLateEntry, IsRest, refused_error}
 use Rattle.ror_entries.proofs.EachLemmas.{proved_is_accepted}
 use Rattle.ror_entries.proofs.SameLemmas.{rejects_next_same, rejects_end_same}
 use Rattle.ror_entries.proofs.RestLemmas.{rest_with, no_rest, proved_all, rejected_not_proved}
@@ -65,9 +65,6 @@ module _ {E : Type 0} (kind : Kind E) (lawful : IsKind kind) where
   none_proved bytes start errors.Memory rejects ne x report = ne refl
 
 -- ---- the errors of a check
-
-abbrev AtBlock : ℕ → (Reason → Type 0) → Rejection → Type 0
-AtBlock block P rejection = (rejection.block ≡ block) × P rejection.reason
 
 -- the judge's kind is the one of the start, also where what it holds has changed
 module _ {E : Type 0} (here kind : Kind E) (same : IsSameKind here kind) (bytes : List ℕ) where

@@ -5,3 +5,4 @@ pub mod CheckLemmas
 pub mod WriteLemmas
 pub mod SpellingLemmas
 pub mod HeadedLemmas
+pub mod PairLemmas

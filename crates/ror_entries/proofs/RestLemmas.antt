@@ -1,16 +1,14 @@
 -- What is left of a report behind an entry, and that what is rejected is not proved.
-use Rattle.std.proofs.Common.{◌≡◌, ℕ, ◌+◌, ◌<◌, true, List, [], ◌∷◌, ◌++◌, length, drop, Result, Ok, refl, sym, ap, ◌∙◌, subst, append_assoc, arith}
+use Rattle.std.proofs.Common.{◌≡◌, ℕ, ◌+◌, ◌<◌, true, List, [], ◌∷◌, ◌++◌, length, drop, Ok, refl, sym, ap, ◌∙◌, subst, append_assoc, arith}
 use Rattle.std.specs.List.{AllByRecursion, flat_map}
 use Rattle.ror_text.specs.Cursor.{Cursor, cursor_at}
-use Rattle.ror_proof.specs.declared.read.ProofFault.{ProofFault}
-use Rattle.ror_report.specs.Reading.{begins_end, end_at}
+use Rattle.ror_report.specs.Reading.{begins_end}
 use Rattle.ror_report.specs.Text.{end_text}
-use Rattle.ror_report.proofs.ReportLemmas.{end_is_text}
 use Rattle.ror_bench.specs.declared.report.Accepted.{Accepted}
 use Rattle.ror_bench.specs.declared.report.Rejection.{Rejection}
 use Rattle.ror_bench.specs.declared.report.Reason.{Reason}
 use Rattle.ror_bench.specs.Steps.{with_passed}
-use Rattle.ror_bench.proofs.ReportProofs.{sums, same_accepted, end_begins_end, end_read}
+use Rattle.ror_bench.proofs.ReportProofs.{sums, same_accepted, end_begins_end, end_read, one_read}
 use Rattle.ror_entries.specs.Kind.{Kind, IsKind}
 use Rattle.ror_entries.specs.Reports.{EachAt, accepted_of, IsProvedEntries, RejectsNext, RejectsEnd, IsRejectedFrom, IsRejectedEntries, end_misread, ends_early, entry_misread, refused, miscounted, one_too_many, at_entry, at_end, later}
 use Rattle.ror_entries.specs.Steps.{IsRest}
@@ -24,14 +22,6 @@ accepted_more kind e es x is =
     here ∙ same_accepted (with_passed (accepted_of kind es) (kind.passed e)) (accepted_of kind (e ∷ es))
     (let s = sums (λ x. (kind.passed x).answers) e es in omega (arith, s))
     (let s = sums (λ x. (kind.passed x).wide) e es in omega (arith, s))
-
--- ---- the last line
-
-pub last_read : (bytes : List ℕ) (from n : ℕ) → end_at (cursor_at bytes from) ≡ Ok n → drop from bytes ≡ end_text n
-last_read bytes from n read = (end_is_text (cursor_at bytes from) n read).0
-
-pub one_read : {E : Type 0} (r : Result (E × Cursor) ProofFault) (p q : E × Cursor) → r ≡ Ok p → r ≡ Ok q → q ≡ p
-one_read r p q e f = (let both = sym e ∙ f in cc)
 
 -- ---- what is left
 

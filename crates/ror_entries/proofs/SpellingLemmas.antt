@@ -15,7 +15,8 @@ use Rattle.ror_bench.proofs.UniqueLemmas.{true_not_false}
 use Rattle.ror_entries.specs.Kind.{Kind, IsKind, HasOneReason}
 use Rattle.ror_entries.specs.Laws.{EntriesHaveOneText, HasOneCount, HasOneRejection, EntriesAreUtf8}
 use Rattle.ror_entries.specs.Reports.{accepted_of, RejectsNext, RejectsEnd, IsRejectedFrom, end_misread, ends_early, entry_misread, refused, miscounted, one_too_many, at_entry, at_end, later}
-use Rattle.ror_entries.proofs.RestLemmas.{one_read, rest_follows}
+use Rattle.ror_bench.proofs.ReportProofs.{one_read}
+use Rattle.ror_entries.proofs.RestLemmas.{rest_follows}
 
 same_ok : {A F : Type 0} (r : Result A F) (a b : A) → r ≡ Ok a → r ≡ Ok b → a ≡ b
 same_ok r a b e f = (let both = sym e ∙ f in cc)

@@ -4,3 +4,4 @@ pub mod Steps
 pub mod Writing
 pub mod Laws
 pub mod Headed
+pub mod Pairs

@@ -3,7 +3,7 @@ use Rattle.std.specs.Prelude.{◌≡◌, ◌⊎◌, ℕ, ◌+◌, false, List, �
 use Rattle.std.specs.List.{AllByRecursion, flat_map}
 use Rattle.ror_text.specs.Cursor.{cursor_at}
 use Rattle.ror_proof.specs.declared.read.ProofFault.{ProofFault}
-use Rattle.ror_report.specs.Reading.{begins_end, end_at}
+use Rattle.ror_report.specs.Reading.{begins_end}
 use Rattle.ror_bench.specs.Reports.{misread_reason}
 use Rattle.ror_bench.specs.Steps.{rejected}
 use Rattle.ror_bench.specs.declared.bench.Passed.{Passed}
@@ -30,12 +30,6 @@ pub record IsNextEntry {E : Type 0} (kind : Kind E) (bytes : List ℕ) (place fr
   pub read : kind.reads (cursor_at bytes from) ≡ Ok (entry, cursor_at bytes after)
   pub proved : kind.IsProved place entry
   pub counted : passed ≡ kind.passed entry
-
--- a last line stands at the byte, where an entry is due
-abbrev pub IsEarlyEnd : List ℕ → ℕ → Reason → Type 0
-IsEarlyEnd bytes from reason = ((n : ℕ) × (end_at (cursor_at bytes from) ≡ Ok n)
-    × (reason ≡ reasons.WrongBlock)) ⊎ ((fault : ProofFault)
-    × (end_at (cursor_at bytes from) ≡ Err fault) × (reason ≡ misread_reason bytes fault))
 
 -- an entry stands at the byte, where the last line is due
 abbrev pub IsLateEntry : {E : Type 0} → Kind E → List ℕ → ℕ → Reason → Type 0

@@ -1,21 +1,21 @@
 //! The check of the entries of a report, one after another.
 
-ghost use Rattle.std.specs.Prelude.{◌≡◌, ◌≢◌, ℕ, ◌<◌, ◌≤◌, ◌+◌, ◌-◌, List, drop, min, length, IfOk, IfErr, OnOk};
+ghost use Rattle.std.specs.Prelude.{◌≡◌, ◌≢◌, ℕ, ◌<◌, ◌≤◌, ◌+◌, ◌-◌, List, drop, length, IfOk, IfErr, OnOk};
 ghost use Rattle.ror_text.specs.Cursor.{cursor_at};
-ghost use Rattle.ror_text.specs.Lines.{line_of};
 ghost use Rattle.ror_text.specs.Reading.{Gives};
 ghost use Rattle.ror_proof.specs.Reading.{proof_fault, IsProofFaultWithin};
 ghost use Rattle.ror_report.specs.Text.{end_text};
 ghost use Rattle.ror_bench.specs.Reports.{IfRejected, IsFreeOfMemory, HoldsNoMemory};
-ghost use Rattle.ror_bench.specs.Steps.{misread_error, rejected};
 ghost use Rattle.ror_entries.specs.Kind.{Kind, IsKind, IsSameKind};
 ghost use Rattle.ror_entries.specs.Reports.{IsProvedEntries, IsAcceptedEntries, IsRejectedEntries, RejectsNext, RejectsEnd};
-ghost use Rattle.ror_entries.specs.Steps.{IfRefused, IsNextEntry, IsEarlyEnd, IsLateEntry, refused_error};
+ghost use Rattle.ror_entries.specs.Steps.{IfRefused, IsNextEntry, IsLateEntry, refused_error};
 
-use ror_bench::{Accepted, MOST_REPORT_BYTES, Passed, Reason, Rejection, ReportError};
+use ror_bench::{
+    Accepted, MOST_REPORT_BYTES, Passed, Reason, Rejection, ReportError, early_end, misread,
+    wrong_block,
+};
 use ror_proof::ProofFault;
 use ror_report::{begins_end, read_end};
-use ror_text::lines::line_number;
 use std::alloc::Global;
 
 /// Why an entry is not accepted.
@@ -177,20 +177,6 @@ fn check_end<J: Judge>(
     }
 }
 
-/// Why a last line that stands where an entry is due is refused: its own faults come first.
-fn early_end(bytes: &[u8], from: usize, block: u32) -> ReportError
-    requires within { from ≤ length bytes.now }
-    requires length { length bytes.now ≤ MOST_REPORT_BYTES }
-    ensures rejected { IfRejected (λ rejection. (rejection.block ≡ block)
-        × IsEarlyEnd bytes.now from rejection.reason) result }
-    ensures pure { HoldsNoMemory result }
-{
-    match read_end(bytes, from) {
-        Ok(_) => wrong_block(block),
-        Err(fault) => misread(bytes, block, fault),
-    }
-}
-
 /// Why what stands where the last line is due is refused: the faults of an entry's form come first.
 fn late_entry<J: Judge>(alloc: Global, judge: &mut J, from: usize, block: u32) -> ReportError
     requires within { from ≤ length (J.report judge.old) }
@@ -207,43 +193,12 @@ fn late_entry<J: Judge>(alloc: Global, judge: &mut J, from: usize, block: u32) -
     }
 }
 
-fn wrong_block(block: u32) -> ReportError
-    ensures { result ≡ rejected block Reason.WrongBlock }
-{
-    ReportError::Rejected(Rejection {
-        block,
-        reason: Reason::WrongBlock,
-    })
-}
-
 /// The error of an entry that is refused at its place.
-fn refused_entry(block: u32, fault: EntryFault) -> ReportError
+pub fn refused_entry(block: u32, fault: EntryFault) -> ReportError
     ensures { result ≡ refused_error block fault }
 {
     match fault {
         EntryFault::Refused(reason) => ReportError::Rejected(Rejection { block, reason }),
         EntryFault::Memory => ReportError::Memory,
     }
-}
-
-/// The rejection of what is not as it is to be, by the number of its line, in this block of a report of at most
-/// `MOST_REPORT_BYTES`; or that memory ran out.
-pub fn misread(bytes: &[u8], block: u32, fault: ProofFault) -> ReportError
-    requires { length bytes.now ≤ MOST_REPORT_BYTES }
-    ensures { result ≡ misread_error bytes.now block fault }
-{
-    let reason = match fault {
-        ProofFault::BadLine(place) => Reason::BadLine(line_at(bytes, place)),
-        ProofFault::BadNumber(place) => Reason::BadNumber(line_at(bytes, place)),
-        ProofFault::Memory => return ReportError::Memory,
-    };
-    ReportError::Rejected(Rejection { block, reason })
-}
-
-/// The number of the line of the byte at a place, or of the bytes' end.
-fn line_at(bytes: &[u8], place: usize) -> u32
-    requires { length bytes.now ≤ MOST_REPORT_BYTES }
-    ensures { result ≡ line_of bytes.now (min place (length bytes.now)) }
-{
-    line_number(bytes, place.min(bytes.len()))
 }

@@ -9,7 +9,7 @@ use Rattle.ror_frame.specs.States.{ShelfState, SinkState, shelf_state}
 use Rattle.ror_frame.specs.Stops.{Outcome, FilePlace, counted, last, IsPlace, place_of}
 use Rattle.ror_frame.specs.declared.stop.Refusal.{Refusal}
 use Rattle.ror_frame.specs.Inputs.{line_output}
-use Rattle.ror_frame.specs.Courses.{Output, Course, finish, fetch, Ending, missing, refused, done, Leads, Ends, MayRefuse, IsFirstMissing, OfToldFiles, Reaches, Writes, EndsAfter, LacksOne, CountsWrites, IsPure, Fetched, IsFetch, WritesDue, IsWork}
+use Rattle.ror_frame.specs.Courses.{Output, Course, finish, fetch, Ending, missing, refused, done, Leads, Ends, MayRefuse, OfToldFiles, Reaches, Writes, EndsAfter, LacksOne, CountsWrites, IsPure, Fetched, IsFetch, WritesDue, IsWork}
 
 -- bytes are read or refused in one way
 abbrev pub IsDecided : Course → Type 0

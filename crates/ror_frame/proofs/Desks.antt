@@ -1,14 +1,10 @@
 -- The desks that a session begins with, and the report of the blocks of its lines.
-use Rattle.std.proofs.Common.{◌≡◌, ℕ, ◌≤◌, false, List, [], ◌∷◌, ◌++◌, length, refl, sym, ap, subst, arith}
+use Rattle.std.proofs.Common.{◌≡◌, ℕ, ◌≤◌, false, List, [], ◌∷◌, ◌++◌, length, refl, ap, arith}
 use Rattle.std.specs.Prelude.{zero, suc, replicate}
 use Rattle.std.specs.List.{AllByRecursion, flat_map, list_any}
 use Rattle.ror_text.specs.Lines.{is_control}
-use Rattle.ror_statement.specs.declared.statement.Statement.{Statement}
-use Rattle.ror_table.specs.Table.{DecisionTable}
 use Rattle.ror_value.specs.declared.input.Input.{Input}
 use Rattle.ror_value.specs.Over.{IsLawfulIn}
-use Rattle.ror_history.specs.History.{Revision, statements_of}
-use Rattle.ror_history.proofs.HistoryLemmas.{with_numbers_from-statements}
 use Rattle.ror_history.proofs.TurnLemmas.{next_number-first}
 use Rattle.ror_session.specs.declared.limits.TheConstants.{MOST_LINES}
 use Rattle.ror_session.specs.declared.session.Line.{Line}
@@ -20,23 +16,13 @@ use Rattle.ror_bench.specs.Bench.{Workbench, IsLawfulBench, IsLawfulThroughout, 
 use Rattle.ror_bench.specs.Blocks.{IsBlockOf}
 use Rattle.ror_bench.specs.Replays.{AreBlocksAt, IsReplayedReport}
 use Rattle.ror_bench.specs.Reports.{accepted_of}
+use Rattle.ror_bench.proofs.DeskLemmas.{begun}
 use Rattle.ror_bench.proofs.ReportProofs.{as_many}
 use Rattle.ror_bench.proofs.ReplayLemmas.{replayed_proved}
 use Rattle.ror_bench.proofs.Truth.{report_true}
 use Rattle.ror_frame.specs.Inputs.{IsReportOf}
 
--- a list that may stand at a desk is lawful there from the first line on
-begun : (t : DecisionTable) (opening : List Statement) → IsLawfulIn t opening → IsLawfulThroughout t (record { opening = opening; surviving = [] })
-begun t opening lawful before after e =
-    let none : before ≡ [] = nothing before after e in
-    let stands : statements_of (record { opening = opening; surviving = [] }) ≡ opening = with_numbers_from-statements 1 opening in
-    subst (λ (l : List Revision). IsLawfulIn t (statements_of (record { opening = opening; surviving = l }))) (sym none) (subst (IsLawfulIn t) (sym stands) lawful)
-  where
-    nothing : (before after : List Revision) → [] ≡ before ++ after → before ≡ []
-    nothing [] after e = refl
-    nothing (x ∷ xs) after e = absurd cc
-
--- desks that begin with it are lawful
+-- desks that begin with a lawful list are lawful
 pub lawful_desks : (i : Input) (n : ℕ) → IsLawfulIn i.table i.opening → AllByRecursion (IsLawfulThroughout i.table) (replicate n (record { opening = i.opening; surviving = [] }))
 lawful_desks i zero lawful = tt
 lawful_desks i (suc n) lawful = (begun i.table i.opening lawful, lawful_desks i n lawful)

@@ -1,5 +1,5 @@
 -- Reading the bytes of a table and of a session.
-use Rattle.std.proofs.Common.{◌⊎◌, inl, inr, sym, ap, subst, ◌∙◌, ◌≡◌, ℕ, ◌<◌, Bool, List, length, Err, refl}
+use Rattle.std.proofs.Common.{inl, inr, sym, ap, subst, ◌∙◌, ◌≡◌, ℕ, ◌<◌, Bool, List, length, Err, refl}
 use Rattle.std.proofs.lemmas.Bool.{lt-ltb}
 use Rattle.ror_text.specs.declared.lines.TheConstants.{MOST_TEXT_BYTES}
 use Rattle.ror_table.specs.declared.fault.TableKind.TheVariants as kinds
@@ -16,7 +16,7 @@ use Rattle.ror_words.specs.Words.{InputNames}
 use Rattle.ror_frame.specs.declared.stop.Refusal.{Refusal}
 use Rattle.ror_frame.specs.declared.stop.Refusal.TheVariants as refusals
 use Rattle.ror_frame.specs.Courses.{Output, Course, MayRefuse, IsTooLong}
-use Rattle.ror_frame.specs.Inputs.{ReadsTable, RefusesTable, RefusesSession, ReadsSession, ReadsSuited, RefusesSuited, over_inputs, over_suited, writing_chore, judging_chore, suited_writing_chore, suited_judging_chore}
+use Rattle.ror_frame.specs.Inputs.{ReadsTable, RefusesTable, RefusesSession, ReadsSuited, RefusesSuited, over_inputs, over_suited, writing_chore, judging_chore, suited_writing_chore, suited_judging_chore}
 use Rattle.ror_frame.proofs.CourseLemmas.{IsDecided}
 
 input_of-long : (bytes : List ℕ) (best_first : Bool) → MOST_TEXT_BYTES < length bytes → input_of bytes best_first ≡ Err (record { kind = kinds.TooLong; line = 0 })
@@ -36,7 +36,7 @@ long_session bytes r long = (session_faults.TooLong, long.0, session_of-long byt
 one_table : (names : InputNames) (table : List ℕ) (q r : Refusal) → RefusesTable names.best_first table q → RefusesTable names.best_first table r → q ≡ r
 one_table names table q r a b = let m = a.1 in let n = b.1 in let x = a.2 in let y = b.2 in let same : a.0 ≡ b.0 = cc in cc
 
-one_session : (session : List ℕ) (q r : Refusal) → RefusesSession session q → RefusesSession session r → q ≡ r
+pub one_session : (session : List ℕ) (q r : Refusal) → RefusesSession session q → RefusesSession session r → q ≡ r
 one_session session q r a b = let m = a.1 in let n = b.1 in let x = a.2 in let y = b.2 in let same : a.0 ≡ b.0 = cc in cc
 
 -- a course over table and session is decided where it is after them

@@ -3,3 +3,4 @@ pub mod Desks
 pub mod CourseLemmas
 pub mod FetchLemmas
 pub mod InputLemmas
+pub mod AnyRun

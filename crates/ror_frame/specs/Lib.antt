@@ -4,3 +4,4 @@ pub mod Statuses
 pub mod Stops
 pub mod Courses
 pub mod Inputs
+pub mod Runs

@@ -7,6 +7,7 @@ ghost use Rattle.ror_session.specs.Sound.{IsSound};
 ghost use Rattle.ror_closing.specs.Closing.{AreSuited, AreClosingLists};
 ghost use Rattle.ror_frame.specs.Inputs.{bench_for};
 
+use crate::opened::opened_desks;
 use ror_bench::Bench;
 use ror_closing::{ClosingFault, closing_lists};
 use ror_session::Session;
@@ -32,7 +33,7 @@ pub fn closed_desks(
     ensures count { IfOk result (λ x. length x.1.items ≡ length session.now.desks) }
 {
     let desks = session.desks.len() as u32;
-    let mut bench = Bench::new(alloc, input, desks)?;
+    let mut bench = opened_desks(alloc, input, session)?;
     match closing_lists(alloc, &mut bench, desks, session.lines.as_slice()) {
         Ok(lists) => Ok((bench, lists)),
         Err(ClosingFault::Memory) => Err(AllocError),

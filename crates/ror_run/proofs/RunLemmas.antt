@@ -8,8 +8,8 @@ use Rattle.ror_frame.specs.Stops.{Outcome, status_after}
 use Rattle.ror_frame.specs.Courses.{IsWork}
 use Rattle.ror_frame.proofs.CourseLemmas.{unbegun}
 use Rattle.ror_words.specs.Words.{Task, task_of}
-use Rattle.ror_runs.proofs.AnyRun as any
-use Rattle.ror_runs.proofs.AnyRun.{told_by}
+use Rattle.ror_frame.proofs.AnyRun as any
+use Rattle.ror_frame.proofs.AnyRun.{told_by}
 use Rattle.ror_run.specs.Chores.{chore_of}
 use Rattle.ror_run.specs.Running.{IsRun}
 use Rattle.ror_run.proofs.ChoreLemmas.{decided_chore, judges_it, suits_it, levels_it}

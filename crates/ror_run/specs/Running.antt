@@ -6,7 +6,7 @@ use Rattle.ror_frame.specs.declared.status.Status.{Status}
 use Rattle.ror_frame.specs.declared.status.Status.TheVariants as statuses
 use Rattle.ror_frame.specs.States.{ShelfState, SinkState}
 use Rattle.ror_words.specs.Words.{Task, task_of}
-use Rattle.ror_runs.specs.Runs.{IsRunBy}
+use Rattle.ror_frame.specs.Runs.{IsRunBy}
 use Rattle.ror_run.specs.Chores.{chore_of, judges, wants_suited, wants_levels}
 
 -- How a run over the words ends with the status: what the shelf and standard output told before it, and what they tell then.

@@ -9,7 +9,7 @@ ghost use Rattle.ror_words.specs.Named.{row_with, given_with, IsTaken};
 ghost use Rattle.ror_frame.specs.Courses.{IsWork};
 ghost use Rattle.ror_run.specs.Chores.{chore_by};
 ghost use Rattle.ror_frame.specs.Statuses.{status_text};
-ghost use Rattle.ror_runs.specs.Runs.{Says};
+ghost use Rattle.ror_frame.specs.Runs.{Says};
 ghost use Rattle.ror_run.specs.Running.{IsRun};
 
 use ror_frame::{Status, Stop, write_status};

@@ -9,8 +9,8 @@ ghost use Rattle.ror_frame.specs.Courses.{ReadAs, IsWork};
 ghost use Rattle.ror_frame.specs.Stops.{last};
 ghost use Rattle.ror_work.specs.Checking.{ProvesReport, RefusesReport, check_chore};
 
-use ror_bench::{Accepted, Bench, MOST_REPORT_BYTES, check_report};
-use ror_frame::{Stop, conclude, fetch_report, fetch_session, fetch_table};
+use ror_bench::{Accepted, MOST_REPORT_BYTES, check_report};
+use ror_frame::{Stop, conclude, fetch_report, fetch_session, fetch_table, opened_desks};
 use ror_io::{Shelf, Sink};
 use ror_session::Session;
 use ror_words::FileNames;
@@ -56,8 +56,7 @@ fn answers_in(
     requires within { length bytes.now ≤ MOST_REPORT_BYTES }
     ensures { ReadAs last (ProvesReport input session.now) (RefusesReport input session.now) bytes.now result }
 {
-    let desks = session.desks.len() as u32;
-    let bench = Bench::new(alloc, input, desks)?;
+    let bench = opened_desks(alloc, input, session)?;
     let lines = session.lines.as_slice();
     Ok(check_report(alloc, bench, lines, bytes)?)
 }

@@ -17,7 +17,7 @@ ghost use Rattle.ror_pivot.specs.Answers.{most_of};
 ghost use Rattle.ror_work.specs.Replaying.{report_output, replay_chore, WritesText, MakesBlocks};
 
 use ror_bench::{Bench, has_wide};
-use ror_frame::{Stop, fetch_session, fetch_table};
+use ror_frame::{Stop, fetch_session, fetch_table, opened_desks};
 use ror_io::{Shelf, Sink, write_all};
 use ror_pivot::Bits;
 use ror_report::{Block, header, print_block, print_end};
@@ -70,7 +70,7 @@ fn write_report<O: Sink>(
 {
     let desks = session.desks.len() as u32;
     let lines = session.lines.as_slice();
-    let mut bench = Bench::new(alloc, input, desks)?;
+    let mut bench = opened_desks(alloc, input, session)?;
     bench.make_room(desks, lines)?;
     write_lines(alloc, &mut bench, lines, bits, out)
 }

@@ -24,7 +24,8 @@ use Rattle.ror_group.proofs.WideWords.{no_wide_words}
 use Rattle.ror_entries.specs.Reports.{EachAt, accepted_of, IsProvedEntries, entries_text}
 use Rattle.ror_entries.proofs.SpellingLemmas.{one_count}
 use Rattle.ror_entries.proofs.WriteLemmas.{given_are_proved}
-use Rattle.ror_work_group.specs.Entries.{group_kind, pairs_of, IsGivenFor, IsGivenEntry, IsProvedEntry}
+use Rattle.ror_entries.specs.Pairs.{pairs_of}
+use Rattle.ror_work_group.specs.Entries.{group_kind, IsGivenFor, IsGivenEntry, IsProvedEntry}
 use Rattle.ror_work_group.specs.Laws.{WrittenAreProved, WrittenAreNotRejected, AsksNothingWideOn, AsksNothingWide, NothingIsTooWide, DoneSaysNothingWide, AcceptedSaysNothingWide}
 use Rattle.ror_work_group.proofs.GroupCourses.{kind_of_lists, one_lists, not_both}
 use Rattle.ror_work_group.proofs.Writing.{given_proved}

@@ -1,20 +1,18 @@
 -- The head of a group's report ends where its entries, or its last line, begin.
-use Rattle.std.proofs.Common.{◌+◌, ◌<◌, ◌&&◌, true, append_assoc, drop, arith, ◌≡◌, ℕ, false, not, eqb, List, [], ◌∷◌, ◌++◌, length, Ok, refl, sym, ap, ◌∙◌, subst}
-use Rattle.std.specs.Prelude.{codes, decimal, nat_le, ◌^◌}
-use Rattle.std.specs.Str.{IsUtf8, is_utf8}
-use Rattle.std.proofs.lemmas.Bool.{and_parts}
-use Rattle.std.proofs.lemmas.Str.{IsUtf8-nil, IsUtf8-append, IsUtf8-from_is_utf8}
+use Rattle.std.proofs.Common.{◌+◌, ◌<◌, true, append_assoc, drop, arith, ◌≡◌, ℕ, false, not, eqb, List, [], ◌∷◌, ◌++◌, length, Ok, refl, sym, ap, ◌∙◌, subst}
+use Rattle.std.specs.Prelude.{codes, decimal, ◌^◌}
+use Rattle.std.specs.Str.{IsUtf8}
+use Rattle.std.proofs.lemmas.Str.{IsUtf8-nil, IsUtf8-append}
 use Rattle.std.specs.List.{AllByRecursion, flat_map}
 use Rattle.ror_text.specs.Cursor.{Cursor, line_words}
 use Rattle.ror_text.specs.Reading.{◌>>=◌, refuse}
 use Rattle.ror_text.proofs.ReadingLemmas.{bind_ok}
-use Rattle.ror_text.specs.Lines.{has_control}
 use Rattle.ror_text.specs.SpacedLines.{line_text}
-use Rattle.ror_session.specs.declared.limits.TheConstants.{MOST_DESK_NAME_BYTES}
 use Rattle.ror_statement.specs.declared.statement.Statement.{Statement}
 use Rattle.ror_table.specs.Table.{DecisionTable, IsTable}
 use Rattle.ror_proof.proofs.Utf8Lemmas.{ascii_is_utf8, line_text_is_utf8, decimal_is_utf8}
 use Rattle.ror_report.specs.Text.{numbered_text, end_text}
+use Rattle.ror_report.proofs.DeskLemmas.{dropped, desk_is_utf8}
 use Rattle.ror_report.proofs.ReportLemmas.{end_reads_back}
 use Rattle.ror_bench.specs.declared.report.Accepted.{Accepted}
 use Rattle.ror_entries.specs.Kind.{IsKind}
@@ -82,13 +80,6 @@ proved_no_desk t lists c x kind table proved =
 
 -- ---- the bytes are UTF-8
 
-name_is_utf8 : (name : List ℕ) → is_desk_name name ≡ true → IsUtf8 name
-name_is_utf8 name is = IsUtf8-from_is_utf8 name (and_parts (nat_le (length name) MOST_DESK_NAME_BYTES && not (has_control (name ∷ []))) (is_utf8 name) is).1
-
-desk_is_utf8 : (name : List ℕ) → is_desk_name name ≡ true → IsUtf8 (desk_text name)
-desk_is_utf8 [] is = line_text_is_utf8 (codes "desk" ∷ []) (ascii_is_utf8 (codes "desk") refl, tt)
-desk_is_utf8 (b ∷ bs) is = line_text_is_utf8 (codes "desk" ∷ (b ∷ bs) ∷ []) (ascii_is_utf8 (codes "desk") refl, (name_is_utf8 (b ∷ bs) is, tt))
-
 desks_are_utf8 : (names : List (List ℕ)) → AllByRecursion (λ name. is_desk_name name ≡ true) names → IsUtf8 (flat_map desk_text names)
 desks_are_utf8 [] all = IsUtf8-nil
 desks_are_utf8 (name ∷ names) all = IsUtf8-append (desk_text name) (flat_map desk_text names) (desk_is_utf8 name all.0) (desks_are_utf8 names all.1)
@@ -114,10 +105,6 @@ proved_utf8 t lists names bytes after x kind head proved =
 pub behind_head : (names : List (List ℕ)) (bytes : List ℕ) (after : Cursor) → IsHeadText names bytes after → drop after.place bytes ≡ after.rest
 behind_head names bytes after head =
     ap (λ (n : ℕ). drop n bytes) head.place ∙ ap (drop (length (head_text names))) head.text ∙ dropped (head_text names) after.rest
-  where
-    dropped : (front more : List ℕ) → drop (length front) (front ++ more) ≡ more
-    dropped [] more = refl
-    dropped (b ∷ bs) more = dropped bs more
 
 pub one_head : (names : List (List ℕ)) (bytes : List ℕ) (one other : Cursor) → IsHeadText names bytes one → IsHeadText names bytes other → one ≡ other
 one_head names bytes one other a b =

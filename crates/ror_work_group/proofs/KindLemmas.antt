@@ -3,7 +3,6 @@ use Rattle.std.proofs.Common.{◌≡◌, ℕ, List, ◌++◌, length, Some, refl
 use Rattle.std.specs.Prelude.{slice_get}
 use Rattle.std.specs.List.{AllByRecursion}
 use Rattle.ror_text.specs.FirstFault.{IsFirst}
-use Rattle.ror_text.proofs.Everywhere.{all_at}
 use Rattle.ror_text.proofs.FirstFaultLemmas.{first_at}
 use Rattle.ror_statement.specs.declared.statement.Statement.{Statement}
 use Rattle.ror_table.specs.Table.{DecisionTable, IsTable}
@@ -13,7 +12,7 @@ use Rattle.ror_check.specs.declared.fault.CheckFault.{CheckFault}
 use Rattle.ror_check.specs.declared.fault.CheckFault.TheVariants as checks
 use Rattle.ror_check.specs.Faults.{IsEarlierFault, fault_stage, fault_place}
 use Rattle.ror_relation.specs.Pairs.{AreDifferentOf}
-use Rattle.ror_relation.proofs.PairLemmas.{ordered_pairs-different, few_pairs}
+use Rattle.ror_relation.proofs.PairLemmas.{few_pairs}
 use Rattle.ror_report.specs.Reading.{begins_end}
 use Rattle.ror_bench.specs.declared.report.Reason.{Reason}
 use Rattle.ror_bench.proofs.UniqueLemmas.{one_some, one_answer_fault}
@@ -27,18 +26,16 @@ use Rattle.ror_group.proofs.EntryLemmas.{is_read_iff_text}
 use Rattle.ror_group.proofs.EntryLines.{entry_begins}
 use Rattle.ror_group.proofs.EntryUtf8.{entry_text_is_utf8}
 use Rattle.ror_entries.specs.Kind.{IsKind, HasOneReason}
+use Rattle.ror_entries.specs.Pairs.{pairs_of}
 use Rattle.ror_entries.proofs.EachLemmas.{pair_begins_no_end}
-use Rattle.ror_work_group.specs.Entries.{pairs_of, IsOnPairAt, IsProvedEntry, IsTrueEntry, RefusesEntry, other_pair, at_fault, reason_of, group_kind}
+use Rattle.ror_entries.proofs.PairLemmas.{pair_there}
+use Rattle.ror_work_group.specs.Entries.{IsOnPairAt, IsProvedEntry, IsTrueEntry, RefusesEntry, other_pair, at_fault, reason_of, group_kind}
 
 -- ---- the pair at a place
 
 -- is one of two alternatives of the table
 pub on_pair : (t : DecisionTable) (place : ℕ) (x : Entry) → IsOnPairAt t place x → AreDifferentOf (length t.alternatives) (x.first, x.second)
-on_pair t place x at = all_at (AreDifferentOf (length t.alternatives)) (pairs_of t) place (x.first, x.second) (ordered_pairs-different (length t.alternatives)) at
-
--- and so is the pair that stands there
-pub pair_there : (t : DecisionTable) (pairs : List (ℕ × ℕ)) (place : ℕ) (p : ℕ × ℕ) → pairs ≡ pairs_of t → slice_get pairs place ≡ Some p → AreDifferentOf (length t.alternatives) p
-pair_there t pairs place p same at = all_at (AreDifferentOf (length t.alternatives)) (pairs_of t) place p (ordered_pairs-different (length t.alternatives)) (ap (λ (ps : List (ℕ × ℕ)). slice_get ps place) (sym same) ∙ at)
+on_pair t place x at = pair_there t (pairs_of t) place (x.first, x.second) refl at
 
 pub entry_there : (t : DecisionTable) (pairs : List (ℕ × ℕ)) (place : ℕ) (p : ℕ × ℕ) (x : Entry) → pairs ≡ pairs_of t → slice_get pairs place ≡ Some p → x.first ≡ p.0 → x.second ≡ p.1 → IsOnPairAt t place x
 entry_there t pairs place p x same at first second =

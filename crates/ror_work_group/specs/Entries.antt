@@ -6,7 +6,6 @@ use Rattle.ror_table.specs.Table.{DecisionTable}
 use Rattle.ror_proof.specs.declared.answer.Answer.{Answer}
 use Rattle.ror_check.specs.Proof.{IsWideOrTrue}
 use Rattle.ror_given.specs.Answers.{IsGiven}
-use Rattle.ror_relation.specs.Pairs.{ordered_pairs}
 use Rattle.ror_bench.specs.Blocks.{answers_passed}
 use Rattle.ror_bench.specs.declared.report.Reason.{Reason}
 use Rattle.ror_bench.specs.declared.report.Reason.TheVariants as reasons
@@ -20,10 +19,7 @@ use Rattle.ror_group.specs.Group.{AreGroupAnswers}
 use Rattle.ror_group.specs.Text.{entry_text, IsPrintableEntry}
 use Rattle.ror_group.specs.Reading.{entry_at}
 use Rattle.ror_entries.specs.Kind.{Kind}
-
--- the ordered pairs of different alternatives, in the order of the table
-abbrev pub pairs_of : DecisionTable → List (ℕ × ℕ)
-pairs_of t = ordered_pairs (length t.alternatives)
+use Rattle.ror_entries.specs.Pairs.{pairs_of}
 
 -- the entry is on the pair at this place
 abbrev pub IsOnPairAt : DecisionTable → ℕ → Entry → Type 0

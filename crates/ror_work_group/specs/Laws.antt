@@ -16,7 +16,8 @@ use Rattle.ror_group.specs.Combining.{asked_on}
 use Rattle.ror_group.specs.Laws.{HasNoWideWord}
 use Rattle.ror_entries.specs.Reports.{entries_text}
 use Rattle.ror_frame.specs.Inputs.{bench_for}
-use Rattle.ror_work_group.specs.Entries.{group_kind, pairs_of}
+use Rattle.ror_work_group.specs.Entries.{group_kind}
+use Rattle.ror_entries.specs.Pairs.{pairs_of}
 use Rattle.ror_work_group.specs.Group.{OverClosing, ProvesGroup, IsGroupReport, IsGroupRejection}
 
 -- a report of the group, of at most 268,435,456 bytes, is one that a check accepts, with the same counts

@@ -18,9 +18,10 @@ use Rattle.ror_group.specs.declared.entry.Entry.{Entry}
 use Rattle.ror_group.specs.Faults.{FailsPair, IsEarlierPairFault}
 use Rattle.ror_group.specs.declared.fault.GroupFault.{GroupFault}
 use Rattle.ror_group.specs.declared.fault.GroupFault.TheVariants as faults
+use Rattle.ror_entries.specs.Pairs.{pairs_of}
 use Rattle.ror_entries.specs.declared.check.EntryFault.{EntryFault}
 use Rattle.ror_entries.specs.declared.check.EntryFault.TheVariants as entries
-use Rattle.ror_work_group.specs.Entries.{pairs_of, reason_of}
+use Rattle.ror_work_group.specs.Entries.{reason_of}
 
 -- a table, the lists of the desks, and what no number passes
 pub record GroupMaking : Type 0 where

@@ -13,8 +13,8 @@ ghost use Rattle.ror_frame.specs.Stops.{last};
 ghost use Rattle.ror_work_group.specs.Group.{ProvesGroup, RefusesGroup, check_group_chore, head_reason};
 
 use crate::judge::GroupJudge;
-use ror_bench::{Accepted, MOST_REPORT_BYTES, Reason, Rejection};
-use ror_entries::{check_entries, misread};
+use ror_bench::{Accepted, MOST_REPORT_BYTES, Reason, Rejection, misread};
+use ror_entries::check_entries;
 use ror_frame::{Refusal, Stop, closed_desks, conclude, fetch_report, fetch_suited, fetch_table};
 use ror_group::head::{HeadFault, check_whole_head};
 use ror_io::{Shelf, Sink};

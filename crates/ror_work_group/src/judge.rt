@@ -1,6 +1,6 @@
 //! The check of the entries of a group's report.
 
-ghost use Rattle.std.specs.Prelude.{◌≡◌, ◌≤◌, ◌<◌, length, slice_get, Some, IfOk, IfErr, OnOk};
+ghost use Rattle.std.specs.Prelude.{◌≡◌, ◌≤◌, ◌<◌, length, IfOk, IfErr, OnOk};
 ghost use Rattle.std.specs.List.{AllByRecursion};
 ghost use Rattle.ror_value.specs.Over.{IsLawfulIn};
 ghost use Rattle.ror_bench.specs.Blocks.{answers_passed};
@@ -11,11 +11,11 @@ ghost use Rattle.ror_work_group.specs.Steps.{RefusesPair};
 ghost use Rattle.ror_work_group.specs.Steps as steps;
 
 use ror_bench::{Bench, Passed, Reason};
-use ror_entries::EntryFault;
+use ror_entries::{EntryFault, pair_at};
 use ror_group::{Entry, EntryReader, GroupFault, Judge, check_pair_by};
 use ror_proof::ProofFault;
 use ror_relation::ordered_pairs;
-use ror_statement::Statement;
+use ror_statement::{Pair, Statement};
 use ror_table::Table;
 use ror_text::Items;
 use std::alloc::{AllocError, Global};
@@ -128,14 +128,6 @@ impl<'a> ror_entries::Judge for GroupJudge<'a> {
     }
 }
 
-/// The pair at a place.
-pub(crate) fn pair_at(pairs: &[(usize, usize)], place: u32) -> (usize, usize)
-    requires { place < length pairs.now }
-    ensures { slice_get pairs.now place ≡ Some result }
-{
-    pairs[place as usize]
-}
-
 /// Judges the answers and the words of an entry for its pair.
 fn check_on(
     alloc: Global,
@@ -157,12 +149,15 @@ fn check_on(
     ensures length { length judges.new.items ≡ length judges.old.items }
 {
     let answers = entry.answers.as_slice();
+    let pair = Pair {
+        first: entry.first,
+        second: entry.second,
+    };
     let checked = check_pair_by(
         alloc,
         table,
         judges.as_mut_slice(),
-        entry.first,
-        entry.second,
+        pair,
         answers,
         &entry.quartet,
     );

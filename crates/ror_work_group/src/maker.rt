@@ -9,18 +9,18 @@ ghost use Rattle.ror_bench.specs.Bench.{IsLawfulBench};
 ghost use Rattle.ror_relation.specs.DecidedLists.{IsDecidedList, statements_of};
 ghost use Rattle.ror_group.specs.Combining.{asked_on, InStep};
 ghost use Rattle.ror_entries.specs.Kind.{Kind, WriteTheSame};
-ghost use Rattle.ror_work_group.specs.Entries.{group_kind, IsGivenFor, IsGivenEntry, pairs_of};
+ghost use Rattle.ror_work_group.specs.Entries.{group_kind, IsGivenFor, IsGivenEntry};
 ghost use Rattle.ror_work_group.specs.Steps.{IsWritable};
 ghost use Rattle.ror_work_group.specs.Steps as steps;
 
-use crate::judge::{copied, pair_at};
+use crate::judge::copied;
 use ror_bench::Bench;
-use ror_entries::Maker;
+use ror_entries::{Maker, pair_at};
 use ror_group::{Entry, combine, print_entry};
 use ror_pivot::Bits;
 use ror_proof::{Answer, Verdict};
 use ror_relation::{DecidedList, ordered_pairs};
-use ror_statement::{Question, Statement};
+use ror_statement::{Pair, Question, Statement};
 use ror_table::Table;
 use ror_text::Items;
 use ror_warm::Engine;
@@ -99,10 +99,13 @@ impl Maker for GroupMaker {
 
     fn make(&mut self, alloc: Global, place: u32) -> Result<Entry, AllocError> {
         let (first, second) = pair_at(self.pairs.as_slice(), place);
+        let pair = Pair { first, second };
         let table = self.bench.table();
+        let bits = self.bits;
+        let on = OnPair { table, pair, bits };
         let lists = self.lists.as_slice();
         let engines = self.engines.as_mut_slice();
-        let answers = answers_on(alloc, table, lists, engines, first, second, self.bits)?;
+        let answers = answers_on(alloc, &on, lists, engines)?;
         let quartet = combine(answers.as_slice());
         Ok(Entry {
             first,
@@ -146,39 +149,35 @@ fn decided_lists(
     Ok(decided)
 }
 
+/// On which pair the desks answer, over which table and at which width.
+#[derive(Clone, Copy)]
+struct OnPair<'a> {
+    table: &'a Table,
+    pair: Pair,
+    bits: Bits,
+}
+
 /// The answers on a pair: of each list in order whether the first is necessarily worth at least as much as the second, and then
 /// whether possibly, each list by its engine.
 fn answers_on(
     alloc: Global,
-    table: &Table,
+    on: &OnPair<'_>,
     lists: &[DecidedList],
     engines: &mut [Engine],
-    first: usize,
-    second: usize,
-    bits: Bits,
 ) -> Result<Vec<Answer>, AllocError>
-    requires decided { AllByRecursion (IsDecidedList (most_of bits) table.now) lists.now }
+    requires decided { AllByRecursion (IsDecidedList (most_of on.now.bits) on.now.table.now) lists.now }
     requires engines { length engines.old ≡ length lists.now }
     requires few { length lists.now ≤ 64 }
-    requires first { first < length table.now.alternatives }
-    requires second { second < length table.now.alternatives }
-    ensures given { IfOk result (λ answers. InStep (IsGivenFor (most_of bits) table.now)
-        (asked_on first second (map statements_of lists.now)) answers.items) }
+    requires first { on.now.pair.first < length on.now.table.now.alternatives }
+    requires second { on.now.pair.second < length on.now.table.now.alternatives }
+    ensures given { IfOk result (λ answers. InStep (IsGivenFor (most_of on.now.bits) on.now.table.now)
+        (asked_on on.now.pair.first on.now.pair.second (map statements_of lists.now)) answers.items) }
     ensures engines { length engines.new ≡ length engines.old }
 {
     let mut answers = Vec::with_capacity(alloc, 2 * lists.len())?;
     for (place, list) in lists.iter().enumerate() {
         let engine = &mut engines[place];
-        push_both(
-            alloc,
-            table,
-            list,
-            engine,
-            first,
-            second,
-            bits,
-            &mut answers,
-        )?;
+        push_both(alloc, on, list, engine, &mut answers)?;
     }
     Ok(answers)
 }
@@ -186,24 +185,22 @@ fn answers_on(
 /// Adds a list's two answers on a pair.
 fn push_both(
     alloc: Global,
-    table: &Table,
+    on: &OnPair<'_>,
     list: &DecidedList,
     engine: &mut Engine,
-    first: usize,
-    second: usize,
-    bits: Bits,
     answers: &mut Vec<Answer>,
 ) -> Result<(), AllocError>
-    requires decided { IsDecidedList (most_of bits) table.now list.now }
-    requires first { first < length table.now.alternatives }
-    requires second { second < length table.now.alternatives }
-    ensures { OnOk result (steps.HasBoth (most_of bits) table.now (statements_of list.now) first second
-        answers.old.items answers.new.items) }
+    requires decided { IsDecidedList (most_of on.now.bits) on.now.table.now list.now }
+    requires first { on.now.pair.first < length on.now.table.now.alternatives }
+    requires second { on.now.pair.second < length on.now.table.now.alternatives }
+    ensures { OnOk result (steps.HasBoth (most_of on.now.bits) on.now.table.now (statements_of list.now)
+        on.now.pair.first on.now.pair.second answers.old.items answers.new.items) }
 {
-    let necessary = Question::Necessary(first, second);
-    answers.push(list.answer(alloc, engine, table, &necessary, bits)?)?;
-    let possible = Question::Possible(first, second);
-    answers.push(list.answer(alloc, engine, table, &possible, bits)?)?;
+    let pair = on.pair;
+    let necessary = Question::Necessary(pair.first, pair.second);
+    answers.push(list.answer(alloc, engine, on.table, &necessary, on.bits)?)?;
+    let possible = Question::Possible(pair.first, pair.second);
+    answers.push(list.answer(alloc, engine, on.table, &possible, on.bits)?)?;
     Ok(())
 }
 

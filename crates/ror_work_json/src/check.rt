@@ -10,8 +10,8 @@ ghost use Rattle.ror_frame.specs.Stops.{last};
 ghost use Rattle.ror_work_json.specs.Json.{ProvesJson, RefusesJson, check_json_chore};
 
 use crate::blocks::check_text;
-use ror_bench::{Accepted, Bench, MOST_REPORT_BYTES};
-use ror_frame::{Stop, conclude, fetch_report, fetch_session, fetch_table};
+use ror_bench::{Accepted, MOST_REPORT_BYTES};
+use ror_frame::{Stop, conclude, fetch_report, fetch_session, fetch_table, opened_desks};
 use ror_io::{Shelf, Sink};
 use ror_session::Session;
 use ror_words::FileNames;
@@ -59,8 +59,7 @@ fn answers_in(
     requires within { length bytes.now ≤ MOST_REPORT_BYTES }
     ensures { ReadAs last (ProvesJson input session.now) (RefusesJson input session.now) bytes.now result }
 {
-    let desks = session.desks.len() as u32;
-    let bench = Bench::new(alloc, input, desks)?;
+    let bench = opened_desks(alloc, input, session)?;
     let lines = session.lines.as_slice();
     Ok(check_text(alloc, bench, lines, bytes)?)
 }

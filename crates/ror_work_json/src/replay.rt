@@ -17,7 +17,7 @@ ghost use Rattle.ror_work_json.specs.Json.{json_output, replay_json_chore};
 ghost use Rattle.ror_work_json.specs.Steps.{IsJsonText};
 
 use ror_bench::{Bench, has_wide};
-use ror_frame::{Stop, fetch_session, fetch_table};
+use ror_frame::{Stop, fetch_session, fetch_table, opened_desks};
 use ror_io::{Shelf, Sink, write_pieces};
 use ror_json::to_text;
 use ror_pivot::Bits;
@@ -70,8 +70,7 @@ fn write_json<O: Sink>(
 {
     // A text is read as what was written only over a table, and each table has alternatives.
     prove!(input.table.alternatives() > 0);
-    let desks = session.desks.len() as u32;
-    let mut bench = Bench::new(alloc, input, desks)?;
+    let mut bench = opened_desks(alloc, input, session)?;
     let (text, wide) = text_of(alloc, &mut bench, session.lines.as_slice(), bits)?;
     write_pieces(out, &[text.as_bytes(), b"\n"])?;
     Ok(wide)

@@ -4,7 +4,6 @@ use Rattle.std.specs.Prelude.{slice_get, codes}
 use Rattle.std.specs.Str.{IsUtf8}
 use Rattle.std.proofs.lemmas.Bool.{cases_Bool, eqb-false}
 use Rattle.ror_text.specs.FirstFault.{IsFirst}
-use Rattle.ror_text.proofs.Everywhere.{all_at}
 use Rattle.ror_text.proofs.FirstFaultLemmas.{first_at}
 use Rattle.ror_statement.specs.declared.statement.Statement.{Statement}
 use Rattle.ror_statement.specs.declared.question.Conclusion.{Conclusion}
@@ -18,7 +17,7 @@ use Rattle.ror_check.specs.declared.fault.CheckFault.TheVariants as checks
 use Rattle.ror_check.specs.Faults.{FailsAnswer, IsEarlierFault, fault_stage, fault_place}
 use Rattle.ror_check.specs.Proof.{is_wide}
 use Rattle.ror_relation.specs.Pairs.{AreDifferentOf}
-use Rattle.ror_relation.proofs.PairLemmas.{ordered_pairs-different, few_pairs}
+use Rattle.ror_relation.proofs.PairLemmas.{few_pairs}
 use Rattle.ror_report.specs.Reading.{begins_end}
 use Rattle.ror_bench.specs.declared.report.Reason.{Reason}
 use Rattle.ror_bench.proofs.UniqueLemmas.{one_some, one_answer_fault}
@@ -39,15 +38,14 @@ use Rattle.ror_spans.specs.Text.{entry_text, header_text}
 use Rattle.ror_spans.proofs.EntryEnds.{pair_ends, end_ends}
 use Rattle.ror_spans.proofs.EntryTexts.{entry_iff_text, entry_begins, entry_is_utf8}
 use Rattle.ror_entries.specs.Kind.{IsKind, HasOneReason}
+use Rattle.ror_entries.specs.Pairs.{pairs_of}
 use Rattle.ror_entries.proofs.EachLemmas.{pair_begins_no_end}
-use Rattle.ror_work_levels.specs.Entries.{pairs_of, pair_of, IsOnPairAt, IsProvedEntry, IsTrueEntry, RefusesFor, RefusesEntry, other_pair, at_fault, reason_of, span_kind}
+use Rattle.ror_entries.proofs.PairLemmas.{pair_there}
+use Rattle.ror_work_levels.specs.Entries.{pair_of, IsOnPairAt, IsProvedEntry, IsTrueEntry, RefusesFor, RefusesEntry, other_pair, at_fault, reason_of, span_kind}
 
 -- ---- the pair at a place
 
 -- is one of two alternatives of the table
-pub pair_there : (t : DecisionTable) (pairs : List (ℕ × ℕ)) (place : ℕ) (p : ℕ × ℕ) → pairs ≡ pairs_of t → slice_get pairs place ≡ Some p → AreDifferentOf (length t.alternatives) p
-pair_there t pairs place p same at = all_at (AreDifferentOf (length t.alternatives)) (pairs_of t) place p (ordered_pairs-different (length t.alternatives)) (ap (λ (ps : List (ℕ × ℕ)). slice_get ps place) (sym same) ∙ at)
-
 on_pair : (t : DecisionTable) (place : ℕ) (x : Entry) → IsOnPairAt t place x → AreDifferentOf (length t.alternatives) (pair_of x)
 on_pair t place x at = pair_there t (pairs_of t) place (pair_of x) refl at
 

@@ -6,7 +6,6 @@ use Rattle.ror_statement.specs.declared.question.Question.{Question}
 use Rattle.ror_statement.specs.declared.question.Question.TheVariants.{Consistent, Necessary, Possible}
 use Rattle.ror_table.specs.Table.{DecisionTable}
 use Rattle.ror_check.specs.Proof.{is_wide}
-use Rattle.ror_relation.specs.Pairs.{ordered_pairs}
 use Rattle.ror_bench.specs.declared.bench.Passed.{Passed}
 use Rattle.ror_bench.specs.declared.report.Reason.{Reason}
 use Rattle.ror_bench.specs.declared.report.Reason.TheVariants as reasons
@@ -24,10 +23,7 @@ use Rattle.ror_spans.specs.Text.{entry_text, IsPrintableEntry}
 use Rattle.ror_spans.specs.EntryLaws.{IsEnded}
 use Rattle.ror_spans.specs.Reading.{entry_at}
 use Rattle.ror_entries.specs.Kind.{Kind}
-
--- the ordered pairs of different alternatives, in the order of the table
-abbrev pub pairs_of : DecisionTable → List (ℕ × ℕ)
-pairs_of t = ordered_pairs (length t.alternatives)
+use Rattle.ror_entries.specs.Pairs.{pairs_of}
 
 abbrev pub pair_of : Entry → ℕ × ℕ
 pair_of (entries.Known a b span) = (a, b)

@@ -20,6 +20,7 @@ use Rattle.ror_confidence.specs.Steps.{AreCheckers, lists_of}
 use Rattle.ror_entries.specs.declared.check.EntryFault.{EntryFault}
 use Rattle.ror_entries.specs.declared.check.EntryFault.TheVariants as entries
 use Rattle.ror_entries.specs.declared.write.EntriesStop.TheVariants as entry_stops
+use Rattle.ror_entries.specs.Pairs.{pairs_of}
 use Rattle.ror_entries.specs.Headed.{IsProvedHeaded, IsRejectedHeaded, WritesHeaded}
 use Rattle.ror_spans.specs.declared.entry.Entry.{Entry}
 use Rattle.ror_spans.specs.Text.{header_text}
@@ -29,7 +30,7 @@ use Rattle.ror_frame.specs.declared.stop.Refusal.TheVariants as refusals
 use Rattle.ror_frame.specs.declared.stop.Stop.TheVariants as stops
 use Rattle.ror_frame.specs.States.{SinkState}
 use Rattle.ror_frame.specs.Stops.{Outcome}
-use Rattle.ror_work_levels.specs.Entries.{pairs_of, reason_of, span_kind, IsGivenEntry}
+use Rattle.ror_work_levels.specs.Entries.{reason_of, span_kind, IsGivenEntry}
 
 -- a table, the lists of the levels, and what no number passes
 pub record SpanMaking : Type 0 where

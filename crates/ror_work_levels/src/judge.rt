@@ -1,6 +1,6 @@
 //! The check of the entries of a report of spans.
 
-ghost use Rattle.std.specs.Prelude.{◌≡◌, ◌↔◌, ◌<◌, length, slice_get, Some, IsTrue, IfOk, IfErr, OnOk};
+ghost use Rattle.std.specs.Prelude.{◌≡◌, ◌↔◌, ◌<◌, length, IsTrue, IfOk, IfErr, OnOk};
 ghost use Rattle.ror_statement.specs.Statements.{statements_in};
 ghost use Rattle.ror_value.specs.Over.{IsLawfulIn};
 ghost use Rattle.ror_bench.specs.Reports.{IsFreeOfMemory};
@@ -15,11 +15,11 @@ ghost use Rattle.ror_work_levels.specs.Steps as steps;
 
 use ror_bench::{Bench, Passed, Reason};
 use ror_confidence::{LevelAnswer, Levels, Span, SpanCheckFault, SpanChecker};
-use ror_entries::{EntryFault, Judge};
+use ror_entries::{EntryFault, Judge, pair_at};
 use ror_proof::{ProofFault, Verdict};
 use ror_relation::ordered_pairs;
 use ror_spans::{Entry, read_entry};
-use ror_statement::{Numbered, Question};
+use ror_statement::{Numbered, Pair, Question};
 use ror_table::Table;
 use std::alloc::{AllocError, Global};
 use std::marker::Model;
@@ -107,14 +107,6 @@ impl<'a> Judge for SpanJudge<'a> {
     }
 }
 
-/// The pair at a place.
-pub(crate) fn pair_at(pairs: &[(usize, usize)], place: u32) -> (usize, usize)
-    requires { place < length pairs.now }
-    ensures { slice_get pairs.now place ≡ Some result }
-{
-    pairs[place as usize]
-}
-
 /// The pair of an entry.
 fn pair_of(entry: &Entry) -> (usize, usize)
     ensures { result ≡ spec.pair_of entry.now }
@@ -147,7 +139,13 @@ fn check_entry(
             first,
             second,
             span,
-        } => check_known(alloc, table, checker, levels, *first, *second, span),
+        } => {
+            let pair = Pair {
+                first: *first,
+                second: *second,
+            };
+            check_known(alloc, table, checker, levels, pair, span)
+        }
         Entry::Wide {
             first,
             second,
@@ -162,21 +160,22 @@ fn check_known(
     table: &Table,
     checker: &mut SpanChecker,
     levels: u32,
-    first: usize,
-    second: usize,
+    pair: Pair,
     span: &Span,
 ) -> Result<Passed, EntryFault>
     requires checker { IsCheckerIn table.now checker.old levels }
-    requires first { first < length table.now.alternatives }
-    requires second { second < length table.now.alternatives }
-    ensures proved { OnOk result (IsProvedSpan table.now (lists_of checker.old.levels.items) first second span.now) }
+    requires first { pair.first < length table.now.alternatives }
+    requires second { pair.second < length table.now.alternatives }
+    ensures proved { OnOk result (IsProvedSpan table.now (lists_of checker.old.levels.items)
+        pair.first pair.second span.now) }
     ensures counted { IfOk result (λ passed. passed ≡ record { answers = length span.now.proof; wide = 0 }) }
-    ensures refused { IfErr result (IfRefused (RefusesSpan table.now (lists_of checker.old.levels.items) first second span.now)) }
+    ensures refused { IfErr result (IfRefused (RefusesSpan table.now (lists_of checker.old.levels.items)
+        pair.first pair.second span.now)) }
     ensures pure { IfErr result (IfRefused IsFreeOfMemory) }
     ensures checker { IsCheckerIn table.now checker.new levels }
     ensures lists { lists_of checker.new.levels.items ≡ lists_of checker.old.levels.items }
 {
-    match checker.check(alloc, table, first, second, span) {
+    match checker.check(alloc, table, pair, span) {
         Ok(()) => Ok(Passed {
             answers: span.proof.len() as u32,
             wide: 0,

@@ -12,14 +12,13 @@ ghost use Rattle.ror_work_levels.specs.Entries.{span_kind, pair_of, IsGivenSpan,
 ghost use Rattle.ror_work_levels.specs.Steps.{IsWritable};
 
 use crate::decider::LevelDecider;
-use crate::judge::pair_at;
 use ror_bench::Bench;
 use ror_confidence::{LevelSearch, Levels, SpanFault};
-use ror_entries::Maker;
+use ror_entries::{Maker, pair_at};
 use ror_pivot::Bits;
 use ror_relation::ordered_pairs;
 use ror_spans::{Entry, print_entry};
-use ror_statement::Numbered;
+use ror_statement::{Numbered, Pair};
 use ror_table::Table;
 use std::alloc::{AllocError, Global};
 use std::marker::Model;
@@ -129,7 +128,7 @@ fn entry_of(
     ensures lists { search.new.lists.items ≡ search.old.lists.items }
 {
     let (first, second) = pair;
-    match search.find(alloc, decider, table, first, second, bits) {
+    match search.find(alloc, decider, table, Pair { first, second }, bits) {
         Ok(span) => Ok(Entry::Known {
             first,
             second,

@@ -5,9 +5,8 @@ use Rattle.ror_proof.specs.Reading.{proof_fault}
 use Rattle.ror_report.specs.Reading.{begins_end, end_at}
 use Rattle.ror_report.specs.Text.{end_text}
 use Rattle.ror_entries.specs.Reports.{miscounted}
-use Rattle.ror_entries.proofs.RestLemmas.{last_read}
+use Rattle.ror_bench.proofs.ReportProofs.{last_read}
 use Rattle.ror_entries.proofs.CheckLemmas.{late_rejects, end_rejects}
-use Rattle.ror_entries.proofs.SameLemmas.{same_itself}
 use Rattle.ror_entries.proofs.check.check_end.Goals as goal
 
 pub returns-then-not-begins_end-clause-rejected : goal.returns-then-not-begins_end-clause-rejected

@@ -1,7 +1,7 @@
 use Rattle.std.proofs.Common.{◌≡◌, ℕ, ◌+◌, List, true, false, drop, sym, ap, ◌∙◌, subst}
 use Rattle.ror_report.specs.Reading.{begins_end}
 use Rattle.ror_bench.specs.Reports.{IfRejected}
-use Rattle.ror_entries.specs.Steps.{IsEarlyEnd}
+use Rattle.ror_bench.specs.Steps.{IsEarlyEnd}
 use Rattle.ror_entries.proofs.SameLemmas.{refused_same}
 use Rattle.ror_entries.proofs.CheckLemmas.{early_rejects, read_printable, refused_rejects, misread_rejects}
 use Rattle.ror_entries.proofs.check.check_next.Goals as goal

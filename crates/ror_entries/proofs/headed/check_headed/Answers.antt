@@ -1,9 +1,8 @@
-use Rattle.std.proofs.Common.{◌≡◌, List, ℕ, nat_eq, true, false, length, drop, sym, ap, ◌∙◌, subst}
+use Rattle.std.proofs.Common.{◌≡◌, List, ℕ, nat_eq, true, false, sym, ap, ◌∙◌}
 use Rattle.std.specs.List.{starts_with}
-use Rattle.std.specs.Str.{IsUtf8, is_utf8}
+use Rattle.std.specs.Str.{is_utf8}
 use Rattle.std.proofs.lemmas.Result.{IfOk-weaker, IfErr-weaker}
-use Rattle.std.proofs.lemmas.Str.{IsUtf8-from_is_utf8}
-use Rattle.ror_entries.proofs.HeadedLemmas.{started, no_text, other_line, accepted_behind, rejected_behind}
+use Rattle.ror_entries.proofs.HeadedLemmas.{no_text, other_line, accepted_behind, rejected_behind}
 use Rattle.ror_entries.proofs.headed.check_headed.Goals as goal
 
 pub returns-then-not-is_utf8-clause-rejected : goal.returns-then-not-is_utf8-clause-rejected

@@ -1,10 +1,8 @@
-use Rattle.std.proofs.Common.{rules, arith, ◌≤◌, length, sym, ap, subst}
+use Rattle.std.proofs.Common.{rules, List, length, sym, subst}
 use Rattle.std.specs.List.{AllByRecursion}
 use Rattle.std.proofs.lemmas.Result.{err_from_is_err_and}
-use Rattle.ror_session.specs.declared.limits.TheConstants.{MOST_LINES}
-use Rattle.ror_bench.specs.Bench.{HoldTheSame, LeavesNumbers}
-use Rattle.ror_frame.specs.Inputs.{bench_for}
-use Rattle.ror_frame.proofs.Desks.{numbers_left}
+use Rattle.ror_session.specs.declared.session.Line.{Line}
+use Rattle.ror_bench.specs.Bench.{LeavesNumbers}
 use Rattle.ror_work.specs.Checking.{ProvesReport}
 use Rattle.ror_work.proofs.Judging.{rejected_as, proves_as}
 use Rattle.ror_work.proofs.check.answers_in.Goals as goal
@@ -16,13 +14,7 @@ returns-in_err-check_report c =
 
 pub check_report-requires-clause-numbers : goal.check_report-requires-clause-numbers
 check_report-requires-clause-numbers c =
-    let i = c.args.input in
-    let s = c.args.session.now in
-    let held : HoldTheSame c.in_ok-bench.bench (bench_for i s) = search rules in
-    let same = ap length c.as_slice-lines.ensures in
-    let sound = c.requires.sound.few_lines in
-    let few : length c.as_slice-lines.result.now ≤ MOST_LINES = omega (arith, same, sound) in
-    subst (AllByRecursion (LeavesNumbers (length c.as_slice-lines.result.now))) (sym held.1) (numbers_left i (length s.desks) (length c.as_slice-lines.result.now) c.requires.lawful few)
+    subst (λ (lines : List Line). AllByRecursion (LeavesNumbers (length lines)) c.in_ok-bench.bench.state) (sym c.as_slice-lines.ensures) c.in_ok-bench.ensures.numbers
 
 pub returns : goal.returns
 returns c =

@@ -7,5 +7,5 @@ use Rattle.ror_work_group.proofs.maker.answers_on.Given as goal
 
 abbrev pub invariant-loop-place : goal.invariant-loop-place
 invariant-loop-place l = record {
-  given : InStep (IsGivenFor (most_of l.fn.bits) l.fn.table) (asked_on l.fn.first l.fn.second (map statements_of (take l.place l.lists))) l.answers.items;
+  given : InStep (IsGivenFor (most_of l.fn.on.bits) l.fn.on.table.now) (asked_on l.fn.on.pair.first l.fn.on.pair.second (map statements_of (take l.place l.lists))) l.answers.items;
 }

@@ -1,33 +1,19 @@
-use Rattle.std.proofs.Common.{rules, arith, ℕ, List, inl, refl, ◌≡◌, ◌≤◌, ◌∙◌, ◌++◌, ◌∷◌, [], sym, ap, subst, length}
+use Rattle.std.proofs.Common.{List, inl, refl, ◌++◌, ◌∷◌, [], sym, subst, length}
 use Rattle.std.specs.Prelude.{string_bytes}
 use Rattle.std.specs.List.{AllByRecursion}
 use Rattle.std.proofs.lemmas.Result.{err_from_is_err_and}
-use Rattle.ror_session.specs.declared.limits.TheConstants.{MOST_LINES}
 use Rattle.ror_session.specs.declared.session.Line.{Line}
-use Rattle.ror_bench.specs.Bench.{HoldTheSame, LeavesNumbers}
-use Rattle.ror_bench.proofs.SameLemmas.{same_back, lawful_same}
+use Rattle.ror_bench.specs.Bench.{LeavesNumbers}
 use Rattle.ror_frame.specs.Inputs.{bench_for}
-use Rattle.ror_frame.proofs.Desks.{lawful_desks, numbers_left}
+use Rattle.ror_frame.proofs.Desks.{lawful_desks}
 use Rattle.ror_pivot.specs.Answers.{most_of}
 use Rattle.ror_work_json.specs.Steps.{IsJsonText}
 use Rattle.ror_work_json.proofs.Writing.{line_due, line_written, line_cut}
 use Rattle.ror_work_json.proofs.replay.write_json.Goals as goal
 
-pub text_of-requires-clause-lawful : goal.text_of-requires-clause-lawful
-text_of-requires-clause-lawful g c =
-    let start = bench_for c.args.input c.args.session.now in
-    let begun : HoldTheSame c.in_ok-bench.bench start = search rules in
-    lawful_same start c.in_ok-bench.bench (same_back c.in_ok-bench.bench start begun) (lawful_desks c.args.input (length c.args.session.now.desks) c.requires.lawful)
-
 pub text_of-requires-clause-numbers : goal.text_of-requires-clause-numbers
 text_of-requires-clause-numbers g c =
-    let i = c.args.input in
-    let s = c.args.session.now in
-    let begun : HoldTheSame c.in_ok-bench.bench (bench_for i s) = search rules in
-    let same = ap length c.as_slice.ensures in
-    let sound = c.requires.sound.few_lines in
-    let few : length c.as_slice.result.now ≤ MOST_LINES = omega (arith, same, sound) in
-    subst (AllByRecursion (LeavesNumbers (length c.as_slice.result.now))) (sym begun.1) (numbers_left i (length s.desks) (length c.as_slice.result.now) c.requires.lawful few)
+    subst (λ (lines : List Line). AllByRecursion (LeavesNumbers (length lines)) c.in_ok-bench.bench.state) (sym c.as_slice.ensures) c.in_ok-bench.ensures.numbers
 
 pub returns-in_err-text : goal.returns-in_err-text
 returns-in_err-text g c =
@@ -41,7 +27,7 @@ returns-in_err-write_pieces g c =
     let start = bench_for i s in
     let most = most_of c.args.bits in
     let text = string_bytes c.in_ok-text.text in
-    let begun : HoldTheSame c.in_ok-bench.bench start = search rules in
+    let begun = c.in_ok-bench.ensures.begun in
     let made = subst (λ (lines : List Line). IsJsonText most c.in_ok-bench.bench lines text c.in_ok-text.wide) c.as_slice.ensures c.in_ok-text.ensures in
     let due = line_due most c.in_ok-bench.bench start s.lines text c.in_ok-text.wide begun c.alternatives.ensures.table (lawful_desks i (length s.desks) c.requires.lawful) made in
     let failed = c.in_err-write_pieces.ensures in
@@ -55,7 +41,7 @@ returns g c =
     let start = bench_for i s in
     let most = most_of c.args.bits in
     let text = string_bytes c.in_ok-text.text in
-    let begun : HoldTheSame c.in_ok-bench.bench start = search rules in
+    let begun = c.in_ok-bench.ensures.begun in
     let made = subst (λ (lines : List Line). IsJsonText most c.in_ok-bench.bench lines text c.in_ok-text.wide) c.as_slice.ensures c.in_ok-text.ensures in
     let due = line_due most c.in_ok-bench.bench start s.lines text c.in_ok-text.wide begun c.alternatives.ensures.table (lawful_desks i (length s.desks) c.requires.lawful) made in
     let done = c.in_ok-write_pieces.ensures in

@@ -10,7 +10,7 @@ use Rattle.ror_group.specs.Combining.{asked_on, InStep}
 use Rattle.ror_group.specs.Text.{IsPrintableEntry}
 use Rattle.ror_work_group.specs.Entries.{IsGivenFor}
 use Rattle.ror_work_group.specs.Steps.{GroupMaking}
-use Rattle.ror_work_group.proofs.KindLemmas.{pair_there}
+use Rattle.ror_entries.proofs.PairLemmas.{pair_there}
 use Rattle.ror_work_group.proofs.Printing.{lawful_decided, answers_printable, answers_valid, answers_narrow}
 use Rattle.ror_work_group.proofs.maker.GroupMakerMaker.make.Goals as goal
 

@@ -3,7 +3,7 @@ use Rattle.ror_table.specs.Table.{IsTable}
 use Rattle.ror_confidence.specs.Spans.{AreLevelLists}
 use Rattle.ror_confidence.specs.Steps.{AreCheckers, lists_of}
 use Rattle.ror_confidence.proofs.Nested.{length-level_lists}
-use Rattle.ror_work_levels.specs.Entries.{pairs_of}
+use Rattle.ror_entries.specs.Pairs.{pairs_of}
 use Rattle.ror_work_levels.proofs.judge.SpanJudge.new.Goals as goal
 
 pub invariant_of-result : goal.invariant_of-result

@@ -1,6 +1,6 @@
 use Rattle.std.proofs.Common.{◌<◌, length, sym, ◌∙◌, subst}
 use Rattle.ror_table.specs.Table.{DecisionTable}
-use Rattle.ror_work_levels.proofs.KindLemmas.{pair_there}
+use Rattle.ror_entries.proofs.PairLemmas.{pair_there}
 use Rattle.ror_work_levels.proofs.maker.SpanMakerMaker.make.Goals as goal
 
 pub entry_of-requires-clause-first : goal.entry_of-requires-clause-first

@@ -10,7 +10,7 @@ use Rattle.ror_frame.specs.declared.stop.Stop.TheVariants as stops
 use Rattle.ror_frame.specs.States.{ShelfState, SinkState}
 use Rattle.ror_frame.specs.Stops.{Outcome, status_after, outcome_of, refused_status}
 use Rattle.ror_frame.specs.Courses.{Chore, Ending, done, Leads, Ends, IsFirstMissing, CountsWrites, EndsAfter, LacksOne, LacksFirst, IsPure, IsWork}
-use Rattle.ror_runs.specs.Runs.{files_named, WritesBy, IsRunBy}
+use Rattle.ror_frame.specs.Runs.{files_named, WritesBy, IsRunBy}
 use Rattle.ror_frame.proofs.CourseLemmas.{IsDecided, one_ending, unbegun}
 use Rattle.ror_io.proofs.CountLemmas.{never_both}
 
