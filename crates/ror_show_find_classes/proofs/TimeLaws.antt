@@ -7,8 +7,9 @@ use Rattle.std.proofs.lemmas.Option.{slice_get_within}
 use Rattle.ror_session.specs.declared.session.Line.{Line}
 use Rattle.ror_session.specs.declared.session.Session.{Session}
 use Rattle.ror_bench.specs.declared.kept.KeptLine.{KeptLine}
+use Rattle.ror_show_ground.specs.Lines.{line_of, desk_of, is_answered}
 use Rattle.ror_show_ground.proofs.Tests.{nothing-in, only-in, one-in, in-pieces, InPiece, of-pieces}
-use Rattle.ror_show_find_classes.specs.Times.{line_of, desk_of, asks_for_classes, is_answered, is_at, asks_at, is_answered_at, is_revision_at, answers_at, revises_at, goes_on, begins, if_begins, times}
+use Rattle.ror_show_find_classes.specs.Times.{asks_for_classes, is_at, asks_at, is_answered_at, is_revision_at, answers_at, revises_at, goes_on, begins, if_begins, times}
 use Rattle.ror_show_find_classes.specs.Laws.{IsRow, RowsAreThose, BeginsTime, TimesAreThose, EachIsInOneTime}
 use Rattle.ror_show_find_classes.proofs.RunLaws.{IsInRun, found_in, put_in, goes_from, goes_by, IsInTime, in_time, one_first}
 use Rattle.ror_show_find_classes.proofs.SignLemmas.{both}

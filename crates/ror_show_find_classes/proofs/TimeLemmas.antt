@@ -27,7 +27,8 @@ use Rattle.ror_bench.specs.declared.kept.Keep.{Keep}
 use Rattle.ror_bench.specs.declared.kept.Keep.TheVariants as keeps
 use Rattle.ror_bench.specs.declared.kept.KeptLine.{KeptLine}
 use Rattle.ror_bench.proofs.ReportProofs.{number_cases, same_number, then_at_own, then_at_other}
-use Rattle.ror_show_find_classes.specs.Times.{keep_for, asks_for_classes, is_revision, is_answered, is_at, asks_at, is_answered_at, is_revision_at, answers_at, revises_at, run}
+use Rattle.ror_show_ground.specs.Lines.{is_answered}
+use Rattle.ror_show_find_classes.specs.Times.{keep_for, asks_for_classes, is_revision, is_at, asks_at, is_answered_at, is_revision_at, answers_at, revises_at, run}
 use Rattle.ror_show_find_classes.specs.Laws.{KeepsAtDesk, StoodAt, OneListInATime}
 use Rattle.ror_show_find_classes.proofs.RunLemmas.{left_of}
 use Rattle.ror_show_find_classes.proofs.SignLemmas.{both}

@@ -1,21 +1,18 @@
 -- The answers to both questions on each class stand where their signs look for them.
-use Rattle.std.proofs.Common.{◌≡◌, ◌≢◌, ℕ, zero, suc, ◌+◌, ◌-◌, ◌*◌, ◌<◌, ◌≤◌, false, List, ◌∷◌, Option, Some, None, refl, sym, ap, subst, ◌∙◌, arith, map}
+use Rattle.std.proofs.Common.{◌≡◌, ◌≢◌, ℕ, zero, suc, ◌+◌, ◌-◌, ◌*◌, ◌<◌, ◌≤◌, false, List, Some, refl, sym, ap, subst, ◌∙◌, arith}
 use Rattle.std.specs.Prelude.{slice_get}
 use Rattle.std.specs.List.{AllByRecursion, flat_map, range_with_len}
-use Rattle.std.specs.Option.{option_map}
-use Rattle.std.proofs.lemmas.Option.{slice_get-map}
 use Rattle.ror_text.proofs.Everywhere.{all_at}
 use Rattle.ror_statement.specs.declared.question.Question.{Question}
 use Rattle.ror_statement.specs.declared.question.Question.TheVariants.{PossibleClass, NecessaryClass}
 use Rattle.ror_proof.specs.declared.answer.Answer.{Answer}
-use Rattle.ror_proof.specs.declared.answer.Verdict.{Verdict}
-use Rattle.ror_proof.specs.declared.answer.Verdict.TheVariants as verdicts
 use Rattle.ror_check.specs.Proof.{is_wide}
 use Rattle.ror_classes.specs.Classes.{questions_on, class_questions}
 use Rattle.ror_bench.proofs.ReportProofs.{same_number}
 use Rattle.ror_show_ground.specs.declared.said.Said.{Said}
 use Rattle.ror_show_ground.specs.declared.said.Said.TheVariants.{Yes, No, Contradiction, Nothing}
 use Rattle.ror_show_ground.specs.Said.{said_by}
+use Rattle.ror_show_find_relation.proofs.WholeCells.{behind_two, IsAnswerAt, answer_at, says_something}
 use Rattle.ror_show_find_classes.specs.declared.sign.Sign.TheVariants as signs
 use Rattle.ror_show_find_classes.specs.Signs.{alternative_in, alternative_of, if_necessary, if_possible, necessary_by, possible_by, sign_of}
 use Rattle.ror_show_find_classes.specs.Laws.{SignsAreWhole}
@@ -23,9 +20,6 @@ use Rattle.ror_show_find_classes.specs.Laws.{SignsAreWhole}
 pub record AreAt (qs : List Question) (a k h : ℕ) : Type 0 where
   pub possible : slice_get qs (2 * k) ≡ Some (PossibleClass a h)
   pub necessary : slice_get qs (2 * k + 1) ≡ Some (NecessaryClass a h)
-
-behind_two : (x y : Question) (rest : List Question) (n m : ℕ) (o : Option Question) → n ≡ suc (suc m) → slice_get rest m ≡ o → slice_get (x ∷ y ∷ rest) n ≡ o
-behind_two x y rest n m o is at = ap (slice_get (x ∷ y ∷ rest)) is ∙ at
 
 questions_at : (a first count k : ℕ) → k < count → AreAt (flat_map (λ below. questions_on a (below + 1)) (range_with_len first count)) a k (first + k + 1)
 questions_at a first zero k below = absurd (omega (arith, below))
@@ -41,27 +35,7 @@ questions_at a first (suc count) (suc k) below =
       necessary = behind_two (PossibleClass a (first + 1)) (NecessaryClass a (first + 1)) rest (2 * suc k + 1) (2 * k + 1) (Some (NecessaryClass a (first + suc k + 1))) (omega arith) (at.necessary ∙ ap (λ (h : ℕ). Some (NecessaryClass a h)) same);
     }
 
--- ---- the answers there
-
-pub record IsAnswerAt (xs : List Answer) (k : ℕ) (q : Question) : Type 0 where
-  pub answer : Answer
-  pub at : slice_get xs k ≡ Some answer
-  pub question : answer.question ≡ q
-
-answer_at : (xs : List Answer) (k : ℕ) (q : Question) → slice_get (map (λ (x : Answer). x.question) xs) k ≡ Some q → IsAnswerAt xs k q
-answer_at xs k q is = by (slice_get xs k) refl
-  where
-    by : (o : Option Answer) → slice_get xs k ≡ o → IsAnswerAt xs k q
-    by None none = absurd (let empty : None ≡ Some q = sym (slice_get-map (λ (x : Answer). x.question) xs k ∙ ap (option_map (λ (x : Answer). x.question)) none) ∙ is in cc)
-    by (Some x) some = let same : Some x.question ≡ Some q = sym (slice_get-map (λ (x : Answer). x.question) xs k ∙ ap (option_map (λ (x : Answer). x.question)) some) ∙ is in record { answer = x; at = some; question = cc }
-
 -- ---- what they say
-
-says_something : (v : Verdict) → is_wide v ≡ false → said_by v ≢ Nothing
-says_something (verdicts.Yes proof) narrow = λ e. absurd cc
-says_something (verdicts.No proof) narrow = λ e. absurd cc
-says_something (verdicts.Contradiction proof) narrow = λ e. absurd cc
-says_something (verdicts.Wide system note) narrow = absurd cc
 
 possible_says : (a h : ℕ) (s : Said) → if_possible a h (PossibleClass a h) s ≡ s
 possible_says a h s = rw (same_number a a refl, same_number h h refl) refl

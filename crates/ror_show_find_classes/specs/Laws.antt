@@ -21,7 +21,8 @@ use Rattle.ror_show_find_relation.specs.CellLaws.{AreTrueAnswers}
 use Rattle.ror_show_ground.specs.Meaning.{BySome}
 use Rattle.ror_show_find_classes.specs.declared.sign.Sign.{Sign}
 use Rattle.ror_show_find_classes.specs.declared.sign.Sign.TheVariants as signs
-use Rattle.ror_show_find_classes.specs.Times.{desk_of, keep_for, answers_at, revises_at, times, rows}
+use Rattle.ror_show_ground.specs.Lines.{desk_of}
+use Rattle.ror_show_find_classes.specs.Times.{keep_for, answers_at, revises_at, times, rows}
 use Rattle.ror_show_find_classes.specs.Signs.{alternative_of, sign_at}
 use Rattle.ror_show_find_classes.specs.Intervals.{lowest, highest, is_settled}
 use Rattle.ror_show_find_classes.specs.Meaning.{MayBelong, SignSays}

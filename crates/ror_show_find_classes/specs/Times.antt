@@ -7,23 +7,12 @@ use Rattle.ror_session.specs.declared.session.Command.{Command}
 use Rattle.ror_session.specs.declared.session.Command.TheVariants.{Ask}
 use Rattle.ror_session.specs.declared.session.Line.{Line}
 use Rattle.ror_session.specs.declared.session.Session.{Session}
-use Rattle.ror_session.specs.Sound.{desk_name}
 use Rattle.ror_report.specs.declared.block.Body.{Body}
-use Rattle.ror_report.specs.declared.block.Body.TheVariants.{Added, Withdrawn, Replaced, Undone, Repaired, Answers}
+use Rattle.ror_report.specs.declared.block.Body.TheVariants.{Added, Withdrawn, Replaced, Undone, Repaired}
 use Rattle.ror_bench.specs.declared.kept.Keep.{Keep}
 use Rattle.ror_bench.specs.declared.kept.Keep.TheVariants.{Nothing, Block, Standing}
 use Rattle.ror_bench.specs.declared.kept.KeptLine.{KeptLine}
-
--- the line of the session that was kept
-abbrev pub line_of : Session → KeptLine → Option Line
-line_of s x = slice_get s.lines x.place
-
--- the place of its desk among the session's desks, and the desk's name
-abbrev pub desk_of : Session → KeptLine → ℕ
-desk_of s x = option_map_or (λ line. line.desk) (line_of s x) 0
-
-abbrev pub desk_at : Session → KeptLine → List ℕ
-desk_at s x = option_map_or (λ line. desk_name s.desks line) (line_of s x) []
+use Rattle.ror_show_ground.specs.Lines.{line_of, desk_of, is_answered}
 
 -- What a check has to keep of a line of a desk: of one that asks for classes its answers with what stood, and of one that asks
 -- nothing what came of it.
@@ -45,10 +34,6 @@ is_at desk None = false
 abbrev pub asks_at : ℕ → Option Line → Bool
 asks_at desk (Some line) = line.desk == desk && asks_for_classes line.command
 asks_at desk None = false
-
-abbrev pub is_answered : Body → Bool
-is_answered (Answers xs) = true
-is_answered _ = false
 
 -- what stands at the desk is changed
 abbrev pub is_revision : Body → Bool

@@ -8,7 +8,8 @@ use Rattle.ror_report.specs.Text.{answers_of}
 use Rattle.ror_bench.specs.declared.kept.KeptLine.{KeptLine}
 use Rattle.ror_show_find_classes.specs.declared.value.ClassRow.{ClassRow}
 use Rattle.ror_show_find_classes.specs.declared.value.ClassTime.{ClassTime}
-use Rattle.ror_show_find_classes.specs.Times.{desk_of, times, rows}
+use Rattle.ror_show_ground.specs.Lines.{desk_of}
+use Rattle.ror_show_find_classes.specs.Times.{times, rows}
 use Rattle.ror_show_find_classes.specs.Rows.{in_order}
 use Rattle.ror_show_find_classes.specs.Signs.{alternative_of}
 use Rattle.ror_show_find_classes.specs.Intervals.{lowest, highest, is_settled, last_line}

@@ -1,7 +1,6 @@
 //! The lines that ask for classes, and the times, as values.
 
 ghost use Rattle.std.specs.Prelude.{◌≡◌, ◌<◌, ◌++◌, length, IfOk, OnOk};
-ghost use Rattle.std.specs.List.{flat_map};
 ghost use Rattle.ror_show_ground.specs.Grounds.{ground_of};
 ghost use Rattle.ror_show_find_classes.specs.Findings as spec;
 
@@ -127,7 +126,7 @@ fn push_if_answered(
 ) -> Result<(), AllocError>
     ensures { OnOk result (found.new.items ≡ found.old.items ++ spec.line_if_answered (ground_of ground.now) n line.now) }
 {
-    if !answers_at(ground.session, ground.kept, ground.desk_of(line), n) {
+    if !answers_at(ground, ground.desk_of(line), n) {
         return Ok(());
     }
     push_line(alloc, found, ground, n, line)
@@ -165,7 +164,7 @@ fn time_from(
 ) -> Result<TimeFound, AllocError>
     ensures { IfOk result (λ time. time ≡ spec.time_from (ground_of ground.now) place desk) }
 {
-    let places = rows(alloc, ground.session, ground.kept, place, desk)?;
+    let places = rows(alloc, ground, place, desk)?;
     time_of(alloc, ground, place, desk, places.as_slice())
 }
 

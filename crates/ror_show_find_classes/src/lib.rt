@@ -29,6 +29,6 @@ pub use intervals::{highest, is_settled, last_line, lowest};
 pub use keep::keep_for;
 pub use order::in_order;
 pub use sign::{Sign, alternative_of, is_assigned, sign_of_class};
-pub use times::{all_times, answers_at, desk_at, desk_of, rows};
+pub use times::{all_times, answers_at, rows};
 pub use turns::turns_among;
 pub use value::{ClassRow, ClassTime, class_times};

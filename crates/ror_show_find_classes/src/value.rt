@@ -6,11 +6,9 @@ ghost use Rattle.ror_show_find_classes.specs.Values as spec;
 use crate::intervals::{highest, is_settled, last_line, lowest};
 use crate::order::in_order;
 use crate::sign::alternative_of;
-use crate::times::{all_times, desk_of, rows};
+use crate::times::{all_times, rows};
 use ror_bench::KeptLine;
-use ror_session::Session;
-use ror_show_ground::answers_of;
-use ror_table::Table;
+use ror_show_ground::{Ground, answers_of};
 use ror_text::Items;
 use std::alloc::{AllocError, Global};
 
@@ -44,31 +42,24 @@ pub struct ClassTime {
 /// # Errors
 ///
 /// Only want of memory.
-pub fn class_times(
-    alloc: Global,
-    table: &Table,
-    session: &Session,
-    kept: &[KeptLine],
-) -> Result<Vec<ClassTime>, AllocError>
-    ensures { IfOk result (λ made. made.items ≡ spec.class_times table.now session.now kept.now) }
+pub fn class_times(alloc: Global, ground: &Ground<'_>) -> Result<Vec<ClassTime>, AllocError>
+    ensures { IfOk result (λ made. made.items ≡ spec.class_times ground.now.table.now ground.now.session.now ground.now.kept.now) }
 {
-    let starts = all_times(alloc, session, kept)?;
-    times_at(alloc, table, session, kept, &starts)
+    let starts = all_times(alloc, ground)?;
+    times_at(alloc, ground, &starts)
 }
 
 /// Those that the lines at these places begin.
 fn times_at(
     alloc: Global,
-    table: &Table,
-    session: &Session,
-    kept: &[KeptLine],
+    ground: &Ground<'_>,
     starts: &[usize],
 ) -> Result<Vec<ClassTime>, AllocError>
-    ensures { IfOk result (λ made. made.items ≡ spec.times_at table.now session.now kept.now starts.now) }
+    ensures { IfOk result (λ made. made.items ≡ spec.times_at ground.now.table.now ground.now.session.now ground.now.kept.now starts.now) }
 {
     let mut made = Vec::new(alloc);
     'starts: for place in starts {
-        push_time(alloc, &mut made, table, session, kept, *place)?;
+        push_time(alloc, &mut made, ground, *place)?;
     }
     Ok(made)
 }
@@ -76,32 +67,28 @@ fn times_at(
 fn push_time(
     alloc: Global,
     made: &mut Vec<ClassTime>,
-    table: &Table,
-    session: &Session,
-    kept: &[KeptLine],
+    ground: &Ground<'_>,
     place: usize,
 ) -> Result<(), AllocError>
-    ensures { OnOk result (made.new.items ≡ made.old.items ++ spec.time_at table.now session.now kept.now place) }
+    ensures { OnOk result (made.new.items ≡ made.old.items ++ spec.time_at ground.now.table.now ground.now.session.now ground.now.kept.now place) }
 {
-    let Some(line) = kept.get(place) else {
+    let Some(line) = ground.kept.get(place) else {
         return Ok(());
     };
-    push_time_of(alloc, made, table, session, kept, place, line)
+    push_time_of(alloc, made, ground, place, line)
 }
 
 fn push_time_of(
     alloc: Global,
     made: &mut Vec<ClassTime>,
-    table: &Table,
-    session: &Session,
-    kept: &[KeptLine],
+    ground: &Ground<'_>,
     place: usize,
     line: &KeptLine,
 ) -> Result<(), AllocError>
     ensures { OnOk result (made.new.items
-        ≡ made.old.items ++ spec.time_of_line table.now session.now kept.now place line.now) }
+        ≡ made.old.items ++ spec.time_of_line ground.now.table.now ground.now.session.now ground.now.kept.now place line.now) }
 {
-    let time = time_from(alloc, table, session, kept, place, desk_of(session, line))?;
+    let time = time_from(alloc, ground, place, ground.desk_of(line))?;
     made.push(time)?;
     Ok(())
 }
@@ -110,35 +97,32 @@ fn push_time_of(
 #[tactic(auto, unfolding(crate::specs::Values::time_from))]
 fn time_from(
     alloc: Global,
-    table: &Table,
-    session: &Session,
-    kept: &[KeptLine],
+    ground: &Ground<'_>,
     place: usize,
     desk: u32,
 ) -> Result<ClassTime, AllocError>
-    ensures { IfOk result (λ time. time ≡ spec.time_from table.now session.now kept.now place desk) }
+    ensures { IfOk result (λ time. time ≡ spec.time_from ground.now.table.now ground.now.session.now ground.now.kept.now place desk) }
 {
-    let places = rows(alloc, session, kept, place, desk)?;
-    time_of(alloc, table, kept, place, desk, &places)
+    let places = rows(alloc, ground, place, desk)?;
+    time_of(alloc, ground, place, desk, &places)
 }
 
 /// The time of a desk that has its lines at these places, the first of which is given.
 fn time_of(
     alloc: Global,
-    table: &Table,
-    kept: &[KeptLine],
+    ground: &Ground<'_>,
     place: usize,
     desk: u32,
     places: &[usize],
 ) -> Result<ClassTime, AllocError>
-    ensures { IfOk result (λ time. time ≡ spec.time_of table.now kept.now place desk places.now) }
+    ensures { IfOk result (λ time. time ≡ spec.time_of ground.now.table.now ground.now.kept.now place desk places.now) }
 {
-    let ordered = in_order(alloc, table, kept, places)?;
-    let intervals = intervals_at(alloc, table.classes(), kept, &ordered)?;
+    let ordered = in_order(alloc, ground.table, ground.kept, places)?;
+    let intervals = intervals_at(alloc, ground.table.classes(), ground.kept, &ordered)?;
     Ok(ClassTime {
         place,
         desk,
-        last: last_line(kept, places),
+        last: last_line(ground.kept, places),
         intervals,
     })
 }

@@ -23,18 +23,25 @@ use Rattle.ror_show_ground.specs.Sound.{IsSoundAnswer}
 use Rattle.ror_show_ground.specs.declared.said.Said.{Said}
 use Rattle.ror_show_ground.specs.declared.said.Said.TheVariants.{Yes, No, Contradiction, Nothing}
 use Rattle.ror_show_ground.specs.Said.{said_by}
+use Rattle.ror_pivot.specs.declared.note.Bits.TheVariants.{B127}
+use Rattle.ror_pivot.specs.Answers.{most_of}
+use Rattle.ror_reason.specs.declared.reducts.Reason.{Reason}
+use Rattle.ror_reason.specs.declared.reducts.Reason.TheVariants as reasons
+use Rattle.ror_reason.specs.Reasons.{IsReasonOf}
 use Rattle.ror_reason.specs.Reducts.{stated, without, IsReduct}
 use Rattle.ror_reason.proofs.Parts.{stated-among, without-among}
-use Rattle.ror_show_find_reasons.specs.Carrying.{Carries}
+use Rattle.ror_show_find_reasons.specs.Carrying.{IsReasonFor, HasReason}
 use Rattle.ror_show_find_reasons.proofs.Found.{found_there, found_passes, found_has}
 use Rattle.ror_show_find_classes.specs.declared.sign.Sign.TheVariants as signs
 use Rattle.ror_show_find_classes.specs.Signs.{alternative_of, if_possible, possible_by, necessary_by, sign_of, sign_of_class}
 use Rattle.ror_show_find_reasons.specs.declared.bounds.Side.{Side}
 use Rattle.ror_show_find_reasons.specs.declared.bounds.Side.TheVariants.{Below, Above}
 use Rattle.ror_show_find_reasons.specs.declared.bounds.Bound.{Bound}
-use Rattle.ror_show_find_reasons.specs.Bounds.{end_of, is_next, is_beyond, is_no_beyond, excludes, IsBoundWhere, IsBound, IsWithin, AreNeededOrWide, IsNextTo, MeansBound}
+use Rattle.ror_show_find_reasons.specs.Bounds.{end_of, is_next, is_beyond, is_no_beyond, excludes, IsBoundWhere, IsBound, IsWithin, AreNeeded, SettlesBound, IsNextTo, MeansBound}
+use Rattle.ror_show_find_reasons.specs.Meaning.{MeansSettled}
 use Rattle.ror_show_find_reasons.specs.Laws.{BoundsAreSettled}
-use Rattle.ror_show_find_reasons.proofs.Settled.{says_no}
+use Rattle.ror_show_find_reasons.proofs.ReasonMeaning.{reason_means}
+use Rattle.ror_show_find_reasons.proofs.Settled.{says_no, no_reason}
 use Rattle.ror_show_find_reasons.proofs.Within.{not_below, not_above}
 
 -- ---- the class beyond an end
@@ -72,8 +79,8 @@ within_by : (side : Side) (t : DecisionTable) (list : List Numbered) (xs : List 
 within_by Below t list xs ns h lawful sound from within next reduct = λ w compatible. not_below t list xs ns h lawful sound from within next reduct w compatible
 within_by Above t list xs ns h lawful sound from within next reduct = λ w compatible. not_above t list xs ns h lawful sound from within next reduct w compatible
 
-of_carries : (side : Side) (t : DecisionTable) (list : List Numbered) (xs : List Answer) (h : ℕ) (numbers : Option (List ℕ)) → IsLawfulIn t (statements_in list) → AllByRecursion (IsSoundAnswer t (statements_in list)) xs → 1 ≤ h → h ≤ t.classes → IsNextTo side (end_of side xs t.classes) h → Carries t list (PossibleClass (alternative_of xs) h) conclusions.No numbers → AreNeededOrWide side t list (alternative_of xs) (end_of side xs t.classes) h numbers
-of_carries side t list xs h (Some ns) lawful sound from within next reduct =
+needed_so : (side : Side) (t : DecisionTable) (list : List Numbered) (xs : List Answer) (h : ℕ) (ns : List ℕ) → IsLawfulIn t (statements_in list) → AllByRecursion (IsSoundAnswer t (statements_in list)) xs → 1 ≤ h → h ≤ t.classes → IsNextTo side (end_of side xs t.classes) h → IsReduct t list (PossibleClass (alternative_of xs) h) conclusions.No ns → AreNeeded side t list (alternative_of xs) (end_of side xs t.classes) ns
+needed_so side t list xs h ns lawful sound from within next reduct =
     let a = alternative_of xs in
     let end = end_of side xs t.classes in
     record {
@@ -83,32 +90,47 @@ of_carries side t list xs h (Some ns) lawful sound from within next reduct =
       needed = all-by (λ n. Answers t (stated (without n ns) list) (PossibleClass a h) conclusions.No → ⊥) (λ n. IsWithin side t (stated (without n ns) list) a end → ⊥) ns
           (λ n spared all. spared (consistent-sublist t (stated (without n ns) list) (stated ns list) (stated-among list (without n ns) ns (without-among n ns)) reduct.carries.0, λ some. excluded_by side t (stated (without n ns) list) a end h next all some.0 some.1 some.2)) reduct.needed;
     }
-of_carries side t list xs h None lawful sound from within next wide = wide
 
-named : (side : Side) (t : DecisionTable) (list : List Numbered) (xs : List Answer) (x : Answer) (numbers : Option (List ℕ)) → IsLawfulIn t (statements_in list) → AllByRecursion (IsSoundAnswer t (statements_in list)) xs → find (excludes side (end_of side xs t.classes) (alternative_of xs)) xs ≡ Some x → Carries t list x.question conclusions.No numbers → MeansBound side t list (alternative_of xs) (record { class = end_of side xs t.classes; numbers = numbers })
-named side t list xs x numbers lawful sound there carry =
+of_reason : (side : Side) (t : DecisionTable) (list : List Numbered) (xs : List Answer) (h : ℕ) (reason : Reason) → IsLawfulIn t (statements_in list) → AllByRecursion (IsSoundAnswer t (statements_in list)) xs → 1 ≤ h → h ≤ t.classes → IsNextTo side (end_of side xs t.classes) h → IsReasonOf (most_of B127) t list (PossibleClass (alternative_of xs) h) conclusions.No reason → SettlesBound side t list (alternative_of xs) (end_of side xs t.classes) h reason
+of_reason side t list xs h (reasons.Carried x) lawful sound from within next is = needed_so side t list xs h x.numbers lawful sound from within next is.1
+of_reason side t list xs h (reasons.Wide ns x others) lawful sound from within next is = is
+of_reason side t list xs h (reasons.OneHas x) lawful sound from within next is = absurd (let p = is.0 in cc)
+of_reason side t list xs h (reasons.OneLacks x) lawful sound from within next is = absurd (let p = is.0 in cc)
+of_reason side t list xs h (reasons.ClassLeft x) lawful sound from within next is = absurd (let p = is.0 in cc)
+of_reason side t list xs h (reasons.WhollyWide system note) lawful sound from within next is = absurd is
+
+named : (side : Side) (t : DecisionTable) (list : List Numbered) (xs : List Answer) (x : Answer) (reason : Reason) → IsLawfulIn t (statements_in list) → AllByRecursion (IsSoundAnswer t (statements_in list)) xs → find (excludes side (end_of side xs t.classes) (alternative_of xs)) xs ≡ Some x → HasReason t list x.question x.verdict (Some reason) → MeansSettled side t list (alternative_of xs) (record { class = end_of side xs t.classes; reason = reason })
+named side t list xs x reason lawful sound there has =
     let end = end_of side xs t.classes in
     let a = alternative_of xs in
     let said = says_no side end a x.question x.verdict (found_passes (excludes side end a) xs x there) in
     let asked = (found_has (IsSoundAnswer t (statements_in list)) (excludes side end a) xs x sound there).asked in
-    let of = subst (IsAskedIn t) said.asks asked in
+    let of : IsAskedIn t (PossibleClass a said.class) = subst (IsAskedIn t) said.asks asked in
     let next = next_to side end said.class said.beyond in
-    record {
-      class = said.class;
-      from = of.1;
-      within = of.2;
-      next = next;
-      named = of_carries side t list xs said.class numbers lawful sound of.1 of.2 next (subst (λ (q : Question). Carries t list q conclusions.No numbers) said.asks carry);
-    }
+    let same : has.0 ≡ reason = let p = has.3 in cc in
+    let is = subst (IsReasonFor t list x.question x.verdict) same has.1 in
+    let reason_is = no_reason t list side end a x.question x.verdict reason said is in (
+      record {
+        class = said.class;
+        from = of.1;
+        within = of.2;
+        next = next;
+        named = of_reason side t list xs said.class reason lawful sound of.1 of.2 next reason_is;
+      },
+      reason_means t list (PossibleClass a said.class) conclusions.No reason lawful of reason_is,
+    )
+
+pub told : (side : Side) (t : DecisionTable) (list : List Numbered) (xs : List Answer) (f : Bound) → IsLawfulIn t (statements_in list) → AllByRecursion (IsSoundAnswer t (statements_in list)) xs → IsBound side t list xs (Some f) → MeansSettled side t list (alternative_of xs) f
+told side t list xs f lawful sound is = by (find (excludes side (end_of side xs t.classes) (alternative_of xs)) xs) refl is
+  where
+    by : (o : Option Answer) → find (excludes side (end_of side xs t.classes) (alternative_of xs)) xs ≡ o → IsBoundWhere (end_of side xs t.classes) t list o (Some f) → MeansSettled side t list (alternative_of xs) f
+    by (Some x) there bound =
+        let same : f ≡ record { class = end_of side xs t.classes; reason = bound.0 } = let p = bound.2 in cc in
+        subst (MeansSettled side t list (alternative_of xs)) (sym same) (named side t list xs x bound.0 lawful sound there bound.1)
+    by None there none = absurd (let p = none in cc)
 
 found : (side : Side) (t : DecisionTable) (list : List Numbered) (xs : List Answer) (f : Bound) → IsLawfulIn t (statements_in list) → AllByRecursion (IsSoundAnswer t (statements_in list)) xs → IsBound side t list xs (Some f) → MeansBound side t list (alternative_of xs) f
-found side t list xs f lawful sound is = by (find (excludes side (end_of side xs t.classes) (alternative_of xs)) xs) refl is
-  where
-    by : (o : Option Answer) → find (excludes side (end_of side xs t.classes) (alternative_of xs)) xs ≡ o → IsBoundWhere (end_of side xs t.classes) t list o (Some f) → MeansBound side t list (alternative_of xs) f
-    by (Some x) there bound =
-        let same : f ≡ record { class = end_of side xs t.classes; numbers = bound.0 } = let p = bound.2 in cc in
-        subst (MeansBound side t list (alternative_of xs)) (sym same) (named side t list xs x bound.0 lawful sound there bound.1)
-    by None there none = absurd (let p = none in cc)
+found side t list xs f lawful sound is = (told side t list xs f lawful sound is).0
 
 -- ---- each is found
 

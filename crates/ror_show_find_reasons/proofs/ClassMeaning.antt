@@ -35,9 +35,9 @@ use Rattle.ror_show_find_reasons.specs.declared.bounds.Side.TheVariants.{Below, 
 use Rattle.ror_show_find_reasons.specs.declared.bounds.Bound.{Bound}
 use Rattle.ror_show_find_reasons.specs.declared.bounds.Bounds.{Bounds}
 use Rattle.ror_show_find_reasons.specs.declared.bounds.ClassesFound.{ClassesFound}
-use Rattle.ror_show_find_reasons.specs.Bounds.{end_of, IsNextTo, IsBoundWhere, IsBound, AreBounds, AreBoundsOver, AreBoundsWhere, AreBoundsOf, IsClassesFound, AreClassesFound, MeansBound}
-use Rattle.ror_show_find_reasons.specs.Meaning.{bound_on, end_on, IsBoundOf, MeansRow}
-use Rattle.ror_show_find_reasons.proofs.BoundLaws.{bounds_are_settled}
+use Rattle.ror_show_find_reasons.specs.Bounds.{end_of, IsNextTo, IsBoundWhere, IsBound, AreBounds, AreBoundsOver, AreBoundsWhere, AreBoundsOf, IsClassesFound, AreClassesFound}
+use Rattle.ror_show_find_reasons.specs.Meaning.{bound_on, end_on, MeansSettled, IsBoundOf, MeansRow}
+use Rattle.ror_show_find_reasons.proofs.BoundLaws.{told, bounds_are_settled}
 use Rattle.ror_show_find_reasons.proofs.Finding.{made_for, made_at, true_answers}
 use Rattle.ror_show_find_reasons.proofs.PairMeaning.{same_line, one_line_at}
 use Rattle.ror_show_find_reasons.proofs.RowLemmas.{place_of, signs_are, alternative_is, row_of}
@@ -66,8 +66,8 @@ class_of : (end : ℕ) (t : DecisionTable) (list : List Numbered) (o : Option An
 class_of end t list (Some x) f is = ap (λ (o : Option Bound). option_map_or (λ (g : Bound). g.class) o end) is.2
 class_of end t list None f is = absurd (let p = is in cc)
 
-one_bound : (side : Side) (t : DecisionTable) (x : KeptLine) (list : List Numbered) (b : Option Bound) → IsReadyOver t x list → IsBound side t list (answers_of x.block.body) b → IfSome b (λ f. (f.class ≡ end_of side (answers_of x.block.body) t.classes) × MeansBound side t list (alternative_of (answers_of x.block.body)) f)
-one_bound side t x list (Some f) over is = (class_of _ t list _ f is, bounds_are_settled.found side t list (answers_of x.block.body) f over.lawful over.sound is)
+one_bound : (side : Side) (t : DecisionTable) (x : KeptLine) (list : List Numbered) (b : Option Bound) → IsReadyOver t x list → IsBound side t list (answers_of x.block.body) b → IfSome b (λ f. (f.class ≡ end_of side (answers_of x.block.body) t.classes) × MeansSettled side t list (alternative_of (answers_of x.block.body)) f)
+one_bound side t x list (Some f) over is = (class_of _ t list _ f is, told side t list (answers_of x.block.body) f over.lawful over.sound is)
 one_bound side t x list None over is = tt
 
 both_over : (t : DecisionTable) (x : KeptLine) (list : List Numbered) (b : Bounds) → x.standing ≡ Some list → AreBoundsWhere true t x b → AreBounds t list (answers_of x.block.body) b

@@ -18,9 +18,8 @@ use Rattle.ror_show_ground.specs.Sound.{IsSoundAnswer}
 use Rattle.ror_pivot.specs.declared.note.Bits.TheVariants.{B127}
 use Rattle.ror_pivot.specs.Answers.{most_of}
 use Rattle.ror_reason.specs.declared.reducts.Reason.{Reason}
-use Rattle.ror_reason.specs.declared.reducts.Reason.TheVariants as reasons
 use Rattle.ror_reason.specs.Reasons.{IsReasonOf}
-use Rattle.ror_show_find_reasons.specs.Carrying.{IsReasonFor, numbers_of, AreNumbersFor, Carries}
+use Rattle.ror_show_find_reasons.specs.Carrying.{IsReasonFor, HasReason}
 use Rattle.ror_show_find_reasons.specs.Pairs.{is_yes_over, says_over, CarriesWhere, IsCarriedBy}
 
 -- ---- the first that passes a test
@@ -97,15 +96,10 @@ proved_over t list arrow x is sound = record { question = refl; proof = by x.ver
     by (verdicts.Contradiction proof) yes_ h = h
     by (verdicts.Wide system note) yes_ h = absurd yes_
 
--- ---- the numbers in its reason
+-- ---- its reason
 
-of_reason : (t : DecisionTable) (list : List Numbered) (a b : ℕ) (reason : Reason) → IsReasonOf (most_of B127) t list (Necessary a b) conclusions.Yes reason → Carries t list (Necessary a b) conclusions.Yes (numbers_of reason)
-of_reason t list a b (reasons.Carried x) h = h.1
-of_reason t list a b (reasons.Wide ns x others) h = (ns, x, others, h)
-of_reason t list a b (reasons.OneHas x) h = absurd (let p = h.0 in cc)
-of_reason t list a b (reasons.OneLacks x) h = absurd (let p = h.0 in cc)
-of_reason t list a b (reasons.ClassLeft x) h = absurd (let p = h.0 in cc)
-of_reason t list a b (reasons.WhollyWide system note) h = absurd h
+pub asks_over : (arrow : ℕ × ℕ) (x : Answer) → says_over arrow x ≡ true → x.question ≡ Necessary arrow.0 arrow.1
+asks_over arrow x is = (says_yes arrow x.question x.verdict is).asks
 
 for_yes : (t : DecisionTable) (list : List Numbered) (q : Question) (v : Verdict) (reason : Reason) → OfProof (λ c proof. c ≡ conclusions.Yes) v → IsReasonFor t list q v reason → IsReasonOf (most_of B127) t list q conclusions.Yes reason
 unfolding IsReasonFor
@@ -114,16 +108,19 @@ for_yes t list q (verdicts.No proof) reason yes_ h = absurd (let p = yes_ in cc)
 for_yes t list q (verdicts.Contradiction proof) reason yes_ h = absurd (let p = yes_ in cc)
 for_yes t list q (verdicts.Wide system note) reason yes_ h = absurd yes_
 
-carries : (t : DecisionTable) (list : List Numbered) (arrow : ℕ × ℕ) (q : Question) (v : Verdict) (numbers : Option (List ℕ)) → is_yes_over arrow q v ≡ true → AreNumbersFor t list q v numbers → Carries t list (Necessary arrow.0 arrow.1) conclusions.Yes numbers
-carries t list arrow q v numbers is are =
+yes_reason : (t : DecisionTable) (list : List Numbered) (arrow : ℕ × ℕ) (q : Question) (v : Verdict) (reason : Reason) → is_yes_over arrow q v ≡ true → IsReasonFor t list q v reason → IsReasonOf (most_of B127) t list (Necessary arrow.0 arrow.1) conclusions.Yes reason
+yes_reason t list arrow q v reason is h =
     let said = says_yes arrow q v is in
-    let of = for_yes t list q v are.0 said.concludes are.1 in
-    let about = subst (λ (p : Question). IsReasonOf (most_of B127) t list p conclusions.Yes are.0) said.asks of in
-    subst (Carries t list (Necessary arrow.0 arrow.1) conclusions.Yes) (sym are.2) (of_reason t list arrow.0 arrow.1 are.0 about)
+    subst (λ (p : Question). IsReasonOf (most_of B127) t list p conclusions.Yes reason) said.asks (for_yes t list q v reason said.concludes h)
 
-pub carried_by : (t : DecisionTable) (list : List Numbered) (xs : List Answer) (arrow : ℕ × ℕ) (x : Answer) (numbers : Option (List ℕ)) → find (says_over arrow) xs ≡ Some x → AreNumbersFor t list x.question x.verdict numbers → IsCarriedBy t list xs arrow numbers
-carried_by t list xs arrow x numbers there are =
-    subst (λ (o : Option Answer). CarriesWhere t list arrow o numbers) (sym there) (carries t list arrow x.question x.verdict numbers (found_passes (says_over arrow) xs x there) are)
+-- where an answer says it, what is found is its reason
+pub found_reason : (t : DecisionTable) (list : List Numbered) (xs : List Answer) (arrow : ℕ × ℕ) (x : Answer) (told : Option Reason) → find (says_over arrow) xs ≡ Some x → IsCarriedBy t list xs arrow told → (reason : Reason) × IsReasonOf (most_of B127) t list (Necessary arrow.0 arrow.1) conclusions.Yes reason × (told ≡ Some reason)
+found_reason t list xs arrow x told there are =
+    let has : HasReason t list x.question x.verdict told = subst (λ (o : Option Answer). CarriesWhere t list o told) there are in
+    (has.0, yes_reason t list arrow x.question x.verdict has.0 (found_passes (says_over arrow) xs x there) has.1, has.3)
+
+pub carried_by : (t : DecisionTable) (list : List Numbered) (xs : List Answer) (arrow : ℕ × ℕ) (x : Answer) (told : Option Reason) → find (says_over arrow) xs ≡ Some x → HasReason t list x.question x.verdict told → IsCarriedBy t list xs arrow told
+carried_by t list xs arrow x told there has = subst (λ (o : Option Answer). CarriesWhere t list o told) (sym there) has
 
 pub carried_by_none : (t : DecisionTable) (list : List Numbered) (xs : List Answer) (arrow : ℕ × ℕ) → find (says_over arrow) xs ≡ None → IsCarriedBy t list xs arrow None
-carried_by_none t list xs arrow none = subst (λ (o : Option Answer). CarriesWhere t list arrow o None) (sym none) refl
+carried_by_none t list xs arrow none = subst (λ (o : Option Answer). CarriesWhere t list o None) (sym none) refl

@@ -9,6 +9,7 @@ pub mod OneSide
 pub mod Within
 pub mod PairLaws
 pub mod Brought
+pub mod ReasonMeaning
 pub mod BoundLaws
 pub mod Conflicts
 pub mod Finding
@@ -16,5 +17,6 @@ pub mod PairMeaning
 pub mod Dropped
 pub mod RowLemmas
 pub mod ClassMeaning
+pub mod ClassChangeMeaning
 pub mod LineMeaning
 pub mod AllMeaning

@@ -27,17 +27,22 @@ use Rattle.ror_show_find_relation.specs.declared.pair.PairSaid.{PairSaid}
 use Rattle.ror_show_ground.specs.declared.said.Said.{Said}
 use Rattle.ror_show_ground.specs.declared.said.Said.TheVariants.{Yes, No, Contradiction, Nothing}
 use Rattle.ror_show_find_relation.specs.Cells.{is_over, has_contradiction, better_by, cell_of_necessary, cell_of, cells_from, cell_at, cell_rows}
-use Rattle.ror_show_find_relation.specs.Pages.{known}
+use Rattle.ror_show_find_relation.specs.declared.page.RelationPage.{RelationPage}
+use Rattle.ror_show_find_relation.specs.Pages.{IsRelationPage, known}
 use Rattle.ror_show_ground.specs.Said.{said_by}
 use Rattle.ror_show_find_relation.specs.Said.{if_necessary, necessary_by, place_of_pair, said_of_pair}
 use Rattle.ror_show_find_relation.proofs.Known.{known-at}
-use Rattle.ror_reason.specs.Reducts.{stated, without}
+use Rattle.ror_pivot.specs.declared.note.Bits.TheVariants.{B127}
+use Rattle.ror_pivot.specs.Answers.{most_of}
+use Rattle.ror_reason.specs.declared.reducts.Reason.{Reason}
+use Rattle.ror_reason.specs.declared.reducts.Reason.TheVariants as reasons
+use Rattle.ror_reason.specs.Reasons.{IsReasonOf}
+use Rattle.ror_reason.specs.Reducts.{stated, without, IsReduct}
 use Rattle.ror_reason.proofs.Parts.{stated-among, without-among}
 use Rattle.ror_show_find_reasons.specs.declared.pairs.CarriedPair.{CarriedPair}
-use Rattle.ror_show_find_reasons.specs.Carrying.{Carries}
-use Rattle.ror_show_find_reasons.specs.Pairs.{is_yes_over, says_over, CarriesWhere, IsCarriedPair, AreNeededOrWide, MeansCarried}
+use Rattle.ror_show_find_reasons.specs.Pairs.{is_yes_over, says_over, IsCarriedPair, AreNeeded, CarriesPair, MeansCarriedBy, MeansCarried}
 use Rattle.ror_show_find_reasons.specs.Laws.{ArrowsAreCarried}
-use Rattle.ror_show_find_reasons.proofs.Found.{found_there}
+use Rattle.ror_show_find_reasons.proofs.Found.{found_there, found_reason}
 
 -- ---- an arrow is what an answer says
 
@@ -126,28 +131,39 @@ above_said n xs a b above =
     itself : (r : Square) → holds r a b ≡ true → holds r b a ≡ false → a ≢ b
     itself r there back same = let p = sym there ∙ ap (λ (c : ℕ). holds r c b) same ∙ ap (λ (c : ℕ). holds r b c) (sym same) ∙ back in cc
 
+pub arrow_said : (t : DecisionTable) (xs : List Answer) (page : RelationPage) (arrow : ℕ × ℕ) → IsRelationPage t xs page → Contains {X = ℕ × ℕ} page.arrows arrow → (x : Answer) × (find (says_over arrow) xs ≡ Some x)
+arrow_said t xs page arrow shows there =
+    let n = length t.alternatives in
+    let rows = shows.arrows ∙ ap (λ (rs : List (List Cell)). arrows (known rs)) shows.rows in
+    let listed_so = subst (λ (l : List (ℕ × ℕ)). Contains {X = ℕ × ℕ} l arrow) rows there in
+    let between : IsArrow (known (cell_rows n xs)) arrow.0 arrow.1 = (listed (known (cell_rows n xs)) arrow.0 arrow.1).0 listed_so in
+    above_said n xs arrow.0 arrow.1 between.above
+
 -- ---- and is carried by what is named
 
-pub of_carries : (t : DecisionTable) (list : List Numbered) (arrow : ℕ × ℕ) (numbers : Option (List ℕ)) → Carries t list (Necessary arrow.0 arrow.1) conclusions.Yes numbers → AreNeededOrWide t list arrow numbers
-of_carries t list arrow (Some ns) reduct = record {
+carried_so : (t : DecisionTable) (list : List Numbered) (arrow : ℕ × ℕ) (ns : List ℕ) → IsReduct t list (Necessary arrow.0 arrow.1) conclusions.Yes ns → AreNeeded t list arrow ns
+carried_so t list arrow ns reduct = record {
   numbers = reduct.numbers;
   consistent = reduct.carries.0;
   carry = reduct.carries.1;
   needed = all-by (λ n. Answers t (stated (without n ns) list) (Necessary arrow.0 arrow.1) conclusions.Yes → ⊥) (λ n. IsNecessarilyPreferred t (stated (without n ns) list) arrow.0 arrow.1 → ⊥) ns
       (λ n spared preferred. spared (consistent-sublist t (stated (without n ns) list) (stated ns list) (stated-among list (without n ns) ns (without-among n ns)) reduct.carries.0, preferred)) reduct.needed;
 }
-of_carries t list arrow None wide = wide
+
+of_reason : (t : DecisionTable) (list : List Numbered) (arrow : ℕ × ℕ) (reason : Reason) → IsReasonOf (most_of B127) t list (Necessary arrow.0 arrow.1) conclusions.Yes reason → CarriesPair t list arrow reason
+of_reason t list arrow (reasons.Carried x) h = carried_so t list arrow x.numbers h.1
+of_reason t list arrow (reasons.Wide ns x others) h = h
+of_reason t list arrow (reasons.OneHas x) h = absurd (let p = h.0 in cc)
+of_reason t list arrow (reasons.OneLacks x) h = absurd (let p = h.0 in cc)
+of_reason t list arrow (reasons.ClassLeft x) h = absurd (let p = h.0 in cc)
+of_reason t list arrow (reasons.WhollyWide system note) h = absurd h
 
 -- where an answer says it, what is found carries the pair
 pub found_means : (t : DecisionTable) (list : List Numbered) (xs : List Answer) (pair : ℕ × ℕ) (f : CarriedPair) → (x : Answer) × (find (says_over pair) xs ≡ Some x) → IsCarriedPair t list xs pair f → MeansCarried t list f
 found_means t list xs pair f said are =
-    subst (λ (p : ℕ × ℕ). AreNeededOrWide t list p f.numbers) (sym are.0)
-    (of_carries t list pair f.numbers (subst (λ (o : Option Answer). CarriesWhere t list pair o f.numbers) said.1 are.1))
+    let found = found_reason t list xs pair said.0 f.reason said.1 are.1 in
+    subst (λ (p : ℕ × ℕ). MeansCarriedBy t list p f.reason) (sym are.0)
+    (subst (MeansCarriedBy t list pair) (sym found.2) (of_reason t list pair found.0 found.1))
 
 pub arrows_are_carried : ArrowsAreCarried
-arrows_are_carried t list xs page arrow f shows there are =
-    let n = length t.alternatives in
-    let rows = shows.arrows ∙ ap (λ (rs : List (List Cell)). arrows (known rs)) shows.rows in
-    let listed_so = subst (λ (l : List (ℕ × ℕ)). Contains {X = ℕ × ℕ} l arrow) rows there in
-    let between : IsArrow (known (cell_rows n xs)) arrow.0 arrow.1 = (listed (known (cell_rows n xs)) arrow.0 arrow.1).0 listed_so in
-    found_means t list xs arrow f (above_said n xs arrow.0 arrow.1 between.above) are
+arrows_are_carried t list xs page arrow f shows there are = found_means t list xs arrow f (arrow_said t xs page arrow shows there) are

@@ -2,12 +2,15 @@
 use Rattle.std.proofs.Common.{◌≡◌, ℕ, ◌<◌, Bool, true, false, List, [], ◌∷◌, ◌++◌, length, map, Option, Some, None, refl, sym, ap, subst, ◌∙◌, arith}
 use Rattle.std.proofs.lemmas.Bool.{false≢true}
 use Rattle.std.specs.Prelude.{◌↔◌, Contains, slice_get}
-use Rattle.std.specs.List.{AllByRecursion}
+use Rattle.std.specs.List.{AllByRecursion, find}
 use Rattle.ror_text.proofs.Everywhere.{all_at, all_by_places}
 use Rattle.ror_statement.specs.declared.statement.Numbered.{Numbered}
 use Rattle.ror_statement.specs.declared.statement.Statement.{Statement}
+use Rattle.ror_statement.specs.declared.question.Conclusion.TheVariants.{Yes}
+use Rattle.ror_statement.specs.declared.question.Question.TheVariants.{Necessary}
 use Rattle.ror_statement.specs.Statements.{statements_in}
 use Rattle.ror_table.specs.Table.{DecisionTable}
+use Rattle.ror_value.specs.Over.{IsAskedIn}
 use Rattle.ror_proof.specs.declared.answer.Answer.{Answer}
 use Rattle.ror_report.specs.Text.{answers_of}
 use Rattle.ror_bench.specs.declared.kept.KeptLine.{KeptLine}
@@ -22,7 +25,10 @@ use Rattle.ror_show_find_relation.specs.Meaning.{Says}
 use Rattle.ror_show_find_relation.specs.Pages.{IsRelationPage, known}
 use Rattle.ror_show_find_relation.specs.Rows.{cell_in}
 use Rattle.ror_show_ground.specs.Ready.{IsReady, IsReadyOver}
+use Rattle.ror_show_ground.specs.Sound.{IsSoundAnswer}
 use Rattle.ror_show_find_relation.specs.DifferenceLaws.{IsTrueChange}
+use Rattle.ror_show_find_relation.specs.WholeLaws.{IsWholeChange}
+use Rattle.ror_show_find_relation.proofs.WholeChanges.{whole-changes}
 use Rattle.ror_show_find_relation.proofs.DifferenceLemmas.{listed-true}
 use Rattle.ror_show_find_relation.specs.Arrows.{IsArrow, arrows}
 use Rattle.ror_show_find_relation.specs.Brought.{brought, turned as turned_pairs}
@@ -41,18 +47,31 @@ use Rattle.ror_show_find_relation.specs.Differences.{AreDifferences}
 use Rattle.ror_show_find_reasons.specs.declared.pairs.CarriedPair.{CarriedPair}
 use Rattle.ror_show_find_reasons.specs.declared.pairs.RelationFound.{RelationFound}
 use Rattle.ror_show_find_reasons.specs.declared.pairs.ChangeFound.{ChangeFound}
-use Rattle.ror_show_find_reasons.specs.Pairs.{IsCarriedPair, AreCarriedPairs, AreCarriedOver, AreCarriedWhere, IsRelationFound, AreRelationsFound, IsChangeFound, AreChangesFound, MeansCarried}
-use Rattle.ror_show_find_reasons.specs.Meaning.{IsStrictlyPreferred, MeansRelation, MeansChange}
-use Rattle.ror_show_find_reasons.proofs.Brought.{brought_is_carried}
+use Rattle.ror_show_find_reasons.specs.Pairs.{says_over, IsCarriedPair, AreCarriedPairs, AreCarriedOver, AreCarriedWhere, IsRelationFound, AreRelationsFound, IsChangeFound, AreChangesFound, MeansCarried}
+use Rattle.ror_show_find_reasons.specs.Meaning.{MeansFound, MeansPair, IsStrictlyPreferred, MeansRelation, AreWholeChanges, MeansChange}
+use Rattle.ror_show_find_reasons.proofs.Brought.{brought_said, brought_is_carried}
+use Rattle.ror_show_find_reasons.proofs.Found.{asks_over, found_has, found_passes, found_reason}
+use Rattle.ror_show_find_reasons.proofs.ReasonMeaning.{reason_means}
 use Rattle.ror_show_find_reasons.proofs.Finding.{made_for, each_brings, true_answers, says_in}
-use Rattle.ror_show_find_reasons.proofs.PairLaws.{known-size, arrows_are_carried}
+use Rattle.ror_show_find_reasons.proofs.PairLaws.{known-size, arrow_said, arrows_are_carried}
 use Rattle.ror_show_find_reasons.proofs.Steps.{contains_at}
 
-carried_where : (sought : Bool) (t : DecisionTable) (x : KeptLine) (list : List Numbered) (pairs : List (ℕ × ℕ)) (fs : List CarriedPair) → x.standing ≡ Some list → ((pair : ℕ × ℕ) (f : CarriedPair) → Contains {X = ℕ × ℕ} pairs pair → IsCarriedPair t list (answers_of x.block.body) pair f → MeansCarried t list f) → AreCarriedWhere sought t x pairs fs → AllByRecursion (MeansCarried t list) fs
-carried_where true t x list pairs fs stood brings are =
-    each_brings (IsCarriedPair t list (answers_of x.block.body)) (MeansCarried t list) pairs fs brings
+carried_where : (P : CarriedPair → Type 0) (sought : Bool) (t : DecisionTable) (x : KeptLine) (list : List Numbered) (pairs : List (ℕ × ℕ)) (fs : List CarriedPair) → x.standing ≡ Some list → ((pair : ℕ × ℕ) (f : CarriedPair) → Contains {X = ℕ × ℕ} pairs pair → IsCarriedPair t list (answers_of x.block.body) pair f → P f) → AreCarriedWhere sought t x pairs fs → AllByRecursion P fs
+carried_where P true t x list pairs fs stood brings are =
+    each_brings (IsCarriedPair t list (answers_of x.block.body)) P pairs fs brings
     (subst (λ (o : Option (List Numbered)). AreCarriedOver t (answers_of x.block.body) o pairs fs) stood are)
-carried_where false t x list pairs fs stood brings are = subst (AllByRecursion (MeansCarried t list)) (sym are) tt
+carried_where P false t x list pairs fs stood brings are = subst (AllByRecursion P) (sym are) tt
+
+-- what is found with a pair that an answer says means what it says
+pair_told : (t : DecisionTable) (x : KeptLine) (list : List Numbered) (pair : ℕ × ℕ) (f : CarriedPair) → IsReadyOver t x list → (y : Answer) × (find (says_over pair) (answers_of x.block.body) ≡ Some y) → IsCarriedPair t list (answers_of x.block.body) pair f → MeansPair t list f
+pair_told t x list pair f over said are =
+    let xs = answers_of x.block.body in
+    let passes = found_passes (says_over pair) xs said.0 said.1 in
+    let found = found_reason t list xs pair said.0 f.reason said.1 are.1 in
+    let asked : IsAskedIn t (Necessary pair.0 pair.1) = subst (IsAskedIn t) (asks_over pair said.0 passes) (found_has (IsSoundAnswer t (statements_in list)) (says_over pair) xs said.0 over.sound said.1).asked in
+    let means = reason_means t list (Necessary pair.0 pair.1) Yes found.0 over.lawful asked found.1 in
+    subst (λ (p : ℕ × ℕ). MeansFound t list (Necessary p.0 p.1) Yes f.reason) (sym are.0)
+    (subst (MeansFound t list (Necessary pair.0 pair.1) Yes) (sym found.2) means)
 
 -- one line is at a place
 pub one_line_at : (kept : List KeptLine) (n : ℕ) (x y : KeptLine) → slice_get kept n ≡ Some x → slice_get kept n ≡ Some y → x ≡ y
@@ -128,7 +147,8 @@ relation_means sought t x list f stood over page carried =
       paths = paths_mean t xs (statements_in list) f.relation page all;
       levels = levels_mean t xs (statements_in list) f.relation page all;
       before = before_means t xs (statements_in list) f.relation page all;
-      carried = carried_where sought t x list f.relation.arrows f.carried stood (λ pair c there is. arrows_are_carried t list xs f.relation pair c page there is) carried;
+      carried = carried_where (MeansCarried t list) sought t x list f.relation.arrows f.carried stood (λ pair c there is. arrows_are_carried t list xs f.relation pair c page there is) carried;
+      why = carried_where (MeansPair t list) sought t x list f.relation.arrows f.carried stood (λ pair c there is. pair_told t x list pair c over (arrow_said t xs f.relation pair page there) is) carried;
       each = each_where sought t x list f.relation.arrows f.carried stood carried;
     }
 
@@ -161,21 +181,43 @@ page_means change t x y before now first second pairs over_before over_now shows
     listed_means change t (statements_in before) (statements_in now) (length t.alternatives) (answers_of x.block.body) (answers_of y.block.body) pairs (true_answers t x before over_before) (true_answers t y now over_now)
     (are ∙ rows_are change t (answers_of x.block.body) (answers_of y.block.body) first second shows_first shows_second)
 
+-- the same, where each cell says something
+whole_listed : (change : Change) (t : DecisionTable) (before now : List Statement) (n : ℕ) (xs ys : List Answer) (pairs : List (ℕ × ℕ)) → AreTrueAnswers t before xs → AreTrueAnswers t now ys → IsWholeRelation t before n xs → IsWholeRelation t now n ys → pairs ≡ changed_pairs (known (cell_rows n xs)) (known (cell_rows n ys)) change → AllByRecursion (λ p. IsWholeChange change t before now p.0 p.1) pairs
+whole_listed change t before now n xs ys pairs first second whole_first whole_second are =
+    subst (AllByRecursion (λ (p : ℕ × ℕ). IsWholeChange change t before now p.0 p.1)) (sym are)
+    (all_by_places (λ p. IsWholeChange change t before now p.0 p.1) (changed_pairs (known (cell_rows n xs)) (known (cell_rows n ys)) change)
+    (λ i p there. whole-changes change t before now n xs ys p.0 p.1 first second whole_first whole_second (contains_at (changed_pairs (known (cell_rows n xs)) (known (cell_rows n ys)) change) i p there)))
+
+whole_means : (t : DecisionTable) (x y : KeptLine) (before now : List Numbered) (f : ChangeFound) → IsReadyOver t x before → IsReadyOver t y now → IsRelationPage t (answers_of x.block.body) f.first → IsRelationPage t (answers_of y.block.body) f.second → AreDifferences (known f.first.rows) (known f.second.rows) f.pairs → IsWholeRelation t (statements_in before) (length t.alternatives) (answers_of x.block.body) → IsWholeRelation t (statements_in now) (length t.alternatives) (answers_of y.block.body) → AreWholeChanges t (statements_in before) (statements_in now) f.pairs
+whole_means t x y before now f over_before over_now shows_first shows_second pairs whole_before whole_now = record {
+  turned = each changes.TurnedRound f.pairs.turned pairs.turned;
+  no_longer = each changes.NoLonger f.pairs.no_longer pairs.no_longer;
+  stayed = each changes.Stayed f.pairs.stayed pairs.stayed;
+  new = each changes.New f.pairs.new pairs.new;
+}
+  where
+    each : (change : Change) (ps : List (ℕ × ℕ)) → ps ≡ changed_pairs (known f.first.rows) (known f.second.rows) change → AllByRecursion (λ p. IsWholeChange change t (statements_in before) (statements_in now) p.0 p.1) ps
+    each change ps are =
+        whole_listed change t (statements_in before) (statements_in now) (length t.alternatives) (answers_of x.block.body) (answers_of y.block.body) ps (true_answers t x before over_before) (true_answers t y now over_now) whole_before whole_now
+        (are ∙ rows_are change t (answers_of x.block.body) (answers_of y.block.body) f.first f.second shows_first shows_second)
+
 -- what a change brought is what was turned round, as it is now, and what is new
 brought_are : (before now : Square) (d : Differences) → AreDifferences before now d → brought before now ≡ turned_pairs d.turned ++ d.new
 brought_are before now d are = rw (are.turned, are.new) refl
 
-change_means : (sought : Bool) (t : DecisionTable) (x y : KeptLine) (before now : List Numbered) (f : ChangeFound) → y.standing ≡ Some now → IsReadyOver t x before → IsReadyOver t y now → IsRelationPage t (answers_of x.block.body) f.first → IsRelationPage t (answers_of y.block.body) f.second → AreDifferences (known f.first.rows) (known f.second.rows) f.pairs → AreCarriedWhere sought t y (brought (known f.first.rows) (known f.second.rows)) f.brought → MeansChange sought t before now f
+change_means : (sought : Bool) (t : DecisionTable) (x y : KeptLine) (before now : List Numbered) (f : ChangeFound) → y.standing ≡ Some now → IsReadyOver t x before → IsReadyOver t y now → IsRelationPage t (answers_of x.block.body) f.first → IsRelationPage t (answers_of y.block.body) f.second → AreDifferences (known f.first.rows) (known f.second.rows) f.pairs → AreCarriedWhere sought t y (brought (known f.first.rows) (known f.second.rows)) f.brought → MeansChange sought t (answers_of x.block.body) (answers_of y.block.body) before now f
 change_means sought t x y before now f stood over_before over_now first second pairs carried = record {
   turned = page_means changes.TurnedRound t x y before now f.first f.second f.pairs.turned over_before over_now first second pairs.turned;
   no_longer = page_means changes.NoLonger t x y before now f.first f.second f.pairs.no_longer over_before over_now first second pairs.no_longer;
   stayed = page_means changes.Stayed t x y before now f.first f.second f.pairs.stayed over_before over_now first second pairs.stayed;
   new = page_means changes.New t x y before now f.first f.second f.pairs.new over_before over_now first second pairs.new;
-  brought = carried_where sought t y now (brought (known f.first.rows) (known f.second.rows)) f.brought stood (λ pair c there is. brought_is_carried t now (answers_of x.block.body) (answers_of y.block.body) f.first f.second pair c first second there is) carried;
+  whole = whole_means t x y before now f over_before over_now first second pairs;
+  brought = carried_where (MeansCarried t now) sought t y now (brought (known f.first.rows) (known f.second.rows)) f.brought stood (λ pair c there is. brought_is_carried t now (answers_of x.block.body) (answers_of y.block.body) f.first f.second pair c first second there is) carried;
+  why = carried_where (MeansPair t now) sought t y now (brought (known f.first.rows) (known f.second.rows)) f.brought stood (λ pair c there is. pair_told t y now pair c over_now (brought_said t (answers_of x.block.body) (answers_of y.block.body) f.first f.second pair first second there) is) carried;
   each = λ yes_. each_where sought t y now (brought (known f.first.rows) (known f.second.rows)) f.brought stood carried yes_ ∙ brought_are (known f.first.rows) (known f.second.rows) f.pairs pairs;
 }
 
-pub changes_mean : (sought : Bool) (g : Ground) (fs : List ChangeFound) (f : ChangeFound) (x y : KeptLine) (before now : List Numbered) → IsJudged g → AreChangesFound sought g fs → Contains fs f → slice_get g.kept f.before ≡ Some x → x.standing ≡ Some before → slice_get g.kept f.now ≡ Some y → y.standing ≡ Some now → MeansChange sought g.table before now f
+pub changes_mean : (sought : Bool) (g : Ground) (fs : List ChangeFound) (f : ChangeFound) (x y : KeptLine) (before now : List Numbered) → IsJudged g → AreChangesFound sought g fs → Contains fs f → slice_get g.kept f.before ≡ Some x → x.standing ≡ Some before → slice_get g.kept f.now ≡ Some y → y.standing ≡ Some now → MeansChange sought g.table (answers_of x.block.body) (answers_of y.block.body) before now f
 changes_mean sought g fs f x y before now judged are there at_before stood_before at_now stood_now =
     let one = made_for (IsChangeFound sought g) (turns g.session g.kept) fs f there are in
     let is = one.1 in

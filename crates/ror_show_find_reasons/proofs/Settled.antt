@@ -1,5 +1,5 @@
 -- What settles a bound, by the answer that excludes the class beyond it.
-use Rattle.std.proofs.Common.{◌≡◌, ℕ, true, List, Option, refl, sym, ap, subst}
+use Rattle.std.proofs.Common.{◌≡◌, ℕ, true, List, refl, ap, subst}
 use Rattle.std.specs.Prelude.{◌==◌}
 use Rattle.std.proofs.lemmas.Bool.{eqb-true}
 use Rattle.ror_show_ground.proofs.Tests.{both-true}
@@ -17,9 +17,8 @@ use Rattle.ror_show_ground.specs.Sound.{IsSoundAnswer}
 use Rattle.ror_pivot.specs.declared.note.Bits.TheVariants.{B127}
 use Rattle.ror_pivot.specs.Answers.{most_of}
 use Rattle.ror_reason.specs.declared.reducts.Reason.{Reason}
-use Rattle.ror_reason.specs.declared.reducts.Reason.TheVariants as reasons
 use Rattle.ror_reason.specs.Reasons.{IsReasonOf}
-use Rattle.ror_show_find_reasons.specs.Carrying.{IsReasonFor, numbers_of, AreNumbersFor, Carries}
+use Rattle.ror_show_find_reasons.specs.Carrying.{IsReasonFor}
 use Rattle.ror_show_find_reasons.specs.declared.bounds.Side.{Side}
 use Rattle.ror_show_find_reasons.specs.Bounds.{is_beyond, is_no_beyond, excludes}
 
@@ -56,15 +55,7 @@ proved_no t list side end a x is sound = record { question = refl; proof = by x.
     by (verdicts.Contradiction proof) no_ h = h
     by (verdicts.Wide system note) no_ h = absurd no_
 
--- ---- the numbers in its reason
-
-of_reason : (t : DecisionTable) (list : List Numbered) (a h : ℕ) (reason : Reason) → IsReasonOf (most_of B127) t list (PossibleClass a h) conclusions.No reason → Carries t list (PossibleClass a h) conclusions.No (numbers_of reason)
-of_reason t list a h (reasons.Carried x) is = is.1
-of_reason t list a h (reasons.Wide ns x others) is = (ns, x, others, is)
-of_reason t list a h (reasons.OneHas x) is = absurd (let p = is.0 in cc)
-of_reason t list a h (reasons.OneLacks x) is = absurd (let p = is.0 in cc)
-of_reason t list a h (reasons.ClassLeft x) is = absurd (let p = is.0 in cc)
-of_reason t list a h (reasons.WhollyWide system note) is = absurd is
+-- ---- its reason
 
 for_no : (t : DecisionTable) (list : List Numbered) (q : Question) (v : Verdict) (reason : Reason) → OfProof (λ c proof. c ≡ conclusions.No) v → IsReasonFor t list q v reason → IsReasonOf (most_of B127) t list q conclusions.No reason
 unfolding IsReasonFor
@@ -73,10 +64,6 @@ for_no t list q (verdicts.No proof) reason no_ h = h
 for_no t list q (verdicts.Contradiction proof) reason no_ h = absurd (let p = no_ in cc)
 for_no t list q (verdicts.Wide system note) reason no_ h = absurd no_
 
-pub carries_no : (t : DecisionTable) (list : List Numbered) (side : Side) (end a : ℕ) (q : Question) (v : Verdict) (numbers : Option (List ℕ)) → is_no_beyond side end a q v ≡ true → AreNumbersFor t list q v numbers → Carries t list q conclusions.No numbers
-carries_no t list side end a q v numbers is are =
-    let said = says_no side end a q v is in
-    let of = for_no t list q v are.0 said.concludes are.1 in
-    let about = subst (λ (p : Question). IsReasonOf (most_of B127) t list p conclusions.No are.0) said.asks of in
-    let carry = subst (Carries t list (PossibleClass a said.class) conclusions.No) (sym are.2) (of_reason t list a said.class are.0 about) in
-    subst (λ (p : Question). Carries t list p conclusions.No numbers) (sym said.asks) carry
+pub no_reason : (t : DecisionTable) (list : List Numbered) (side : Side) (end a : ℕ) (q : Question) (v : Verdict) (reason : Reason) (said : IsNo side end a q v) → IsReasonFor t list q v reason → IsReasonOf (most_of B127) t list (PossibleClass a said.class) conclusions.No reason
+no_reason t list side end a q v reason said h =
+    subst (λ (p : Question). IsReasonOf (most_of B127) t list p conclusions.No reason) said.asks (for_no t list q v reason said.concludes h)

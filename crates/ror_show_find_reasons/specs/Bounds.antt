@@ -17,6 +17,8 @@ use Rattle.ror_pivot.specs.Answers.{most_of}
 use Rattle.ror_report.specs.Text.{answers_of}
 use Rattle.ror_bench.specs.declared.kept.KeptLine.{KeptLine}
 use Rattle.ror_show_ground.specs.Meaning.{ByEvery}
+use Rattle.ror_reason.specs.declared.reducts.Reason.{Reason}
+use Rattle.ror_reason.specs.declared.reducts.Reason.TheVariants as reasons
 use Rattle.ror_reason.specs.Reasons.{IsWideReason}
 use Rattle.ror_reason.specs.Reducts.{stated, without}
 use Rattle.ror_show_find_classes.specs.Signs.{alternative_of}
@@ -30,7 +32,7 @@ use Rattle.ror_show_find_reasons.specs.declared.bounds.Side.TheVariants.{Below, 
 use Rattle.ror_show_find_reasons.specs.declared.bounds.Bound.{Bound}
 use Rattle.ror_show_find_reasons.specs.declared.bounds.Bounds.{Bounds}
 use Rattle.ror_show_find_reasons.specs.declared.bounds.ClassesFound.{ClassesFound}
-use Rattle.ror_show_find_reasons.specs.Carrying.{Carries}
+use Rattle.ror_show_find_reasons.specs.Carrying.{HasReason}
 
 -- ---- which answer settles it
 
@@ -58,10 +60,10 @@ excludes side end a x = is_no_beyond side end a x.question x.verdict
 
 -- ---- what is found
 
--- the bound that an answer settles, with statements that carry that the answer is no, which may be one of several parts that do
+-- the bound that an answer settles, with the reason why the answer is no, which may be one of several
 abbrev pub IsBoundBy : ℕ → DecisionTable → List Numbered → Answer → Option Bound → Type 0
-IsBoundBy end t list x f = (numbers : Option (List ℕ)) × Carries t list x.question conclusions.No numbers
-    × (f ≡ Some (record { class = end; numbers = numbers }))
+IsBoundBy end t list x f = (reason : Reason) × HasReason t list x.question x.verdict (Some reason)
+    × (f ≡ Some (record { class = end; reason = reason }))
 
 -- none, where no answer does
 abbrev pub IsBoundWhere : ℕ → DecisionTable → List Numbered → Option Answer → Option Bound → Type 0
@@ -134,12 +136,13 @@ pub record AreNeeded (side : Side) (t : DecisionTable) (list : List Numbered) (a
   pub settle : IsWithin side t (stated ns list) a end
   pub needed : AllByRecursion (λ n. IsWithin side t (stated (without n ns) list) a end → ⊥) ns
 
--- they are that; and where no numbers are given, a part of the list excludes the class beyond the end of which that isn't known, since over
--- the others of some statement of it a number passes the greatest width
-abbrev pub AreNeededOrWide : Side → DecisionTable → List Numbered → ℕ → ℕ → ℕ → Option (List ℕ) → Type 0
-AreNeededOrWide side t list a end h (Some ns) = AreNeeded side t list a end ns
-AreNeededOrWide side t list a end h None = (ns : List ℕ) × (x : Answer) × (others : List Answer)
-    × IsWideReason (most_of B127) t list (PossibleClass a h) conclusions.No ns x others
+-- they are that; or they exclude the class beyond the end, and of some of them that isn't known, since over the others a number passes the
+-- greatest width
+abbrev pub SettlesBound : Side → DecisionTable → List Numbered → ℕ → ℕ → ℕ → Reason → Type 0
+SettlesBound side t list a end h (reasons.Carried x) = AreNeeded side t list a end x.numbers
+SettlesBound side t list a end h (reasons.Wide ns x others) =
+    IsWideReason (most_of B127) t list (PossibleClass a h) conclusions.No ns x others
+SettlesBound side t list a end h _ = ⊥
 
 -- the class is the next one below the least that is left, or above the greatest
 abbrev pub IsNextTo : Side → ℕ → ℕ → Type 0
@@ -152,4 +155,4 @@ pub record MeansBound (side : Side) (t : DecisionTable) (list : List Numbered) (
   pub from : 1 ≤ class
   pub within : class ≤ t.classes
   pub next : IsNextTo side f.class class
-  pub named : AreNeededOrWide side t list a f.class class f.numbers
+  pub named : SettlesBound side t list a f.class class f.reason

@@ -1,7 +1,6 @@
 -- Which statements carry an answer, and why an answer is what it is, at the greatest width.
 use Rattle.std.specs.Prelude.{◌≡◌, ℕ, Bool, true, false, List, Option, Some, None}
 use Rattle.ror_statement.specs.declared.statement.Numbered.{Numbered}
-use Rattle.ror_statement.specs.declared.question.Conclusion.{Conclusion}
 use Rattle.ror_statement.specs.declared.question.Conclusion.TheVariants as conclusions
 use Rattle.ror_statement.specs.declared.question.Question.{Question}
 use Rattle.ror_statement.specs.Questions.{kind_of, property_of}
@@ -15,8 +14,8 @@ use Rattle.ror_pivot.specs.Answers.{most_of}
 use Rattle.ror_given.specs.Answers.{IsVerdictWithin}
 use Rattle.ror_reason.specs.declared.reducts.Reason.{Reason}
 use Rattle.ror_reason.specs.declared.reducts.Reason.TheVariants as reasons
-use Rattle.ror_reason.specs.Reasons.{IsReasonOf, IsReasonWithin, IsWideReason}
-use Rattle.ror_reason.specs.Reducts.{IsReduct, rests_on_part}
+use Rattle.ror_reason.specs.Reasons.{IsReasonOf, IsReasonWithin}
+use Rattle.ror_reason.specs.Reducts.{rests_on_part}
 
 -- it is the reason of an answer with this verdict, as the greatest width gives it
 unfoldable pub IsReasonFor : DecisionTable → List Numbered → Question → Verdict → Reason → Type 0
@@ -26,15 +25,6 @@ IsReasonFor t list q v reason = OfProof (λ c proof. IsReasonOf (most_of B127) t
 abbrev pub numbers_of : Reason → Option (List ℕ)
 numbers_of (reasons.Carried x) = Some x.numbers
 numbers_of _ = None
-
-abbrev pub AreNumbersFor : DecisionTable → List Numbered → Question → Verdict → Option (List ℕ) → Type 0
-AreNumbersFor t list q v numbers = (reason : Reason) × IsReasonFor t list q v reason × (numbers ≡ numbers_of reason)
-
--- The numbers are those of a reduct of an answer: over the statements that they name it is concluded, and without any one of these it
--- isn't. None stands where for some statement of a part that carries the answer the answer over the others passes the greatest width.
-abbrev pub Carries : DecisionTable → List Numbered → Question → Conclusion → Option (List ℕ) → Type 0
-Carries t list q c (Some numbers) = IsReduct t list q c numbers
-Carries t list q c None = (ns : List ℕ) × (x : Answer) × (others : List Answer) × IsWideReason (most_of B127) t list q c ns x others
 
 -- ---- why an answer is what it is
 

@@ -26,8 +26,8 @@ use Rattle.ror_show_find_reasons.specs.Bounds.{end_of, IsNextTo, IsBound, MeansB
 use Rattle.ror_show_find_reasons.specs.Lines.{clash_list, IsConflict}
 
 -- What is found with an arrow on the page of a relation carries it: some function agrees with the statements that it names, and every one
--- that does has the first alternative at least as good as the second; of those that agree with all of them but one, not every one has. Where
--- it names none, a number is too wide.
+-- that does has the first alternative at least as good as the second; of those that agree with all of them but one, not every one has; or of some
+-- of them that isn't known. There is a reason for each arrow.
 abbrev pub ArrowsAreCarried : Type 0
 ArrowsAreCarried = (t : DecisionTable) (list : List Numbered) (xs : List Answer) (page : RelationPage) (arrow : ℕ × ℕ)
     (f : CarriedPair) → IsRelationPage t xs page → Contains {X = ℕ × ℕ} page.arrows arrow

@@ -1,6 +1,7 @@
 -- What carries the arrows of a relation, and the pairs that a change brought.
 use Rattle.std.specs.Prelude.{◌≡◌, ◌==◌, ◌<◌, ℕ, Bool, true, false, ◌&&◌, List, [], slice_get, Option, Some, None}
 use Rattle.std.specs.List.{find, AllByRecursion, AllZip}
+use Rattle.std.specs.Option.{option_and_then}
 use Rattle.ror_statement.specs.declared.statement.Numbered.{Numbered}
 use Rattle.ror_statement.specs.declared.question.Conclusion.TheVariants as conclusions
 use Rattle.ror_statement.specs.declared.question.Question.{Question}
@@ -19,6 +20,8 @@ use Rattle.ror_bench.specs.declared.kept.KeptLine.{KeptLine}
 use Rattle.ror_show_find_relation.specs.Relations.{Square}
 use Rattle.ror_show_find_relation.specs.declared.page.RelationPage.{RelationPage}
 use Rattle.ror_show_find_relation.specs.Pages.{IsRelationPage, known}
+use Rattle.ror_reason.specs.declared.reducts.Reason.{Reason}
+use Rattle.ror_reason.specs.declared.reducts.Reason.TheVariants as reasons
 use Rattle.ror_reason.specs.Reasons.{IsWideReason}
 use Rattle.ror_reason.specs.Reducts.{stated, without}
 use Rattle.ror_show_find_relation.specs.Brought.{brought}
@@ -32,7 +35,7 @@ use Rattle.ror_show_find_reasons.specs.declared.changes.Between.{Between}
 use Rattle.ror_show_find_reasons.specs.declared.pairs.CarriedPair.{CarriedPair}
 use Rattle.ror_show_find_reasons.specs.declared.pairs.ChangeFound.{ChangeFound}
 use Rattle.ror_show_find_reasons.specs.declared.pairs.RelationFound.{RelationFound}
-use Rattle.ror_show_find_reasons.specs.Carrying.{Carries}
+use Rattle.ror_show_find_reasons.specs.Carrying.{HasReason, numbers_of}
 
 -- ---- which answer says it
 
@@ -44,20 +47,24 @@ is_yes_over arrow _ _ = false
 abbrev pub says_over : ℕ × ℕ → Answer → Bool
 says_over arrow x = is_yes_over arrow x.question x.verdict
 
--- which statements carry it, where an answer says it, and none where none does
-abbrev pub CarriesWhere : DecisionTable → List Numbered → ℕ × ℕ → Option Answer → Option (List ℕ) → Type 0
-CarriesWhere t list arrow (Some x) numbers = Carries t list (Necessary arrow.0 arrow.1) conclusions.Yes numbers
-CarriesWhere t list arrow None numbers = numbers ≡ None
+-- why it is so, where an answer says it, and none where none does
+abbrev pub CarriesWhere : DecisionTable → List Numbered → Option Answer → Option Reason → Type 0
+CarriesWhere t list (Some x) told = HasReason t list x.question x.verdict told
+CarriesWhere t list None told = told ≡ None
 
--- of what some answers say
-abbrev pub IsCarriedBy : DecisionTable → List Numbered → List Answer → ℕ × ℕ → Option (List ℕ) → Type 0
-IsCarriedBy t list xs arrow numbers = CarriesWhere t list arrow (find (says_over arrow) xs) numbers
+-- by what some answers say
+abbrev pub IsCarriedBy : DecisionTable → List Numbered → List Answer → ℕ × ℕ → Option Reason → Type 0
+IsCarriedBy t list xs arrow told = CarriesWhere t list (find (says_over arrow) xs) told
 
 -- ---- what is found
 
--- a pair, with statements that carry it, which may be one of several parts that do
+-- the numbers of what carries a pair; none where it isn't known which statements can be spared
+abbrev pub carrying_numbers : CarriedPair → Option (List ℕ)
+carrying_numbers f = option_and_then numbers_of f.reason
+
+-- a pair, with the reason that carries it, which may be one of several that do
 abbrev pub IsCarriedPair : DecisionTable → List Numbered → List Answer → ℕ × ℕ → CarriedPair → Type 0
-IsCarriedPair t list xs pair f = (f.pair ≡ pair) × IsCarriedBy t list xs pair f.numbers
+IsCarriedPair t list xs pair f = (f.pair ≡ pair) × IsCarriedBy t list xs pair f.reason
 
 -- one for each pair, in order
 abbrev pub AreCarriedPairs : DecisionTable → List Numbered → List Answer → List (ℕ × ℕ) → List CarriedPair → Type 0
@@ -139,12 +146,17 @@ pub record AreNeeded (t : DecisionTable) (list : List Numbered) (arrow : ℕ × 
   pub carry : IsNecessarilyPreferred t (stated ns list) arrow.0 arrow.1
   pub needed : AllByRecursion (λ n. IsNecessarilyPreferred t (stated (without n ns) list) arrow.0 arrow.1 → ⊥) ns
 
--- they are that; and where no numbers are given, a part of the list carries it of which that isn't known, since over the others of some
--- statement of it a number passes the greatest width
-abbrev pub AreNeededOrWide : DecisionTable → List Numbered → ℕ × ℕ → Option (List ℕ) → Type 0
-AreNeededOrWide t list arrow (Some ns) = AreNeeded t list arrow ns
-AreNeededOrWide t list arrow None = (ns : List ℕ) × (x : Answer) × (others : List Answer)
-    × IsWideReason (most_of B127) t list (Necessary arrow.0 arrow.1) conclusions.Yes ns x others
+-- they are that; or they carry it, and of some of them that isn't known, since over the others a number passes the greatest width
+abbrev pub CarriesPair : DecisionTable → List Numbered → ℕ × ℕ → Reason → Type 0
+CarriesPair t list arrow (reasons.Carried x) = AreNeeded t list arrow x.numbers
+CarriesPair t list arrow (reasons.Wide ns x others) =
+    IsWideReason (most_of B127) t list (Necessary arrow.0 arrow.1) conclusions.Yes ns x others
+CarriesPair t list arrow _ = ⊥
+
+-- there is a reason
+abbrev pub MeansCarriedBy : DecisionTable → List Numbered → ℕ × ℕ → Option Reason → Type 0
+MeansCarriedBy t list arrow (Some reason) = CarriesPair t list arrow reason
+MeansCarriedBy t list arrow None = ⊥
 
 abbrev pub MeansCarried : DecisionTable → List Numbered → CarriedPair → Type 0
-MeansCarried t list f = AreNeededOrWide t list f.pair f.numbers
+MeansCarried t list f = MeansCarriedBy t list f.pair f.reason

@@ -1,9 +1,12 @@
 //! Bounds of the classes between which an alternative is, as values.
 
-ghost use Rattle.std.specs.Prelude.{◌≡◌};
+ghost use Rattle.std.specs.Prelude.{◌≡◌, option_map};
+ghost use Rattle.ror_show_find_reasons.specs.Carrying.{numbers_of};
 ghost use Rattle.ror_show_find_reasons.specs.Bounds as spec;
 
+use crate::numbers::numbers_of;
 use ror_proof::Answer;
+use ror_reason::Reason;
 use ror_show_find_classes::{TimeFound, highest, lowest};
 use ror_text::Items;
 
@@ -14,12 +17,20 @@ pub enum Side {
     Above,
 }
 
-/// The least class that is left, or the greatest, and statements that exclude the one beyond it.
+/// The least class that is left, or the greatest, and why the one beyond it is excluded.
 #[derive(Debug, Drop)]
 pub struct Bound {
     pub class: u32,
-    /// Their numbers, of which none can be spared; none where a number is too wide to know which.
-    pub numbers: Option<Items<u32>>,
+    pub reason: Reason,
+}
+
+impl Bound {
+    /// The numbers of statements that settle it, of which none can be spared; none where a number is too wide to know which.
+    pub fn numbers(&self) -> Option<&[u32]>
+        ensures { option_map (λ x. x.now) result ≡ numbers_of self.now.reason }
+    {
+        numbers_of(&self.reason)
+    }
 }
 
 /// What is found on each side; none where no answer excludes a class there.

@@ -12,14 +12,14 @@ ghost use Rattle.ror_reason.specs.Reasons.{IsReasonWithin};
 ghost use Rattle.ror_report.specs.Text.{answers_of};
 ghost use Rattle.ror_show_ground.specs.Ready.{IsReady};
 ghost use Rattle.ror_show_ground.specs.Stood.{stood_of, IsStood};
-ghost use Rattle.ror_show_find_reasons.specs.Carrying.{IsReasonFor, AreNumbersFor, numbers_of};
+ghost use Rattle.ror_show_find_reasons.specs.Carrying.{IsReasonFor, HasReason};
 ghost use Rattle.ror_show_find_reasons.specs.Pairs as spec;
 
 use crate::pairs::CarriedPair;
 use ror_bench::KeptLine;
 use ror_pivot::Bits;
 use ror_proof::{Answer, Verdict};
-use ror_reason::{Reason, Reduct, reduct_of};
+use ror_reason::{Reason, reduct_of};
 use ror_show_ground::{Stood, stood_at};
 use ror_statement::Question;
 use ror_table::Table;
@@ -92,23 +92,22 @@ fn find_pair(
     requires { IsStood (stood_of stood.now) }
     ensures { IfOk result (spec.IsCarriedPair stood.now.table.now stood.now.list.now stood.now.answers.now pair) }
 {
-    let numbers = carrying_of(alloc, engine, stood, pair)?;
-    Ok(CarriedPair { pair, numbers })
+    let reason = carrying_of(alloc, engine, stood, pair)?;
+    Ok(CarriedPair { pair, reason })
 }
 
-/// The numbers of statements that carry that the one is at least as good as the other, of which none can be spared; none where that
-/// isn't known of some of them, or where no answer says that it is.
+/// Why the one is at least as good as the other by every function; none where no answer says that it is.
 fn carrying_of(
     alloc: Global,
     engine: &mut Engine,
     stood: &Stood<'_>,
     arrow: (usize, usize),
-) -> Result<Option<Items<u32>>, AllocError>
+) -> Result<Option<Reason>, AllocError>
     requires { IsStood (stood_of stood.now) }
     ensures { IfOk result (spec.IsCarriedBy stood.now.table.now stood.now.list.now stood.now.answers.now arrow) }
 {
     match answer_over(stood.answers, arrow) {
-        Some(answer) => carrying_by(alloc, engine, stood, answer),
+        Some(answer) => told_by(alloc, engine, stood, answer),
         None => Ok(None),
     }
 }
@@ -130,43 +129,26 @@ fn says_over(answer: &Answer, arrow: (usize, usize)) -> bool
     }
 }
 
-/// The numbers of statements that carry an answer over the list, of which none can be spared: those of a reduct. None where that isn't known
-/// of some of them, since over the others a number is too wide, and where no statement carries the answer.
+/// Why an answer over what stood is what it is, as one of those that are kept.
 ///
 /// The question of the answer is valid for the table, and the answer has its proof. An engine that may have decided others before decides
 /// which statements can be spared.
-pub(crate) fn carrying_by(
+pub(crate) fn told_by(
     alloc: Global,
     engine: &mut Engine,
     stood: &Stood<'_>,
     answer: &Answer,
-) -> Result<Option<Items<u32>>, AllocError>
+) -> Result<Option<Reason>, AllocError>
     requires stood { IsStood (stood_of stood.now) }
     requires asked { IsAskedIn stood.now.table.now answer.now.question }
     requires proved { IsProvedAnswer stood.now.table.now (statements_in stood.now.list.now) answer.now.question answer.now }
-    ensures { IfOk result (AreNumbersFor stood.now.table.now stood.now.list.now answer.now.question answer.now.verdict) }
+    ensures { IfOk result (HasReason stood.now.table.now stood.now.list.now answer.now.question answer.now.verdict) }
 {
     let reason = reason_over(alloc, engine, stood, answer)?;
-    Ok(numbers_in(reason))
+    Ok(Some(reason))
 }
 
-/// The numbers of a reduct.
-fn numbers_in(reason: Reason) -> Option<Items<u32>>
-    ensures { result ≡ numbers_of reason }
-{
-    match reason {
-        Reason::Carried(reduct) => Some(numbers_of(reduct)),
-        _ => None,
-    }
-}
-
-fn numbers_of(reduct: Reduct) -> Items<u32>
-    ensures { result ≡ reduct.numbers }
-{
-    reduct.numbers
-}
-
-/// Why an answer over what stood is what it is.
+/// The reason itself.
 pub(crate) fn reason_over(
     alloc: Global,
     engine: &mut Engine,

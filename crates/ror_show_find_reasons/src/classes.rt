@@ -26,7 +26,7 @@ pub fn find_classes(
     requires { IsJudged (ground_of ground.now) }
     ensures { IfOk result (spec.AreClassesFound sought (ground_of ground.now)) }
 {
-    let starts = all_times(alloc, ground.session, ground.kept)?;
+    let starts = all_times(alloc, ground)?;
     classes_at(alloc, ground, sought, starts.as_slice())
 }
 

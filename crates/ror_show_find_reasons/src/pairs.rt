@@ -1,14 +1,31 @@
 //! Pairs of alternatives with what carries them, as values.
 
+ghost use Rattle.std.specs.Prelude.{◌≡◌, option_map};
+ghost use Rattle.ror_show_find_reasons.specs.Pairs as spec;
+
+use crate::numbers::numbers_of;
+use ror_reason::Reason;
 use ror_show_find_relation::{Differences, RelationPage};
 use ror_text::Items;
 
-/// An ordered pair, and statements that carry that the first is at least as good as the second.
+/// An ordered pair, and why the first is at least as good as the second by every function.
 #[derive(Debug, Drop)]
 pub struct CarriedPair {
     pub pair: (usize, usize),
-    /// Their numbers, of which none can be spared; none where a number is too wide to know which.
-    pub numbers: Option<Items<u32>>,
+    /// None where no answer says that it is.
+    pub reason: Option<Reason>,
+}
+
+impl CarriedPair {
+    /// The numbers of statements that carry it, of which none can be spared; none where a number is too wide to know which.
+    pub fn numbers(&self) -> Option<&[u32]>
+        ensures { option_map (λ x. x.now) result ≡ spec.carrying_numbers self.now }
+    {
+        match &self.reason {
+            Some(reason) => numbers_of(reason),
+            None => None,
+        }
+    }
 }
 
 /// What holds between the alternatives at a line.

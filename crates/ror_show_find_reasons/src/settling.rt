@@ -1,6 +1,6 @@
 //! Which statements settle the bounds of an alternative.
 
-ghost use Rattle.std.specs.Prelude.{◌≡◌, true, IfOk};
+ghost use Rattle.std.specs.Prelude.{◌≡◌, Ok, Err, IfOk};
 ghost use Rattle.std.specs.Option.{option_map};
 ghost use Rattle.std.specs.List.{find};
 ghost use Rattle.ror_statement.specs.Statements.{statements_in};
@@ -13,7 +13,7 @@ ghost use Rattle.ror_show_ground.specs.Stood.{stood_of, IsStood};
 ghost use Rattle.ror_show_find_reasons.specs.Bounds as spec;
 
 use crate::bounds::{Bound, Bounds, Side, end_of, is_beyond};
-use crate::carrying::carrying_by;
+use crate::carrying::reason_over;
 use ror_bench::KeptLine;
 use ror_proof::{Answer, Verdict};
 use ror_show_find_classes::alternative_of;
@@ -74,8 +74,28 @@ fn find_both(alloc: Global, engine: &mut Engine, stood: &Stood<'_>) -> Result<Bo
     ensures { IfOk result (spec.AreBounds stood.now.table.now stood.now.list.now stood.now.answers.now) }
 {
     let below = find_bound(alloc, engine, stood, Side::Below)?;
-    let above = find_bound(alloc, engine, stood, Side::Above)?;
-    Ok(Bounds { below, above })
+    let above = find_bound(alloc, engine, stood, Side::Above);
+    both_of(below, above)
+}
+
+/// Both, where the one above is found. What is dropped on some paths alone takes long to prove, so each way takes the one below over.
+fn both_of(
+    below: Option<Bound>,
+    above: Result<Option<Bound>, AllocError>,
+) -> Result<Bounds, AllocError>
+    ensures { IfOk result (λ bounds. (bounds.below ≡ below) × (above ≡ Ok bounds.above)) }
+{
+    match above {
+        Ok(above) => Ok(Bounds { below, above }),
+        Err(error) => stopped(below, error),
+    }
+}
+
+fn stopped(below: Option<Bound>, error: AllocError) -> Result<Bounds, AllocError>
+    ensures { result ≡ Err error }
+{
+    drop(below);
+    Err(error)
 }
 
 /// The bound on a side, none where no answer excludes a class there.
@@ -104,7 +124,7 @@ fn bound_from(
     ensures { IfOk result (spec.IsBoundFrom side end stood.now.table.now stood.now.list.now stood.now.answers.now) }
 {
     match excluding(stood.answers, side, end) {
-        Some(answer) => bound_by(alloc, engine, stood, side, end, answer),
+        Some(answer) => bound_by(alloc, engine, stood, end, answer),
         None => Ok(None),
     }
 }
@@ -134,19 +154,14 @@ fn bound_by(
     alloc: Global,
     engine: &mut Engine,
     stood: &Stood<'_>,
-    side: Side,
     end: u32,
     answer: &Answer,
 ) -> Result<Option<Bound>, AllocError>
     requires stood { IsStood (stood_of stood.now) }
     requires asked { IsAskedIn stood.now.table.now answer.now.question }
     requires proved { IsProvedAnswer stood.now.table.now (statements_in stood.now.list.now) answer.now.question answer.now }
-    requires excludes { spec.excludes side end (alternative_of stood.now.answers.now) answer.now ≡ true }
     ensures { IfOk result (spec.IsBoundBy end stood.now.table.now stood.now.list.now answer.now) }
 {
-    let numbers = carrying_by(alloc, engine, stood, answer)?;
-    Ok(Some(Bound {
-        class: end,
-        numbers,
-    }))
+    let reason = reason_over(alloc, engine, stood, answer)?;
+    Ok(Some(Bound { class: end, reason }))
 }

@@ -3,19 +3,17 @@
 ghost use Rattle.std.specs.Prelude.{◌≡◌, ◌<◌, ◌++◌, length, if◌then◌else◌, [], ◌∷◌, IfOk, OnOk};
 ghost use Rattle.std.specs.List.{AllByRecursion, AllZip};
 ghost use Rattle.ror_statement.specs.Statements.{statements_in};
-ghost use Rattle.ror_statement.specs.Questions as questions;
 ghost use Rattle.ror_show_ground.specs.Sound.{IsSoundAnswer};
-ghost use Rattle.ror_reason.specs.Reducts as reducts;
 ghost use Rattle.ror_show_ground.specs.Stood.{stood_of, IsStood};
 ghost use Rattle.ror_show_find_reasons.specs.Carrying.{IsTold, is_carried};
 ghost use Rattle.ror_show_find_reasons.specs.Lines as spec;
 
-use crate::carrying::reason_over;
+use crate::carrying::told_by;
 use crate::lines::{Meant, Told};
 use ror_proof::{Answer, Verdict};
-use ror_reason::Reason;
+use ror_reason::{Reason, rests_on_part};
 use ror_show_ground::{Stood, is_wide};
-use ror_statement::{Conclusion, Pair, Property, Question, QuestionKind, kind_of};
+use ror_statement::{Conclusion, Pair, Question};
 use ror_text::Items;
 use ror_warm::Engine;
 use std::alloc::{AllocError, Global};
@@ -93,8 +91,7 @@ fn find_reason(
     if is_wide(&answer.verdict) {
         return Ok(None);
     }
-    let reason = reason_over(alloc, engine, stood, answer)?;
-    Ok(Some(reason))
+    told_by(alloc, engine, stood, answer)
 }
 
 /// The places of the answers that are told.
@@ -168,17 +165,5 @@ pub fn is_carried(answer: &Answer) -> bool
         Verdict::No(_) => rests_on_part(&answer.question, Conclusion::No),
         Verdict::Contradiction(_) => true,
         Verdict::Wide { .. } => false,
-    }
-}
-
-/// Whether statements carry that a question is answered so.
-pub fn rests_on_part(question: &Question, conclusion: Conclusion) -> bool
-    ensures { result ≡ reducts.rests_on_part (questions.kind_of question.now) (questions.property_of question.now) conclusion }
-{
-    match (kind_of(question), question.property(), conclusion) {
-        (_, _, Conclusion::Contradiction) => true,
-        (QuestionKind::Every, Property::AtLeast(_), Conclusion::Yes) => true,
-        (QuestionKind::Any, _, Conclusion::No) => true,
-        _ => false,
     }
 }

@@ -15,3 +15,5 @@ pub mod CountLemmas
 pub mod Listed
 pub mod DifferenceLemmas
 pub mod DominanceLemmas
+pub mod WholeCells
+pub mod WholeChanges

@@ -15,3 +15,4 @@ pub mod DifferenceLaws
 pub mod Differences
 pub mod OrderLaws
 pub mod Passes
+pub mod WholeLaws

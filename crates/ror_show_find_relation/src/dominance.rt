@@ -32,7 +32,7 @@ fn dominated_by(alloc: Global, table: &Table, a: usize) -> Result<Items<bool>, A
 }
 
 /// Whether the one is on no criterion worse than the other.
-fn dominates(table: &Table, a: usize, b: usize) -> bool
+pub fn dominates(table: &Table, a: usize, b: usize) -> bool
     requires first { a < length table.now.alternatives }
     requires second { b < length table.now.alternatives }
     ensures { result ≡ spec.dominates table.now a b }

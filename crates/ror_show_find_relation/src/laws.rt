@@ -4,6 +4,7 @@ ghost use Rattle.ror_show_find_relation.specs.CellLaws.{CellsAreTrue, OneCell, D
 ghost use Rattle.ror_show_find_relation.specs.ChangeLaws.{ListedAreThose, Difference, NothingChanges, ChangesBack};
 ghost use Rattle.ror_show_find_relation.specs.DifferenceLaws.{ListsAreTheDifference, ListedIsTrue};
 ghost use Rattle.ror_show_find_relation.specs.OrderLaws.{Parts, ArrowsAreThose, ArrowsClose, ArrowsAreNeeded, OneLevelling, LevelsAreLongestChains, AcyclicHaveLevels};
+ghost use Rattle.ror_show_find_relation.specs.WholeLaws.{CellsAreWhole, WholeChangesAreTrue};
 
 /// A relation is its strict and its symmetric part, and the strict part of a transitive one is a strict order.
 pub fn parts()
@@ -103,4 +104,14 @@ pub fn lists_are_the_difference()
 /// By true answers what is listed as so before was necessarily so, and what is listed as so now is.
 pub fn listed_is_true()
     ensures { ListedIsTrue }
+{}
+
+/// Where the answers to all questions on a relation are there and none of them is too wide, each cell says something.
+pub fn cells_are_whole()
+    ensures { CellsAreWhole }
+{}
+
+/// Where each cell says something, before and now, what is listed as no longer so isn't necessarily so now, and what is new wasn't before.
+pub fn whole_changes_are_true()
+    ensures { WholeChangesAreTrue }
 {}

@@ -34,6 +34,7 @@ pub use cell::Cell;
 pub use change::{Change, change_of};
 pub use counting::decided_pairs;
 pub use differences::{Differences, brought, differences_between};
+pub use dominance::dominates;
 pub use hasse::arrows;
 pub use level::levels;
 pub use list::changed_pairs;

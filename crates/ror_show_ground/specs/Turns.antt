@@ -7,18 +7,11 @@ use Rattle.ror_session.specs.declared.session.Command.{Command}
 use Rattle.ror_session.specs.declared.session.Command.TheVariants.{Ask}
 use Rattle.ror_session.specs.declared.session.Line.{Line}
 use Rattle.ror_session.specs.declared.session.Session.{Session}
-use Rattle.ror_session.specs.Sound.{desk_name}
 use Rattle.ror_report.specs.declared.block.Body.{Body}
 use Rattle.ror_report.specs.declared.block.Body.TheVariants.{Answers}
 use Rattle.ror_bench.specs.declared.kept.KeptLine.{KeptLine}
-
--- the line of the session that was kept
-abbrev pub line_of : Session → KeptLine → Option Line
-line_of s x = slice_get s.lines x.place
-
--- the name of its desk
-abbrev pub desk_at : Session → KeptLine → List ℕ
-desk_at s x = option_map_or (λ line. desk_name s.desks line) (line_of s x) []
+use Rattle.ror_show_ground.specs.Lines as lines
+use Rattle.ror_show_ground.specs.Lines.{line_of}
 
 abbrev pub asks_for_relation : Command → Bool
 asks_for_relation (Ask asked.Relation) = true
@@ -53,7 +46,7 @@ pair_with n None = []
 
 -- the place of the desk of a kept line among the session's desks
 abbrev pub desk_of : Session → List KeptLine → ℕ → ℕ
-desk_of s kept n = option_map_or (λ x. option_map_or (λ line. line.desk) (line_of s x) 0) (slice_get kept n) 0
+desk_of s kept n = option_map_or (lines.desk_of s) (slice_get kept n) 0
 
 -- those of a line at a place that is at this desk
 abbrev pub turn_at : Session → List KeptLine → ℕ → ℕ → List (ℕ × ℕ)

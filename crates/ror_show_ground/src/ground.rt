@@ -1,9 +1,9 @@
 //! What was read and judged, lent to finders and writers.
 
 ghost use Rattle.std.specs.Prelude.{◌≡◌, [], slice_get, slice_index_or, MatchOption};
-ghost use Rattle.ror_session.specs.Sound.{desk_name};
 ghost use Rattle.ror_show_ground.specs.Lines as spec;
 
+use crate::desk::{desk_name, desk_of};
 use ror_bench::KeptLine;
 use ror_session::{Line, Session};
 use ror_statement::Statement;
@@ -26,10 +26,7 @@ impl<'a> Ground<'a> {
     pub fn desk_of(&self, line: &KeptLine) -> u32
         ensures { result ≡ spec.desk_of self.now.session.now line.now }
     {
-        match self.session.lines.as_slice().get(line.place) {
-            Some(line) => line.desk,
-            None => 0,
-        }
+        desk_of(self.session, line)
     }
 
     /// The name of that desk, empty where it has none.
@@ -37,7 +34,7 @@ impl<'a> Ground<'a> {
         ensures { result.now ≡ spec.desk_at self.now.session.now line.now }
     {
         match self.session.lines.as_slice().get(line.place) {
-            Some(line) => name_in(self.session, line),
+            Some(line) => desk_name(self.session.desks.as_slice(), line),
             None => "",
         }
     }
@@ -58,14 +55,5 @@ impl<'a> Ground<'a> {
             (λ x. slice_get self.now.session.now.lines place ≡ Some x.now) }
     {
         self.session.lines.as_slice().get(place)
-    }
-}
-
-fn name_in<'a>(session: &'a Session, line: &Line) -> &'a str
-    ensures { result.now ≡ desk_name session.now.desks line.now }
-{
-    match session.desks.as_slice().get(line.desk as usize) {
-        Some(name) => name.as_str(),
-        None => "",
     }
 }

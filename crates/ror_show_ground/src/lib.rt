@@ -6,6 +6,7 @@
 //! is from the place of 4 to that of 7.
 #![tactic(auto)]
 
+mod desk;
 mod ground;
 mod heading;
 pub mod laws;
@@ -14,6 +15,7 @@ mod said;
 mod stood;
 mod turns;
 
+pub use desk::desk_name;
 pub use ground::Ground;
 pub use heading::Heading;
 pub use lines::{
@@ -22,4 +24,4 @@ pub use lines::{
 };
 pub use said::{Said, said_by};
 pub use stood::{Stood, stood_at};
-pub use turns::{desk_at, turns_among};
+pub use turns::turns_among;

@@ -1,12 +1,12 @@
 //! Which kept lines follow one another.
 
 ghost use Rattle.std.specs.Prelude.{◌≡◌, ◌++◌, slice_get, IfOk, OnOk};
-ghost use Rattle.ror_session.specs.Sound.{desk_name};
 ghost use Rattle.ror_show_ground.specs.Turns as spec;
 
+use crate::desk::desk_of as desk_of_line;
 use ror_bench::KeptLine;
 use ror_report::Body;
-use ror_session::{Asked, Command, Line, Session};
+use ror_session::{Asked, Command, Session};
 use std::alloc::{AllocError, Global};
 
 /// Each answered line that has one before it at its desk, with the last one before it, by their places among the kept lines, in order of
@@ -126,30 +126,8 @@ fn is_answered(body: &Body) -> bool
 fn desk_of(session: &Session, kept: &[KeptLine], n: usize) -> u32
     ensures { result ≡ spec.desk_of session.now kept.now n }
 {
-    let Some(line) = kept.get(n) else {
-        return 0;
-    };
-    match session.lines.as_slice().get(line.place) {
-        Some(line) => line.desk,
+    match kept.get(n) {
+        Some(line) => desk_of_line(session, line),
         None => 0,
-    }
-}
-
-/// The name of the desk of a kept line.
-pub fn desk_at<'a>(session: &'a Session, line: &KeptLine) -> &'a str
-    ensures { result.now ≡ spec.desk_at session.now line.now }
-{
-    match session.lines.as_slice().get(line.place) {
-        Some(line) => desk_name(session, line),
-        None => "",
-    }
-}
-
-fn desk_name<'a>(session: &'a Session, line: &Line) -> &'a str
-    ensures { result.now ≡ desk_name session.now.desks line.now }
-{
-    match session.desks.as_slice().get(line.desk as usize) {
-        Some(name) => name.as_str(),
-        None => "",
     }
 }

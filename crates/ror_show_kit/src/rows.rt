@@ -56,7 +56,12 @@ pub fn write_row(
     text.extend_from_slice(b"\n")
 }
 
-fn write_columns(
+/// Adds the words of two columns, as a row has them, where the line has so much room left.
+///
+/// # Errors
+///
+/// Only want of memory.
+pub fn write_columns(
     text: &mut Vec<u8>,
     room: usize,
     first: &[u8],

@@ -11,6 +11,7 @@ use Rattle.ror_show_find_reasons.specs.declared.bounds.Side.TheVariants.{Below, 
 use Rattle.ror_show_find_reasons.specs.declared.bounds.Bound.{Bound}
 use Rattle.ror_show_find_reasons.specs.declared.bounds.Bounds.{Bounds}
 use Rattle.ror_show_find_reasons.specs.declared.bounds.ClassesFound.{ClassesFound}
+use Rattle.ror_show_find_reasons.specs.Carrying.{numbers_of}
 use Rattle.ror_show_text_classes.specs.Text.{time_text}
 use Rattle.ror_show_text_classes.specs.BoundText.{bound_line}
 
@@ -18,7 +19,7 @@ use Rattle.ror_show_text_classes.specs.BoundText.{bound_line}
 
 abbrev pub bound_text : DecisionTable → ℕ → Side → Option Bound → List ℕ
 bound_text t a side None = []
-bound_text t a side (Some f) = bound_line t a side f.class f.numbers
+bound_text t a side (Some f) = bound_line t a side f.class (numbers_of f.reason)
 
 -- both of a row
 abbrev pub row_bounds : DecisionTable → ClassLine → Bounds → List ℕ

@@ -1,6 +1,7 @@
 //! The line of a bound.
 
 ghost use Rattle.std.specs.Prelude.{◌≡◌, ◌++◌, OnOk, IfOk};
+ghost use Rattle.ror_show_find_reasons.specs.Carrying.{numbers_of};
 ghost use Rattle.ror_show_kit.specs.Layout.{next_room, next_word, wrapped};
 ghost use Rattle.ror_show_text_classes.specs.BoundText as spec;
 
@@ -27,7 +28,7 @@ pub(crate) fn write_bound(
     bound: &Bound,
 ) -> Result<(), AllocError>
     ensures { OnOk result (text.new.items
-        ≡ text.old.items ++ spec.bound_line table.now a side bound.now.class bound.now.numbers) }
+        ≡ text.old.items ++ spec.bound_line table.now a side bound.now.class (numbers_of bound.now.reason)) }
 {
     write_name(text, table, a)?;
     let room = room_behind(BEFORE).saturating_sub(columns(id_bytes(table, a)));
@@ -53,10 +54,10 @@ fn write_bound_words(
     bound: &Bound,
 ) -> Result<(), AllocError>
     ensures { OnOk result (text.new.items
-        ≡ text.old.items ++ wrapped 8 room (spec.bound_words side bound.now.class bound.now.numbers)) }
+        ≡ text.old.items ++ wrapped 8 room (spec.bound_words side bound.now.class (numbers_of bound.now.reason))) }
 {
     let left = write_lead(alloc, text, room, side, bound.class)?;
-    write_carrying(text, left, &bound.numbers)
+    write_carrying(text, left, bound.numbers())
 }
 
 /// The class, and what the line has left then.

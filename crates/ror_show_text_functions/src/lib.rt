@@ -30,4 +30,5 @@ pub use block::criterion_id;
 pub use page::write_functions;
 pub use rises::write_rises;
 pub use shares::write_places;
+pub use text::is_contradiction;
 pub use words::asked_at;

@@ -53,7 +53,8 @@ fn has_contradiction(answers: &[Answer]) -> bool
     answers.iter().any(|x| is_contradiction(&x.verdict))
 }
 
-fn is_contradiction(verdict: &Verdict) -> bool
+/// Whether the verdict is that the statements have a contradiction.
+pub fn is_contradiction(verdict: &Verdict) -> bool
     ensures { result ≡ spec.is_contradiction verdict.now }
 {
     matches!(verdict, Verdict::Contradiction(_))

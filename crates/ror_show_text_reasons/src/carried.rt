@@ -1,10 +1,9 @@
 //! The text of a part of the statements that carries an answer.
 
-ghost use Rattle.std.specs.Prelude.{◌≡◌, ◌++◌, ◌==◌, IfOk, OnOk, length};
+ghost use Rattle.std.specs.Prelude.{◌≡◌, ◌++◌, IfOk, OnOk};
 ghost use Rattle.std.specs.List.{flat_map};
 ghost use Rattle.ror_statement.specs.Statements.{statements_in};
 ghost use Rattle.ror_value.specs.Over.{IsLawfulIn, IsAskedIn};
-ghost use Rattle.ror_show_text_functions.specs.Text.{is_contradiction};
 ghost use Rattle.ror_show_kit.specs.Words.{number};
 ghost use Rattle.ror_show_text_reasons.specs.Reasons as spec;
 
@@ -17,7 +16,7 @@ use ror_show_ground::is_wide;
 use ror_show_kit::rows::{write_line, write_text};
 use ror_show_kit::words::write_number;
 use ror_show_kit::{is_every, write_claim, write_counter};
-use ror_show_text_functions::write_rises;
+use ror_show_text_functions::{is_contradiction, write_rises};
 use ror_statement::{Question, kind_of};
 use ror_table::Table;
 use std::alloc::{AllocError, Global};
@@ -59,12 +58,6 @@ fn write_all(
     write_part_sum(alloc, text, scene, case)?;
     write_needed(alloc, text, scene.table, case, clashes)?;
     write_tail(alloc, text, clashes, case.numbers)
-}
-
-pub(crate) fn is_contradiction(verdict: &Verdict) -> bool
-    ensures { result ≡ is_contradiction verdict.now }
-{
-    matches!(verdict, Verdict::Contradiction(_))
 }
 
 fn write_head(

@@ -1,11 +1,9 @@
 //! The statements that carry an answer, each with the line that says it and how often it counts, and what they sum up to.
 
-ghost use Rattle.std.specs.Prelude.{◌≡◌, ◌++◌, nat_eq, option_copied, IfOk, OnOk};
+ghost use Rattle.std.specs.Prelude.{◌≡◌, ◌++◌, IfOk, OnOk};
 ghost use Rattle.std.specs.List.{flat_map};
-ghost use Rattle.std.specs.Set.{is_member};
 ghost use Rattle.ror_statement.specs.Statements.{statements_in};
 ghost use Rattle.ror_value.specs.Over.{IsLawfulIn, IsAskedIn};
-ghost use Rattle.ror_reason.specs.Reducts.{part_of, stated};
 ghost use Rattle.ror_show_kit.specs.Rows.{row_text};
 ghost use Rattle.ror_show_kit.specs.Spoken.{statement_text};
 ghost use Rattle.ror_show_find_proofs.specs.Weights.{weights_of};
@@ -15,10 +13,11 @@ use crate::scene::{Case, Scene};
 use crate::sum::write_sum;
 use itoa::Buffer;
 use ror_proof::Verdict;
+use ror_reason::{is_among, part_of, stated};
 use ror_show_find_proofs::{Owners, owners_of, weights_of};
 use ror_show_kit::rows::write_row;
 use ror_show_kit::write_statement;
-use ror_statement::{Numbered, Statement};
+use ror_statement::Numbered;
 use ror_table::Table;
 use std::alloc::{AllocError, Global};
 
@@ -37,26 +36,6 @@ pub(crate) fn write_rows(
     let part = part_of(alloc, scene.list, case.numbers)?;
     let owners = owners_of(alloc, part.as_slice(), &case.answer.question)?;
     write_all(alloc, text, scene, case, &owners)
-}
-
-/// The part of the list that these numbers name.
-fn part_of(alloc: Global, list: &[Numbered], numbers: &[u32]) -> Result<Vec<Numbered>, AllocError>
-    ensures { IfOk result (λ part. part.items ≡ part_of numbers.now list.now) }
-{
-    list.iter()
-        .filter(|x| is_among(numbers, x.number))
-        .copied()
-        .collect(alloc)
-}
-
-/// Whether the number is one of these.
-fn is_among(numbers: &[u32], number: u32) -> bool
-    ensures { result ≡ is_member nat_eq numbers.now number }
-{
-    match numbers {
-        [] => false,
-        [first, rest @ ..] => number == *first || is_among(rest, number),
-    }
 }
 
 /// Adds what the statements of the part sum up to, and what is used besides.
@@ -83,16 +62,6 @@ pub(crate) fn write_part_sum(
         &answer.question,
         &answer.verdict,
     )
-}
-
-/// What the part of the list states that these numbers name.
-fn stated(alloc: Global, list: &[Numbered], numbers: &[u32]) -> Result<Vec<Statement>, AllocError>
-    ensures { IfOk result (λ statements. statements.items ≡ stated numbers.now list.now) }
-{
-    list.iter()
-        .filter(|x| is_among(numbers, x.number))
-        .map(|x| x.statement)
-        .collect(alloc)
 }
 
 fn write_all(

@@ -1,18 +1,19 @@
 //! The text of one reason.
 
-ghost use Rattle.std.specs.Prelude.{◌≡◌, ◌<◌, ◌++◌, length, IfOk, OnOk};
-ghost use Rattle.ror_show_find_relation.specs.Dominance as dominance;
+ghost use Rattle.std.specs.Prelude.{◌≡◌, ◌++◌, IfOk, OnOk};
 ghost use Rattle.ror_statement.specs.Statements.{statements_in};
 ghost use Rattle.ror_value.specs.Over.{IsLawfulIn, IsAskedIn};
 ghost use Rattle.ror_show_text_reasons.specs.Reasons as spec;
 ghost use Rattle.ror_show_text_reasons.specs.Scenes.{scene_of, case_of, reduct_text};
 
-use crate::carried::{is_contradiction, write_against, write_carried};
+use crate::carried::{write_against, write_carried};
 use crate::met::write_met;
 use crate::scene::{Case, Scene};
 use ror_proof::Answer;
+use ror_show_find_relation::dominates;
 use ror_show_kit::rows::{write_line, write_text};
 use ror_show_kit::{write_asked, write_claim};
+use ror_show_text_functions::is_contradiction;
 use ror_statement::{Numbered, Question};
 use ror_table::Table;
 use std::alloc::{AllocError, Global};
@@ -102,20 +103,6 @@ fn is_dominance(table: &Table, question: &Question) -> bool
         Question::Necessary(a, b) => dominates(table, *a, *b),
         _ => false,
     }
-}
-
-/// Whether the one is on no criterion worse than the other.
-fn dominates(table: &Table, a: usize, b: usize) -> bool
-    requires first { a < length table.now.alternatives }
-    requires second { b < length table.now.alternatives }
-    ensures { result ≡ dominance.dominates table.now a b }
-{
-    for i in 0..table.criteria() {
-        if table.rank(a, i) < table.rank(b, i) {
-            return false;
-        }
-    }
-    true
 }
 
 /// Adds the text of an answer over a list that one value function decides, so that no statement carries it: by that function what was

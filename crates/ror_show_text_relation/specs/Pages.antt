@@ -10,13 +10,14 @@ use Rattle.ror_show_ground.specs.Heads.{Head}
 use Rattle.ror_show_ground.specs.Lines.{head_of_line, proved_among}
 use Rattle.ror_show_find_reasons.specs.declared.pairs.CarriedPair.{CarriedPair}
 use Rattle.ror_show_find_reasons.specs.declared.pairs.RelationFound.{RelationFound}
+use Rattle.ror_show_find_reasons.specs.Pairs.{carrying_numbers}
 use Rattle.ror_show_text_relation.specs.Text.{relation_text}
 use Rattle.ror_show_text_relation.specs.ArrowText.{arrow_line}
 
 -- ---- pairs with what carries them
 
 abbrev pub pair_line : DecisionTable → CarriedPair → List ℕ
-pair_line t f = arrow_line t f.pair f.numbers
+pair_line t f = arrow_line t f.pair (carrying_numbers f)
 
 -- below a head; nothing where there are none
 abbrev pub carried_text : DecisionTable → List ℕ → List CarriedPair → List ℕ

@@ -1,6 +1,7 @@
 //! The line of a pair, and what carries it.
 
-ghost use Rattle.std.specs.Prelude.{◌≡◌, ◌++◌, ◌∷◌, [], map, decimal, OnOk, IfOk};
+ghost use Rattle.std.specs.Prelude.{◌≡◌, ◌++◌, ◌∷◌, [], map, decimal, option_map, OnOk, IfOk};
+ghost use Rattle.ror_show_find_reasons.specs.Pairs.{carrying_numbers};
 ghost use Rattle.ror_show_kit.specs.Layout.{next_room, next_word, wrapped};
 ghost use Rattle.ror_show_text_relation.specs.Pages.{pair_line};
 ghost use Rattle.ror_show_text_relation.specs.ArrowText as spec;
@@ -10,7 +11,6 @@ use itoa::Buffer;
 use ror_show_find_reasons::CarriedPair;
 use ror_show_kit::{columns, id_bytes, room_behind, write_word};
 use ror_table::Table;
-use ror_text::Items;
 use std::alloc::{AllocError, Global};
 
 /// The margin of lines that go on.
@@ -25,10 +25,10 @@ pub(crate) fn write_pair(
 ) -> Result<(), AllocError>
     ensures { OnOk result (text.new.items ≡ text.old.items ++ pair_line table.now pair.now) }
 {
-    let (a, b) = pair.pair;
+    let a = pair.pair.0;
     write_from_head(text, table, a)?;
     let room = room_behind(MARGIN).saturating_sub(columns(id_bytes(table, a)));
-    write_arrow_words(alloc, text, room, table, b, &pair.numbers)?;
+    write_arrow_words(alloc, text, room, table, pair)?;
     text.push(b'\n')?;
     Ok(())
 }
@@ -39,13 +39,13 @@ fn write_arrow_words(
     text: &mut Vec<u8>,
     room: usize,
     table: &Table,
-    b: usize,
-    carrying: &Option<Items<u32>>,
+    pair: &CarriedPair,
 ) -> Result<(), AllocError>
-    ensures { OnOk result (text.new.items ≡ text.old.items ++ wrapped 8 room (spec.arrow_words table.now b carrying.now)) }
+    ensures { OnOk result (text.new.items
+        ≡ text.old.items ++ wrapped 8 room (spec.arrow_words table.now pair.now.pair.1 (carrying_numbers pair.now))) }
 {
-    let left = write_lead(alloc, text, room, table, b)?;
-    write_carrying(text, left, carrying)
+    let left = write_lead(alloc, text, room, table, pair.pair.1)?;
+    write_carrying(text, left, pair.numbers())
 }
 
 /// Where it leads, and what the line has left then.
@@ -82,12 +82,13 @@ fn lead_word(alloc: Global, table: &Table, b: usize) -> Result<Vec<u8>, AllocErr
 pub fn write_carrying(
     text: &mut Vec<u8>,
     room: usize,
-    carrying: &Option<Items<u32>>,
+    carrying: Option<&[u32]>,
 ) -> Result<(), AllocError>
-    ensures { OnOk result (text.new.items ≡ text.old.items ++ wrapped 8 room (spec.carrying_words carrying.now)) }
+    ensures { OnOk result (text.new.items
+        ≡ text.old.items ++ wrapped 8 room (spec.carrying_words (option_map (λ x. x.now) carrying.entry))) }
 {
     match carrying {
-        Some(numbers) => write_numbers(text, room, numbers.as_slice()),
+        Some(numbers) => write_numbers(text, room, numbers),
         None => write_one(text, room, b"too wide to say"),
     }
 }

@@ -1,2 +1,1 @@
 pub mod RollWords
-pub mod WordLoops

@@ -1,14 +1,14 @@
 -- The page of a roll.
-use Rattle.std.specs.Prelude.{ℕ, ◌-◌, ◌==◌, min, max, List, [], ◌++◌, length, codes, decimal, Option, Some, None, slice_get, if◌then◌else◌}
+use Rattle.std.specs.Prelude.{ℕ, ◌-◌, ◌==◌, List, [], ◌++◌, length, codes, decimal, Option, Some, None, slice_get, if◌then◌else◌}
 use Rattle.std.specs.List.{flat_map}
-use Rattle.ror_text.specs.SpacedLines.{spaced_words}
 use Rattle.ror_table.specs.Table.{DecisionTable}
 use Rattle.ror_statement.specs.declared.statement.Statement.{Statement}
 use Rattle.ror_session.specs.declared.session.Command.{Command}
 use Rattle.ror_session.specs.declared.session.Line.{Line}
 use Rattle.ror_report.specs.declared.block.LineFault.{LineFault}
 use Rattle.ror_show_ground.specs.Grounds.{Ground}
-use Rattle.ror_show_kit.specs.Layout.{spaces, set_right, room_behind, room_left, wrapped}
+use Rattle.ror_show_kit.specs.Layout.{spaces, set_right, room_behind}
+use Rattle.ror_show_kit.specs.Rows.{columns_text}
 use Rattle.ror_show_kit.specs.Spoken.{statement_text}
 use Rattle.ror_show_text_roll.specs.Refusals.{fault_text}
 use Rattle.ror_show_text_roll.specs.Words.{number, command_text, stated_text}
@@ -22,19 +22,9 @@ use Rattle.ror_show_find_roll.specs.declared.roll.TakenBack.{TakenBack}
 
 -- ---- rows of two columns
 
--- what stands between the columns: the second begins at the 52nd column of the line, or behind a space
-abbrev pub gap : ℕ → ℕ
-gap room = max (min room 1) (room - 69)
-
 abbrev pub mark : Option ℕ → List ℕ
 mark None = spaces 6
 mark (Some n) = set_right 6 (decimal n)
-
--- the words of both columns, and what goes on in a line below
-abbrev pub columns_text : ℕ → List ℕ → List ℕ → List ℕ
-columns_text room first second =
-    wrapped 9 room (spaced_words first) ++ spaces (gap (room_left 9 room (spaced_words first)))
-    ++ wrapped 9 (room_left 9 room (spaced_words first) - gap (room_left 9 room (spaced_words first))) (spaced_words second)
 
 abbrev pub row : Option ℕ → List ℕ → List ℕ → List ℕ
 row n first second = mark n ++ codes " " ++ columns_text (room_behind 7) first second ++ codes "\n"

@@ -1,6 +1,5 @@
 -- What a line says, in the words of a session.
 use Rattle.std.specs.Prelude.{ℕ, List, [], ◌∷◌, ◌++◌, codes, decimal}
-use Rattle.ror_session.specs.declared.session.Named.{Named}
 use Rattle.ror_session.specs.declared.session.Asked.{Asked}
 use Rattle.ror_session.specs.declared.session.Asked.TheVariants.{Consistent, Necessary, Possible, NecessaryStrength, PossibleStrength, PossibleClass, NecessaryClass, Classes, Relation}
 use Rattle.ror_session.specs.declared.session.Command.{Command}

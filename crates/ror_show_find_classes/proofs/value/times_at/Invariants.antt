@@ -4,4 +4,4 @@ use Rattle.ror_show_find_classes.specs.Values.{time_at}
 use Rattle.ror_show_find_classes.proofs.value.times_at.Given as goal
 
 abbrev pub invariant-starts : goal.invariant-starts
-invariant-starts l = l.made.items ≡ flat_map (time_at l.table l.session l.kept) (take l.place-index l.starts)
+invariant-starts l = l.made.items ≡ flat_map (time_at l.ground.table.now l.ground.session.now l.ground.kept.now) (take l.place-index l.starts)

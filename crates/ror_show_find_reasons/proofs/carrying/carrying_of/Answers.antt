@@ -7,15 +7,15 @@ use Rattle.ror_show_find_reasons.specs.Pairs.{says_over}
 use Rattle.ror_show_find_reasons.proofs.Found.{found_passes, found_has, proved_over, carried_by, carried_by_none}
 use Rattle.ror_show_find_reasons.proofs.carrying.carrying_of.Goals as goal
 
-pub carrying_by-requires-clause-asked : goal.carrying_by-requires-clause-asked
-carrying_by-requires-clause-asked c =
+pub told_by-requires-clause-asked : goal.told_by-requires-clause-asked
+told_by-requires-clause-asked c =
     let s = c.args.stood.now in
     let answer = c.in-Some.answer.now in
     let there : find (says_over c.args.arrow) c.args.stood.now.answers.now ≡ Some c.in-Some.answer.now = search rules in
     (found_has (IsSoundAnswer s.table.now (statements_in s.list.now)) (says_over c.args.arrow) s.answers.now answer c.requires.sound there).asked
 
-pub carrying_by-requires-clause-proved : goal.carrying_by-requires-clause-proved
-carrying_by-requires-clause-proved c =
+pub told_by-requires-clause-proved : goal.told_by-requires-clause-proved
+told_by-requires-clause-proved c =
     let s = c.args.stood.now in
     let answer = c.in-Some.answer.now in
     let there : find (says_over c.args.arrow) c.args.stood.now.answers.now ≡ Some c.in-Some.answer.now = search rules in
@@ -26,9 +26,9 @@ returns-in-Some c =
     let s = c.args.stood.now in
     let answer = c.in-Some.answer.now in
     let there : find (says_over c.args.arrow) c.args.stood.now.answers.now ≡ Some c.in-Some.answer.now = search rules in
-    IfOk-weaker c.carrying_by.result _ _
-    (λ numbers are. carried_by s.table.now s.list.now s.answers.now c.args.arrow answer numbers there are)
-    c.carrying_by.ensures
+    IfOk-weaker c.told_by.result _ _
+    (λ told are. carried_by s.table.now s.list.now s.answers.now c.args.arrow answer told there are)
+    c.told_by.ensures
 
 pub returns-in-None : goal.returns-in-None
 returns-in-None c =

@@ -29,14 +29,6 @@ bound_by-requires-clause-proved c =
     let there : find (excludes c.args.side c.args.end (alternative_of c.args.stood.now.answers.now)) c.args.stood.now.answers.now ≡ Some c.in-Some.answer.now = search rules in
     proved_no s.table.now (statements_in s.list.now) c.args.side c.args.end a answer (found_passes test xs answer there) (found_has (IsSoundAnswer s.table.now (statements_in s.list.now)) test xs answer c.requires.sound there)
 
-pub bound_by-requires-clause-excludes : goal.bound_by-requires-clause-excludes
-bound_by-requires-clause-excludes c =
-    let xs = c.args.stood.now.answers.now in
-    let test = excludes c.args.side c.args.end (alternative_of xs) in
-    let answer = c.in-Some.answer.now in
-    let there : find (excludes c.args.side c.args.end (alternative_of c.args.stood.now.answers.now)) c.args.stood.now.answers.now ≡ Some c.in-Some.answer.now = search rules in
-    found_passes test xs answer there
-
 pub returns-in-Some : goal.returns-in-Some
 returns-in-Some c =
     let s = c.args.stood.now in

@@ -1,11 +1,12 @@
-use Rattle.std.proofs.Common.{rules, ◌≡◌, true, false, Some, refl}
+use Rattle.std.proofs.Common.{rules, ◌≡◌, true, false}
+use Rattle.std.proofs.lemmas.Result.{IfOk-weaker}
 use Rattle.ror_statement.specs.Statements.{statements_in}
 use Rattle.ror_check.specs.Proof.{is_wide}
 use Rattle.ror_show_find_reasons.proofs.ToldLemmas.{proved, told_wide, told_reason}
 use Rattle.ror_show_find_reasons.proofs.telling.find_reason.Goals as goal
 
-pub reason_over-requires-clause-proved : goal.reason_over-requires-clause-proved
-reason_over-requires-clause-proved c =
+pub told_by-requires-clause-proved : goal.told_by-requires-clause-proved
+told_by-requires-clause-proved c =
     let s = c.args.stood.now in
     let narrow : is_wide c.args.answer.now.verdict ≡ false = search rules in
     proved s.table.now (statements_in s.list.now) c.args.answer.now narrow c.requires.sound
@@ -22,5 +23,6 @@ returns c =
     let s = c.args.stood.now in
     let x = c.args.answer.now in
     let narrow : is_wide c.args.answer.now.verdict ≡ false = search rules in
-    let found = c.in_ok-reason in
-    told_reason s.table.now s.list.now x.question x.verdict (Some found.reason) narrow (found.reason, found.ensures.reason, found.ensures.narrow, refl)
+    IfOk-weaker c.told_by.result _ _
+    (λ told has. told_reason s.table.now s.list.now x.question x.verdict told narrow has)
+    c.told_by.ensures

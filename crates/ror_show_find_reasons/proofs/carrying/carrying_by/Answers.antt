@@ -1,4 +1,0 @@
-use Rattle.ror_show_find_reasons.proofs.carrying.carrying_by.Goals as goal
-
-pub returns : goal.returns
-returns c = (c.in_ok-reason.reason, c.in_ok-reason.ensures.reason, c.numbers_in.ensures)
