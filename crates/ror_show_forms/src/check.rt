@@ -6,16 +6,16 @@ ghost use Rattle.std.specs.List.Sorted.{IsStrictlyIncreasing};
 ghost use Rattle.ror_statement.specs.Statements.{numbers_in, statements_in};
 ghost use Rattle.ror_value.specs.Over.{IsLawfulIn, IsAskedIn};
 ghost use Rattle.ror_bench.specs.Reports.{IfRejected, IsFreeOfMemory, HoldsNoMemory};
-ghost use Rattle.ror_entries.specs.Steps.{IfRefused, refused_error};
+ghost use Rattle.ror_entries.specs.Steps.{IfRefused};
 ghost use Rattle.ror_show_ground.specs.Ready.{IsReady};
 ghost use Rattle.ror_show_forms.specs.Answered as spec;
 ghost use Rattle.ror_show_forms.specs.Answered.{IsProvedOf, IsProvedCertificate, RefusesOf, Refuses, IsFirstUnproved};
 
 use crate::answered::{answer_at, conclusion_of};
 use crate::certificate::Certificate;
-use ror_bench::{KeptLine, Reason, Rejection, ReportError};
+use ror_bench::{KeptLine, Reason, ReportError};
 use ror_check::CheckFault;
-use ror_entries::EntryFault;
+use ror_entries::{EntryFault, refused_entry};
 use ror_proof::Answer;
 use ror_reason::{Reduct, ReductFault, check_reduct};
 use ror_statement::{Conclusion, Numbered};
@@ -66,17 +66,7 @@ fn check_block(
 {
     match check_certificate(alloc, table, kept, certificate) {
         Ok(()) => Ok(()),
-        Err(fault) => Err(refused(block, fault)),
-    }
-}
-
-/// The error of a certificate that is refused.
-fn refused(block: u32, fault: EntryFault) -> ReportError
-    ensures { result ≡ refused_error block fault }
-{
-    match fault {
-        EntryFault::Refused(reason) => ReportError::Rejected(Rejection { block, reason }),
-        EntryFault::Memory => ReportError::Memory,
+        Err(fault) => Err(refused_entry(block, fault)),
     }
 }
 

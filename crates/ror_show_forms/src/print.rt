@@ -4,8 +4,6 @@ ghost use Rattle.std.specs.Prelude.{◌≡◌, ◌<◌, ◌^◌, ◌+◌, ◌++�
 ghost use Rattle.std.specs.List.{flat_map, AllByRecursion};
 ghost use Rattle.ror_text.specs.SpacedLines.{join_words};
 ghost use Rattle.ror_proof.specs.Printing.{spaced};
-ghost use Rattle.ror_proof.specs.Text.{answer_text};
-ghost use Rattle.ror_report.specs.Printing.{HasValidQuestion, HasNarrowVerdict};
 ghost use Rattle.ror_show_ground.specs.Grounds.{ground_of, IsJudged};
 ghost use Rattle.ror_show_find_reasons.specs.Lines.{AreLinesFound};
 ghost use Rattle.ror_show_find_reasons.specs.declared.lines.Meant.TheVariants.{Carried};
@@ -16,9 +14,9 @@ ghost use Rattle.ror_show_forms.specs.CertificateText.{certificate_text, head_te
 use crate::head::header;
 use itoa::Buffer;
 use ror_bench::KeptLine;
-use ror_proof::{Answer, write_answer};
+use ror_proof::write_answer;
 use ror_reason::{Reason, Reduct};
-use ror_report::print_end;
+use ror_report::{print_end, write_answers};
 use ror_show_find_reasons::{LineFound, Told};
 use ror_show_ground::Ground;
 use ror_table::Table;
@@ -186,7 +184,7 @@ fn write_certificate(
 {
     write_head(text, line, place, reduct.numbers.as_slice())?;
     write_answer(text, table, &reduct.answer)?;
-    write_others(text, table, reduct.others.as_slice())
+    write_answers(text, table, reduct.others.as_slice())
 }
 
 /// The line that says which answer is meant, and the numbers.
@@ -225,17 +223,4 @@ fn write_number(text: &mut Vec<u8>, number: u32) -> Result<(), AllocError>
 {
     text.push(b' ')?;
     text.extend_from_slice(Buffer::new().format(number).as_bytes())
-}
-
-/// The answers over all but one.
-fn write_others(text: &mut Vec<u8>, table: &Table, answers: &[Answer]) -> Result<(), AllocError>
-    requires valid { AllByRecursion (HasValidQuestion table.now) answers.now }
-    requires narrow { AllByRecursion HasNarrowVerdict answers.now }
-    ensures { OnOk result (text.new.items
-        ≡ text.old.items ++ flat_map (answer_text table.now) answers.now) }
-{
-    'answers: for answer in answers {
-        write_answer(text, table, answer)?;
-    }
-    Ok(())
 }

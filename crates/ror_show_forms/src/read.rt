@@ -1,22 +1,19 @@
 //! The reader of a certificate's text.
 
 ghost use Rattle.std.specs.Prelude.{◌≡◌, ◌≤◌, ◌<◌, length, IfErr, IfOk};
-ghost use Rattle.ror_text.specs.Numbers.{small_number_of};
 ghost use Rattle.ror_text.specs.Reading.{Gives};
 ghost use Rattle.ror_text.specs.Cursor.{cursor_at};
 ghost use Rattle.ror_proof.specs.Reading.{proof_fault, IsProofFaultWithin};
-ghost use Rattle.ror_proof.specs.Words as words;
 ghost use Rattle.ror_show_forms.specs.Reading as reading;
 ghost use Rattle.ror_show_forms.specs.Reading.{certificate_at};
 
 use crate::certificate::Certificate;
-use ror_proof::words::{after_word, small_number_at};
+use ror_proof::words::{after_word, small_number_at, small_number_in};
 use ror_proof::{Answer, ProofFault, read_answer};
 use ror_reason::Reduct;
 use ror_table::Table;
 use ror_text::Items;
-use ror_text::numbers::read_small_number;
-use ror_text::reading::{need, refuse_if};
+use ror_text::reading::need;
 use ror_text::spaced::{Words, line_at};
 use std::alloc::Global;
 
@@ -90,21 +87,11 @@ fn numbers_at(alloc: Global, place: usize, words: Words<'_>) -> Result<Vec<u32>,
     let mut numbers = Vec::new(alloc);
     let mut left = words;
     'numbers: while let Some((word, rest)) = left.next() {
-        let number = number_in(place, word)?;
+        let number = small_number_in(place, word)?;
         numbers.push(number)?;
         left = rest;
     }
     Ok(numbers)
-}
-
-/// The small number that a word says.
-fn number_in(place: usize, word: &[u8]) -> Result<u32, ProofFault>
-    ensures exact { Gives (λ number. number) proof_fault result
-        (words.number_in small_number_of place word.now) }
-    ensures placed { IfErr result (IsProofFaultWithin place) }
-{
-    refuse_if(word.is_empty(), ProofFault::BadLine(place))?;
-    need(read_small_number(word), ProofFault::BadNumber(place))
 }
 
 /// So many answers, and where they end.

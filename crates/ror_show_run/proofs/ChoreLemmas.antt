@@ -2,8 +2,8 @@
 use Rattle.ror_show_words.specs.Words.{Asked, OfReport, OfFiles, OfCheck}
 use Rattle.ror_frame.proofs.CourseLemmas.{IsDecided}
 use Rattle.ror_show_run.specs.Chores.{chore_of, names_in}
-use Rattle.ror_show_run.specs.Pages.{page_of}
-use Rattle.ror_show_run.proofs.Checking.{decided_check_why}
+use Rattle.ror_show_pages.specs.Pages.{page_of}
+use Rattle.ror_show_check.proofs.Checking.{decided_check_why}
 use Rattle.ror_show_run.proofs.Sheets.{decided_sheet}
 use Rattle.ror_show_run.proofs.Showing.{decided_page}
 

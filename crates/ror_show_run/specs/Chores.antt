@@ -6,7 +6,7 @@ use Rattle.ror_frame.specs.Courses.{Chore}
 use Rattle.ror_frame.specs.Statuses.{status_text}
 use Rattle.ror_show_words.specs.Commands.{usage_text}
 use Rattle.ror_show_words.specs.Words.{SheetWords, Asked, OfReport, OfFiles, OfCheck}
-use Rattle.ror_show_run.specs.Checking.{check_why_chore}
+use Rattle.ror_show_check.specs.Checking.{check_why_chore}
 use Rattle.ror_show_run.specs.Courses.{page_chore}
 use Rattle.ror_show_run.specs.Sheets.{SheetNames, sheet_chore}
 

@@ -1,28 +1,19 @@
 -- What a page does: it is written of a report that is proved for a session over a table, and says nothing of any other.
-use Rattle.std.specs.Prelude.{◌≡◌, ℕ, ◌≤◌, false, List, [], ◌∷◌, length, Some}
+use Rattle.std.specs.Prelude.{◌≡◌, ℕ, false, List, [], ◌∷◌, Some}
 use Rattle.ror_value.specs.declared.input.Input.{Input}
 use Rattle.ror_session.specs.declared.session.Session.{Session}
-use Rattle.ror_bench.specs.declared.kept.Keep.{Keep}
 use Rattle.ror_bench.specs.declared.kept.KeptLine.{KeptLine}
 use Rattle.ror_bench.specs.declared.report.Accepted.{Accepted}
-use Rattle.ror_bench.specs.declared.report.TheConstants.{MOST_REPORT_BYTES}
-use Rattle.ror_bench.specs.Kept.{kept_from}
-use Rattle.ror_bench.specs.Reports.{IsProvedReport, IsAcceptedReport}
+use Rattle.ror_bench.specs.Reports.{IsAcceptedReport}
 use Rattle.ror_show_words.specs.declared.table.Page.{Page}
 use Rattle.ror_show_words.specs.Words.{PageWords}
 use Rattle.ror_frame.specs.Courses.{Output, Course, finish, fetch, Chore}
 use Rattle.ror_frame.specs.Inputs.{bench_for, ReadsTable, RefusesTable, ReadsSession, RefusesSession}
 use Rattle.ror_work.specs.Checking.{RefusesReport}
 use Rattle.ror_show_ground.specs.Grounds.{Ground, ground_in}
-use Rattle.ror_show_run.specs.Pages.{ReportPage, page_of, keeps, IsPage}
-use Rattle.ror_show_run.specs.Shown.{IsShown}
-
--- the bytes are the text of a report that is proved for table and session, and these are its lines of which something is kept
-pub record ReadsKept (keep : List Keep) (i : Input) (s : Session) (bytes : List ℕ) (kept : List KeptLine) : Type 0 where
-  pub within : length bytes ≤ MOST_REPORT_BYTES
-  pub accepted : Accepted
-  pub report : IsProvedReport (bench_for i s) s.lines bytes accepted
-  pub chosen : kept ≡ kept_from (bench_for i s) keep [] s.lines report.blocks
+use Rattle.ror_show_pages.specs.Pages.{ReportPage, page_of, keeps, IsPage}
+use Rattle.ror_show_pages.specs.Reads.{ReadsKept}
+use Rattle.ror_show_pages.specs.Shown.{IsShown}
 
 -- a page in a form, and behind it names of the table's file
 abbrev pub IsShownPage : ReportPage → PageWords → List ℕ → Ground → List ℕ → Type 0

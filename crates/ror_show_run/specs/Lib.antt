@@ -1,15 +1,5 @@
-pub mod Bodies
-pub mod Choosing
-pub mod Pages
-pub mod Shown
 pub mod Courses
-pub mod Reading
-pub mod Truth
-pub mod Checking
-pub mod CheckLaws
 pub mod Sheets
 pub mod Chores
 pub mod Named
-pub mod PageLaws
-pub mod ReadLines
 pub mod Saying

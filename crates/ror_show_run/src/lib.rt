@@ -16,18 +16,8 @@
 //! ```
 #![tactic(auto)]
 
-mod bodies;
-mod check;
-mod choosing;
-mod count;
-mod fetch;
 mod helping;
 mod keeping;
-mod keeps;
-pub mod laws;
-mod names;
-mod page;
-mod reasons;
 mod report;
 mod running;
 mod sheet;

@@ -1,23 +1,22 @@
 //! A report, fetched and checked; the check keeps the lines of it of which something is needed.
 
-ghost use Rattle.std.specs.Prelude.{◌≡◌, ◌≤◌, length};
+ghost use Rattle.std.specs.Prelude.{◌≡◌, length};
 ghost use Rattle.std.specs.List.{AllByRecursion};
 ghost use Rattle.ror_value.specs.declared.input.Input.{Input};
 ghost use Rattle.ror_bench.specs.Bench.{HoldTheSame, LeavesNumbers};
 ghost use Rattle.ror_bench.specs.Reports.{NamesADesk};
 ghost use Rattle.ror_frame.specs.States.{shelf_state};
-ghost use Rattle.ror_frame.specs.Courses.{IsFetch, ReadAs};
+ghost use Rattle.ror_frame.specs.Courses.{IsFetch};
 ghost use Rattle.ror_frame.specs.Inputs.{bench_for};
 ghost use Rattle.ror_frame.specs.Stops.{last};
 ghost use Rattle.ror_work.specs.Checking.{RefusesReport};
-ghost use Rattle.ror_show_run.specs.Courses.{ReadsKept};
+ghost use Rattle.ror_show_pages.specs.Reads.{ReadsKept};
 
-use ror_bench::{
-    Bench, Keep, KeptLine, MOST_REPORT_BYTES, Reason, Rejection, check_report_keeping,
-};
+use ror_bench::{Bench, Keep, KeptLine, MOST_REPORT_BYTES, Reason, Rejection};
 use ror_frame::{Refusal, Stop, fetch_whole};
 use ror_io::Shelf;
 use ror_session::Session;
+use ror_show_pages::kept_in;
 use ror_text::Items;
 use std::alloc::Global;
 
@@ -44,24 +43,4 @@ pub(crate) fn fetch_kept<F: Shelf>(
     });
     let bytes = fetch_whole(alloc, report, MOST_REPORT_BYTES, too_long, shelf)?;
     kept_in(alloc, bench, session, bytes.as_slice(), keep)
-}
-
-/// Checks the bytes of a report, and keeps the lines of it of which something is needed.
-pub(crate) fn kept_in(
-    alloc: Global,
-    bench: &mut Bench,
-    session: &Session,
-    bytes: &[u8],
-    keep: &[Keep],
-) -> Result<Items<KeptLine>, Stop>
-    requires desks { AllByRecursion (NamesADesk (length bench.old.state)) session.now.lines }
-    requires numbers { AllByRecursion (LeavesNumbers (length session.now.lines)) bench.old.state }
-    requires within { length bytes.now ≤ MOST_REPORT_BYTES }
-    ensures read { (i : Input) → HoldTheSame bench.old (bench_for i session.now)
-        → ReadAs last (ReadsKept keep.now i session.now) (RefusesReport i session.now) bytes.now result }
-    ensures table { bench.new.table ≡ bench.old.table }
-{
-    let lines = session.lines.as_slice();
-    let checked = check_report_keeping(alloc, bench, lines, bytes, keep)?;
-    Ok(Items::from(checked.1))
 }

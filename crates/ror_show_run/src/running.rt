@@ -5,20 +5,20 @@ ghost use Rattle.std.specs.String.{string_bytes};
 ghost use Rattle.ror_frame.specs.Courses.{IsWork};
 ghost use Rattle.ror_frame.specs.Printing.{Prints};
 ghost use Rattle.ror_frame.specs.States.{shelf_state, sink_state};
-ghost use Rattle.ror_runs.specs.Runs.{IsRunBy};
+ghost use Rattle.ror_frame.specs.Runs.{IsRunBy};
 ghost use Rattle.ror_show_advice.specs.Apart.{StandsApart};
 ghost use Rattle.ror_show_words.specs.Words.{asked};
 ghost use Rattle.ror_show_words.specs.Named.{asked_with};
 ghost use Rattle.ror_show_run.specs.Chores.{chore_of, status_line};
 ghost use Rattle.ror_show_run.specs.Saying.{GrowsApart, SaysFirst, wants_help};
 
-use crate::check::check_certificates;
 use crate::helping::help_on;
 use crate::keeping::KeepingShelf;
 use crate::sheet::{SheetFiles, show_sheet};
 use crate::show::show_page;
 use ror_frame::{Status, Stop, write_status};
 use ror_io::{Shelf, Sink, SinkFault, write_all};
+use ror_show_check::check_certificates;
 use ror_show_words::{Asked, WordsFault, read_words, usage};
 use std::alloc::Global;
 

@@ -6,7 +6,7 @@ ghost use Rattle.ror_value.specs.Over.{IsLawfulIn};
 
 use ror_group::{List, check_pair, read_entry};
 use ror_made::{is_lawful, three_alternatives};
-use ror_statement::Statement;
+use ror_statement::{Pair, Statement};
 use ror_table::Table;
 use ror_text::Items;
 use std::alloc::{AllocError, Global};
@@ -60,7 +60,11 @@ fn is_accepted(alloc: Global, table: &Table, lists: &[List], text: &[u8]) -> Res
         return Err(Fail::new("the lists are lawful and few, and the alternatives are there"));
     }
     let answers = x.answers.as_slice();
-    Ok(check_pair(alloc, table, lists, x.first, x.second, answers, &x.quartet).is_ok())
+    let pair = Pair {
+        first: x.first,
+        second: x.second,
+    };
+    Ok(check_pair(alloc, table, lists, pair, answers, &x.quartet).is_ok())
 }
 
 #[test]

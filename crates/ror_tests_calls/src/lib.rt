@@ -1,5 +1,5 @@
-//! Tests of public calls that no command of the programs makes, and of calls with a relation that no command gives them. What the
-//! commands reach is shown by the cases, which go through the built programs.
+//! Tests of public calls that no command of the programs makes. What the commands reach is shown by the cases, which go through the built
+//! programs.
 #![tactic(auto)]
 
 #[cfg(test)]
@@ -11,10 +11,6 @@ mod group;
 #[cfg(test)]
 mod optimal;
 #[cfg(test)]
-mod order;
-#[cfg(test)]
 mod print;
-#[cfg(test)]
-mod repair;
 #[cfg(test)]
 mod span;

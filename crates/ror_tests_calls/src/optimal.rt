@@ -1,9 +1,8 @@
-//! Optima that are checked alone, and lists that have one or none.
+//! Optima that are checked alone.
 
-use ror_discriminate::head::{check_header, header};
-use ror_discriminate::{DiscriminateFault, OptimalFault, check_optimal, discriminate};
+use ror_discriminate::{OptimalFault, check_optimal};
 use ror_made::{is_lawful, three_alternatives};
-use ror_pivot::{Bits, Optimum};
+use ror_pivot::Optimum;
 use ror_statement::Statement;
 use ror_system::{Multipliers, Numbers, Solution};
 use ror_table::Table;
@@ -12,9 +11,6 @@ use std::test::Fail;
 
 /// The row of a over b is (0, 1, 0, -1), that of b over c (1, 0, 1, 1): no function has both above half of its total.
 const A_OVER_B_OVER_C: &[Statement] = &[Statement::Prefer(0, 1), Statement::Prefer(1, 2)];
-
-/// The second statement has the row (0, 0, 0, 0).
-const CONTRADICTORY: &[Statement] = &[Statement::AtLeast(0, 1), Statement::Prefer(0, 0)];
 
 /// The optimum of these steps, by which both statements weigh the same.
 fn optimum_of(alloc: Global, steps: &[i128]) -> Result<Optimum, AllocError> {
@@ -46,32 +42,5 @@ fn an_optimum_is_accepted_and_another_function_refused(rt: HostRuntime) -> Resul
     assert!(rt; checked(rt.alloc(), &table, &[1, 1, 0, 0])?.is_ok());
     let refused = checked(rt.alloc(), &table, &[1, 2, 0, 0])?;
     assert!(rt; matches!(refused, Err(OptimalFault::Column(0))));
-    Ok(())
-}
-
-/// Whether the list has an optimum, or none since it contradicts itself.
-fn has_optimum(alloc: Global, table: &Table, list: &[Statement]) -> Result<bool, Fail> {
-    if !is_lawful(table, list) {
-        return Err(Fail::new("the list is lawful"));
-    }
-    match discriminate(alloc, table, list, Bits::B127) {
-        Ok(_) => Ok(true),
-        Err(DiscriminateFault::Contradictory(_)) => Ok(false),
-        Err(_) => Err(Fail::new("something is said strictly, and nothing is too wide")),
-    }
-}
-
-#[test]
-fn a_list_has_an_optimum_unless_it_contradicts_itself(rt: HostRuntime) -> Result<(), Fail> {
-    let table = three_alternatives(rt.alloc())?;
-    assert!(rt; has_optimum(rt.alloc(), &table, A_OVER_B_OVER_C)?);
-    assert!(rt; !has_optimum(rt.alloc(), &table, CONTRADICTORY)?);
-    Ok(())
-}
-
-#[test]
-fn the_first_line_is_checked(rt: HostRuntime) -> Result<(), Fail> {
-    assert!(rt; matches!(check_header(header()), Ok(19)));
-    assert!(rt; check_header(b"ror-discriminate 2\n").is_err());
     Ok(())
 }

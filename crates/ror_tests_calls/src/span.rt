@@ -7,12 +7,12 @@ ghost use Rattle.ror_confidence.specs.Levels.{AreLevelsOf};
 ghost use Rattle.ror_pivot.specs.Answers.{most_of};
 ghost use Rattle.ror_given.specs.Answers.{IsGiven};
 
-use ror_confidence::{Decider, Levels, Span, check_span, find_span, read_levels};
+use ror_confidence::{Decider, Levelled, Levels, Span, check_span, find_span, read_levels};
 use ror_made::{may_stand, three_alternatives};
 use ror_pivot::Bits;
 use ror_proof::Answer;
 use ror_relation::decide;
-use ror_statement::{Numbered, Question, Statement};
+use ror_statement::{Numbered, Pair, Question, Statement};
 use ror_table::Table;
 use std::alloc::{AllocError, Global};
 use std::test::Fail;
@@ -21,6 +21,11 @@ const A_OVER_B: &[Numbered] = &[Numbered {
     number: 1,
     statement: Statement::Prefer(0, 1),
 }];
+
+const FIRST_TWO: Pair = Pair {
+    first: 0,
+    second: 1,
+};
 
 /// Two levels, of which the second alone has the statement.
 const TWO_LEVELS: &[u8] = b"ror-levels 1\ncount 2\nput 1 2\n";
@@ -76,16 +81,11 @@ fn found(
     need_a_pair(alloc, table, standing)?;
     let levels = levels_in(alloc, standing, text)?;
     let mut decider = Counting { asked: 0 };
-    match find_span(
-        alloc,
-        &mut decider,
-        table,
+    let levelled = Levelled {
         standing,
-        &levels,
-        0,
-        1,
-        Bits::B127,
-    ) {
+        levels: &levels,
+    };
+    match find_span(alloc, &mut decider, table, levelled, FIRST_TWO, Bits::B127) {
         Ok(span) => Ok((span, decider.asked)),
         Err(_) => Err(Fail::new("nothing is too wide")),
     }
@@ -106,7 +106,11 @@ fn is_accepted(
 ) -> Result<bool, Fail> {
     need_a_pair(alloc, table, standing)?;
     let levels = levels_in(alloc, standing, text)?;
-    Ok(check_span(alloc, table, standing, &levels, 0, 1, x).is_ok())
+    let levelled = Levelled {
+        standing,
+        levels: &levels,
+    };
+    Ok(check_span(alloc, table, levelled, FIRST_TWO, x).is_ok())
 }
 
 // Two levels for the base, and each of two levels for each of two questions, are decided at most.

@@ -6,7 +6,7 @@ use Rattle.ror_frame.specs.Stops.{last}
 use Rattle.ror_frame.proofs.FetchLemmas.{stopped_there, read_there}
 use Rattle.ror_work.specs.Checking.{RefusesReport}
 use Rattle.ror_work.proofs.Judging.{long_report}
-use Rattle.ror_show_run.specs.Courses.{ReadsKept}
+use Rattle.ror_show_pages.specs.Reads.{ReadsKept}
 use Rattle.ror_show_run.proofs.report.fetch_kept.Goals as goal
 
 pub returns-in_err-bytes-clause-fetch : goal.returns-in_err-bytes-clause-fetch

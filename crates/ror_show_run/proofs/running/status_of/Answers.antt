@@ -1,6 +1,6 @@
 use Rattle.std.proofs.Common.{map}
 use Rattle.std.specs.String.{string_bytes}
-use Rattle.ror_runs.proofs.AnyRun.{worked_run, memory_run}
+use Rattle.ror_frame.proofs.AnyRun.{worked_run, memory_run}
 use Rattle.ror_show_words.specs.Words.{asked}
 use Rattle.ror_show_words.specs.Named.{asked_with}
 use Rattle.ror_show_run.specs.Chores.{chore_of}

@@ -10,7 +10,7 @@ use Rattle.ror_frame.proofs.FetchLemmas.{stopped_there, read_there}
 use Rattle.ror_frame.proofs.InputLemmas.{long_table}
 use Rattle.ror_show_words.specs.Named.{page_words_of}
 use Rattle.ror_show_run.specs.Courses.{session_course}
-use Rattle.ror_show_run.specs.Pages.{page_of}
+use Rattle.ror_show_pages.specs.Pages.{page_of}
 use Rattle.ror_show_run.proofs.Showing.{read_on}
 use Rattle.ror_show_run.proofs.show.show_page.Goals as goal
 

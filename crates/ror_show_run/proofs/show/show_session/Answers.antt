@@ -1,8 +1,6 @@
-use Rattle.std.proofs.Common.{rules, ◌≡◌, List, length, refl, sym, subst, ◌∙◌}
+use Rattle.std.proofs.Common.{rules, ◌≡◌, length, refl, sym, subst, ◌∙◌}
 use Rattle.std.specs.List.{AllByRecursion}
 use Rattle.std.proofs.lemmas.Result.{err_from_is_err_and}
-use Rattle.ror_table.specs.Table.{DecisionTable}
-use Rattle.ror_bench.specs.declared.kept.KeptLine.{KeptLine}
 use Rattle.ror_bench.specs.declared.report.Accepted.{Accepted}
 use Rattle.ror_bench.specs.Bench.{HoldTheSame, LeavesNumbers}
 use Rattle.ror_bench.specs.Reports.{IsAcceptedReport}
@@ -14,8 +12,9 @@ use Rattle.ror_frame.proofs.Desks.{numbers_left}
 use Rattle.ror_show_words.specs.Named.{page_words_of}
 use Rattle.ror_show_run.specs.Courses.{page_output}
 use Rattle.ror_show_ground.specs.Grounds.{Ground, ground_in, IsJudged}
-use Rattle.ror_show_run.specs.Pages.{page_of}
-use Rattle.ror_show_run.proofs.Showing.{held_for, keeps_same, report_holds, kept_judged, page_holds, same_ground}
+use Rattle.ror_show_pages.specs.Pages.{page_of}
+use Rattle.ror_show_pages.proofs.ReadLemmas.{held_for, report_holds, kept_judged}
+use Rattle.ror_show_run.proofs.Showing.{keeps_same, page_holds, same_ground}
 use Rattle.ror_show_run.proofs.show.show_session.Goals as goal
 
 pub returns-in_err-keep : goal.returns-in_err-keep

@@ -5,8 +5,8 @@ use Rattle.ror_frame.specs.Inputs.{line_output}
 use Rattle.ror_frame.specs.States.{sink_state}
 use Rattle.ror_show_words.specs.Named.{page_words_of}
 use Rattle.ror_show_ground.specs.Grounds.{ground_of}
-use Rattle.ror_show_run.specs.Pages.{page_of}
-use Rattle.ror_show_run.specs.Shown.{IsShown}
+use Rattle.ror_show_pages.specs.Pages.{page_of}
+use Rattle.ror_show_pages.specs.Shown.{IsShown}
 use Rattle.ror_show_run.proofs.Showing.{page_due}
 use Rattle.ror_show_run.proofs.show.write_page.Goals as goal
 

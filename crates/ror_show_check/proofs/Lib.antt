@@ -1,0 +1,4 @@
+pub mod Checking
+pub mod Fetching
+pub mod Stood
+pub mod Written

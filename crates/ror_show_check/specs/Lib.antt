@@ -1,0 +1,4 @@
+pub mod Reading
+pub mod Truth
+pub mod Checking
+pub mod CheckLaws

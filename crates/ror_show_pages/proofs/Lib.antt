@@ -1,0 +1,13 @@
+pub mod Truth
+pub mod ClassTruth
+pub mod Found
+pub mod FunctionTruth
+pub mod Kept
+pub mod OneContent
+pub mod OneFound
+pub mod OnePage
+pub mod ReadLines
+pub mod ReadLemmas
+pub mod Stands
+pub mod Said
+pub mod WhatStood

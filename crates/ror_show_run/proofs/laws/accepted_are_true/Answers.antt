@@ -1,5 +1,0 @@
-use Rattle.ror_show_run.proofs.Stood.{accepted_true}
-use Rattle.ror_show_run.proofs.laws.accepted_are_true.Goals as goal
-
-pub returns : goal.returns
-returns c = accepted_true

@@ -1,5 +1,0 @@
-use Rattle.ror_show_run.proofs.WhatStood.{asked_have_what_stood}
-use Rattle.ror_show_run.proofs.laws.asked_have_what_stood.Goals as goal
-
-pub returns : goal.returns
-returns c = asked_have_what_stood

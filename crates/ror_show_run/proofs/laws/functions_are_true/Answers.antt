@@ -1,5 +1,0 @@
-use Rattle.ror_show_run.proofs.FunctionTruth.{functions_are_true}
-use Rattle.ror_show_run.proofs.laws.functions_are_true.Goals as goal
-
-pub returns : goal.returns
-returns c = functions_are_true

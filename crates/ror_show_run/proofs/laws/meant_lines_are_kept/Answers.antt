@@ -1,5 +1,0 @@
-use Rattle.ror_show_run.proofs.Said.{meant_lines_are_kept}
-use Rattle.ror_show_run.proofs.laws.meant_lines_are_kept.Goals as goal
-
-pub returns : goal.returns
-returns c = meant_lines_are_kept

@@ -1,5 +1,0 @@
-use Rattle.ror_show_run.proofs.Said.{said_is_what_stood}
-use Rattle.ror_show_run.proofs.laws.said_is_what_stood.Goals as goal
-
-pub returns : goal.returns
-returns c = said_is_what_stood

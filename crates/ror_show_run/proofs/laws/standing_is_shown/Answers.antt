@@ -1,5 +1,0 @@
-use Rattle.ror_show_run.proofs.Stands.{standing_is_shown}
-use Rattle.ror_show_run.proofs.laws.standing_is_shown.Goals as goal
-
-pub returns : goal.returns
-returns c = standing_is_shown

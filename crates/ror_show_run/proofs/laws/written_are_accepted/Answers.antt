@@ -1,5 +1,0 @@
-use Rattle.ror_show_run.proofs.Written.{written_accepted}
-use Rattle.ror_show_run.proofs.laws.written_are_accepted.Goals as goal
-
-pub returns : goal.returns
-returns c = written_accepted
