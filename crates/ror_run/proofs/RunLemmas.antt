@@ -6,7 +6,6 @@ use Rattle.ror_frame.specs.declared.stop.Stop.TheVariants as stops
 use Rattle.ror_frame.specs.States.{ShelfState, SinkState}
 use Rattle.ror_frame.specs.Stops.{Outcome, status_after}
 use Rattle.ror_frame.specs.Courses.{IsWork}
-use Rattle.ror_frame.proofs.CourseLemmas.{unbegun}
 use Rattle.ror_words.specs.Words.{Task, task_of}
 use Rattle.ror_frame.proofs.AnyRun as any
 use Rattle.ror_frame.proofs.AnyRun.{told_by}
@@ -23,10 +22,6 @@ worked_run words task before now old new o is work = record {
   suits = λ line refused. (task, is, suits_it task.command task.given line (work.refuses (refusals.Unsuited line) (told_by o (Err (stops.At (refusals.Unsuited line))) _ refused refl)));
   levels = λ fault refused. (task, is, levels_it task.command task.given fault (work.refuses (refusals.BadLevels fault) (told_by o (Err (stops.At (refusals.BadLevels fault))) _ refused refl)));
 }
-
--- memory ran out while the words were read: nothing is fetched or written
-pub memory_run : (words : List (List ℕ)) (task : Task) (shelf : ShelfState) (out : SinkState) → task_of words ≡ Some task → IsRun words shelf shelf out out statuses.Memory
-memory_run words task shelf out is = worked_run words task shelf shelf out out (Err stops.Memory) is (unbegun (chore_of task).files (chore_of task).course shelf out)
 
 -- the words ask for nothing: nothing is fetched or written
 pub usage_run : (words : List (List ℕ)) (shelf : ShelfState) (out : SinkState) → task_of words ≡ None → IsRun words shelf shelf out out statuses.Usage

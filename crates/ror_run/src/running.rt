@@ -1,11 +1,10 @@
 //! A run, from its words to its status.
 
-ghost use Rattle.std.specs.Prelude.{◌≡◌, ◌≤◌, ℕ, List, Some, map};
+ghost use Rattle.std.specs.Prelude.{◌≤◌, map};
 ghost use Rattle.std.specs.String.{string_bytes};
 ghost use Rattle.ror_frame.specs.States.{shelf_state, sink_state};
-ghost use Rattle.ror_words.specs.Words.{task_of, task_with};
 ghost use Rattle.ror_words.specs.WordTable.{IsByTable};
-ghost use Rattle.ror_words.specs.Named.{row_with, given_with, IsTaken};
+ghost use Rattle.ror_words.specs.Named.{given_with};
 ghost use Rattle.ror_frame.specs.Courses.{IsWork};
 ghost use Rattle.ror_run.specs.Chores.{chore_by};
 ghost use Rattle.ror_frame.specs.Statuses.{status_text};
@@ -15,7 +14,7 @@ ghost use Rattle.ror_run.specs.Running.{IsRun};
 use ror_frame::{Status, Stop, write_status};
 use ror_generate::generate;
 use ror_io::{Shelf, Sink};
-use ror_words::{Arguments, CommandWord, Row, read_arguments, words_in_table};
+use ror_words::{Arguments, CommandWord, words_in_table};
 use ror_work::{check_files, replay_files};
 use ror_work_discriminate::{check_discriminate_files, discriminate_files};
 use ror_work_group::{check_group_files, group_files};
@@ -61,32 +60,14 @@ fn status_of<F: Shelf, O: Sink>(
         (sink_state (O.written out.new) (O.faults out.new)) result }
 {
     match words_in_table(words) {
-        Some((row, arguments)) => status_with(alloc, row, &arguments, shelf, out),
+        Some((row, arguments)) => Status::after(work_on(
+            alloc,
+            row.command,
+            &arguments,
+            shelf,
+            out,
+        )),
         None => Status::Usage,
-    }
-}
-
-/// The status of a command with these arguments.
-fn status_with<F: Shelf, O: Sink>(
-    alloc: Global,
-    row: Row,
-    arguments: &Arguments<'_>,
-    shelf: &mut F,
-    out: &mut O,
-) -> Status
-    requires { IsTaken row (given_with arguments.now) }
-    ensures run { (words : List (List ℕ)) → task_of words ≡ Some (task_with (row_with row) (given_with arguments.now)) → IsRun words
-        (shelf_state (F.told shelf.old) (F.faults shelf.old) (F.fetch_count shelf.old))
-        (shelf_state (F.told shelf.new) (F.faults shelf.new) (F.fetch_count shelf.new))
-        (sink_state (O.written out.old) (O.faults out.old))
-        (sink_state (O.written out.new) (O.faults out.new)) result }
-{
-    let Ok(form) = arguments.normal_form(alloc) else {
-        return Status::Memory;
-    };
-    match read_arguments(alloc, row, form.as_slice()) {
-        Ok(found) => Status::after(work_on(alloc, row.command, &found, shelf, out)),
-        Err(_) => Status::Memory,
     }
 }
 

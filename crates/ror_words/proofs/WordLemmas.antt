@@ -1,5 +1,5 @@
 -- What the definition of a task says of words is the table of words.
-use Rattle.std.proofs.Common.{◌≡◌, ◌∙◌, refl, sym, ap, subst, inl, inr, arith, append_assoc, ℕ, Bool, true, false, true≢false, List, [], ◌∷◌, ◌++◌, length, map, Option, Some, None, codes, if◌then◌else◌, ◌&&◌, nat_lt, ◌⊎◌}
+use Rattle.std.proofs.Common.{◌≡◌, ◌∙◌, refl, sym, ap, subst, inl, inr, arith, append_assoc, ℕ, Bool, true, false, true≢false, List, [], ◌∷◌, ◌++◌, map, Option, Some, None, codes, if◌then◌else◌, ◌&&◌, ◌⊎◌}
 use Rattle.std.specs.Option.{option_map, option_and_then, option_map_or}
 use Rattle.std.specs.List.{find, flat_map, list_all}
 use Rattle.std.specs.Str.{bytes_eq}
@@ -9,20 +9,16 @@ use Rattle.ror_pivot.specs.declared.note.Bits.{Bits}
 use Rattle.ror_pivot.specs.declared.note.Bits.TheVariants.{B15, B31, B63, B127}
 use Rattle.ror_words.specs.declared.words.Place.{Place}
 use Rattle.ror_words.specs.declared.words.Place.TheVariants.{Anything, Width, Names}
+use Rattle.ror_words.specs.declared.table.Row as rows
 use Rattle.ror_words.specs.Commands.{Row, row_for}
+use Rattle.ror_words.specs.Named.{row_with}
 use Rattle.ror_words.specs.Words.{Task, Given, Reading, reading_at, is_name, is_named, width_text, bits_word, widths, width_of, joined_width_of, none_given, with_name, with_best_first, with_bits, taken, taken_first, read_on, given_at_end, given_from, given_in, suits, task_with, task_of}
 use Rattle.ror_words.specs.WordTable.{Part, Name, BitsApart, BitsJoined, BestFirst, written, is_part, with_part, with_parts, ended_by, names_after, AreGiven, IsInTable, IsByTable}
 
-pub both : (a b : Bool) → (a && b) ≡ true → (a ≡ true) × (b ≡ true)
+both : (a b : Bool) → (a && b) ≡ true → (a ≡ true) × (b ≡ true)
 both a b e = (grind arith, grind arith)
 
--- ---- the rows
-
--- a row has one to four names
-abbrev pub has_few : Row → Bool
-has_few row = nat_lt 0 (length row.names) && nat_lt (length row.names) 5
-
-pub found_keeps : {A : Type 0} (p q : A → Bool) (xs : List A) (x : A) → list_all q xs ≡ true → find p xs ≡ Some x → (p x && q x) ≡ true
+found_keeps : {A : Type 0} (p q : A → Bool) (xs : List A) (x : A) → list_all q xs ≡ true → find p xs ≡ Some x → (p x && q x) ≡ true
 found_keeps {A} p q [] x all is = absurd cc
 found_keeps {A} p q (y ∷ ys) x all is =
     let a = both (q y) (list_all q ys) all in
@@ -31,10 +27,25 @@ found_keeps {A} p q (y ∷ ys) x all is =
       | inr miss ↦ let later : find p ys ≡ Some x = rw miss at is in found_keeps p q ys x a.1 later
     ]
 
+-- the row that is found is the one that is found among the rows' values
+pub row_found : (word : List ℕ) (xs : List rows.Row) → option_map row_with (find (λ row. bytes_eq row.word.now word) xs) ≡ find (λ row. bytes_eq row.word word) (map row_with xs)
+row_found word [] = refl
+row_found word (x ∷ xs) = at (bytes_eq x.word.now word) (row_found word xs)
+  where
+    at : (b : Bool) → option_map row_with (find (λ row. bytes_eq row.word.now word) xs) ≡ find (λ row. bytes_eq row.word word) (map row_with xs)
+        → option_map row_with (if b then Some x else find (λ row. bytes_eq row.word.now word) xs) ≡ (if b then Some (row_with x) else find (λ row. bytes_eq row.word word) (map row_with xs))
+    at true e = refl
+    at false e = e
+
 -- words whose command doesn't take what is given are not in the table
 pub unsuited : (words : List (List ℕ)) (word : List ℕ) (rest : List (List ℕ)) (row : Row) (given : Given) → words ≡ word ∷ rest → row_for word ≡ Some row → given_in rest ≡ Some given → suits row given ≡ false → task_of words ≡ None
 unfolding task_of
 unsuited words word rest row given is found read unfit = rw (is, found, read, unfit) refl
+
+-- and those whose command takes it ask for that
+pub suited : (words : List (List ℕ)) (word : List ℕ) (rest : List (List ℕ)) (row : Row) (given : Given) → words ≡ word ∷ rest → row_for word ≡ Some row → given_in rest ≡ Some given → suits row given ≡ true → task_of words ≡ Some (task_with row given)
+unfolding task_of
+suited words word rest row given is found read fit = rw (is, found, read, fit) refl
 
 -- ---- what is written gives what is defined
 

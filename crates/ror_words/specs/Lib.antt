@@ -2,4 +2,3 @@ pub mod Commands
 pub mod Words
 pub mod WordTable
 pub mod Named
-pub mod Matches

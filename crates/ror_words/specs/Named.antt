@@ -1,11 +1,11 @@
 -- What a command names, as values.
-use Rattle.std.specs.Prelude.{◌≡◌, true, List, ℕ, Some, map}
+use Rattle.std.specs.Prelude.{◌≡◌, List, ℕ, Some, map}
 use Rattle.ror_words.specs.declared.words.FileNames.{FileNames}
 use Rattle.ror_words.specs.declared.table.Row as rows
 use Rattle.ror_words.specs.declared.words.Arguments as arguments
 use Rattle.ror_words.specs.declared.words.Reading as readings
-use Rattle.ror_words.specs.Commands.{Row, row_for}
-use Rattle.ror_words.specs.Words.{InputNames, Given, Reading, reading_at, suits, task_with, task_of}
+use Rattle.ror_words.specs.Commands.{Row}
+use Rattle.ror_words.specs.Words.{InputNames, Given, Reading, reading_at, task_with, task_of}
 
 abbrev pub row_with : rows.Row → Row
 row_with row = record {
@@ -31,11 +31,6 @@ given_with o = record { names = map (λ name. name.now) o.names.items; bits = o.
 abbrev pub reading_with : readings.Reading → Reading
 reading_with r = reading_at r.place (given_with r.given)
 
--- a command of the table takes what is given
-abbrev pub IsTaken : rows.Row → Given → Type 0
-IsTaken row given = (word : List ℕ) × (row_for word ≡ Some (row_with row))
-    × (suits (row_with row) given ≡ true)
-
--- the words are in the table, with this command and what is given after it
+-- the words ask for this command, with what is given after it
 abbrev pub IsAsked : List (List ℕ) → rows.Row → Given → Type 0
-IsAsked words row given = IsTaken row given × (task_of words ≡ Some (task_with (row_with row) given))
+IsAsked words row given = task_of words ≡ Some (task_with (row_with row) given)

@@ -155,16 +155,3 @@ task_of [] = None
 task_of (word ∷ words) =
     option_and_then (λ row. option_and_then (λ given.
     if suits row given then Some (task_with row given) else None) (given_in words)) (row_for word)
-
--- ---- the normal form
-
-abbrev pub bits_words : Option Bits → List (List ℕ)
-bits_words None = []
-bits_words (Some bits) = bits_word bits ∷ []
-
-abbrev pub best_first_words : Bool → List (List ℕ)
-best_first_words best_first = if best_first then codes "--best-first" ∷ [] else []
-
--- the options that are given, `--`, and the names
-abbrev pub normal_form : Given → List (List ℕ)
-normal_form given = bits_words given.bits ++ (best_first_words given.best_first ++ codes "--" ∷ given.names)

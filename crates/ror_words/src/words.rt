@@ -1,10 +1,10 @@
-//! The words of a command line: whether they are in the table of words, and their normal form.
+//! The words of a command line: whether they are in the table of words, and what they ask for.
 
-ghost use Rattle.std.specs.Prelude.{◌≡◌, ◌<◌, ◌^◌, ◌||◌, not, map, MatchOption, OnSome, IfOk, Some, None};
+ghost use Rattle.std.specs.Prelude.{◌≡◌, ◌<◌, ◌^◌, ◌||◌, not, map, MatchOption, OnSome, Some, None};
 ghost use Rattle.std.specs.List.{list_all};
 ghost use Rattle.std.specs.Option.{option_map};
 ghost use Rattle.std.specs.String.{string_bytes};
-ghost use Rattle.ror_words.specs.Words.{name_at, number_of, width_given, inputs_in, is_named, is_name, width_of, joined_width_of, bits_word, none_given, with_name, with_best_first, with_bits, reading_at, taken, taken_first, read_on, given_in, is_number, suits, task_of, normal_form};
+ghost use Rattle.ror_words.specs.Words.{name_at, number_of, width_given, inputs_in, is_named, is_name, width_of, joined_width_of, none_given, with_name, with_best_first, with_bits, reading_at, taken, taken_first, read_on, given_in, is_number, suits, task_of};
 ghost use Rattle.ror_words.specs.Named.{inputs_of, row_with, given_with, reading_with, IsAsked};
 ghost use Rattle.ror_words.specs.declared.words.Place.TheVariants.{Anything};
 
@@ -12,7 +12,6 @@ use crate::table::{Row, row_for};
 use arrayvec::ArrayVec;
 use ror_pivot::Bits;
 use ror_text::numbers::read_count;
-use std::alloc::{AllocError, Global};
 
 /// The files that a session is read from, by name, and how the ranks of the table's categories are meant.
 #[derive(Debug, Drop)]
@@ -27,11 +26,11 @@ pub struct FileNames<'a> {
 #[derive(Drop)]
 pub struct Arguments<'a> {
     /// The names, in order.
-    pub(crate) names: ArrayVec<&'a str, 4>,
+    names: ArrayVec<&'a str, 4>,
     /// The width, where one is given.
-    pub(crate) bits: Option<Bits>,
+    bits: Option<Bits>,
     /// Whether `--best-first` is given.
-    pub(crate) best_first: bool,
+    best_first: bool,
 }
 
 /// What may stand next.
@@ -145,22 +144,6 @@ impl<'a> Arguments<'a> {
         ensures { result ≡ width_given (given_with self.now) }
     {
         self.bits.unwrap_or(Bits::B127)
-    }
-
-    /// The normal form of the words: the options, `--`, and the names.
-    pub fn normal_form(&self, alloc: Global) -> Result<Vec<&'a str>, AllocError>
-        ensures { IfOk result (λ words. map (λ w. w.now) words.items ≡ normal_form (given_with self.now)) }
-    {
-        let mut words = Vec::new(alloc);
-        if let Some(bits) = self.bits {
-            words.push(bits_word(bits))?;
-        }
-        if self.best_first {
-            words.push("--best-first")?;
-        }
-        words.push("--")?;
-        words.extend_from_slice(self.names.as_slice())?;
-        Ok(words)
     }
 }
 
@@ -289,7 +272,7 @@ fn is_name(word: &str) -> bool
 }
 
 /// The width that the word writes.
-pub(crate) fn width_of(word: &str) -> Option<Bits>
+fn width_of(word: &str) -> Option<Bits>
     ensures { result ≡ width_of word.now }
 {
     if word == "15" {
@@ -302,18 +285,6 @@ pub(crate) fn width_of(word: &str) -> Option<Bits>
         Some(Bits::B127)
     } else {
         None
-    }
-}
-
-/// The option with its width in one word.
-fn bits_word(bits: Bits) -> &'static str
-    ensures { result.now ≡ bits_word bits }
-{
-    match bits {
-        Bits::B15 => "--bits=15",
-        Bits::B31 => "--bits=31",
-        Bits::B63 => "--bits=63",
-        Bits::B127 => "--bits=127",
     }
 }
 
