@@ -1263,24 +1263,19 @@ class Reason:
 
 
 class Report:
-    """A report that was checked and accepted. `replay` and `check` make it; nothing else should.
+    """A report that `check` accepted. `replay` and `check` make it.
 
-    `json` has the bytes that `check-json` accepted, `plain` the same report as `replay` writes it. `status` is 0, or 9 where
-    something is too wide. `accepted` counts the proved answers, `wide` the answers and repairs that conclude nothing.
+    `plain` has the bytes that were accepted. `status` is 0, or 9 where something is too wide. `accepted` counts the proved answers,
+    `wide` the answers and repairs that conclude nothing.
     """
 
-    def __init__(self, runner: _Runner, data: bytes, status: int, counts: Tuple[int, int]) -> None:
-        self.json = data
-        self.status = status
-        self.accepted, self.wide = counts
+    def __init__(self, runner: _Runner, plain: bytes) -> None:
+        self.plain = plain
+        self.status, output = runner.ror(["check"], {"report.txt": plain})
+        self.accepted, self.wide = _accepted(output)
         self._runner = runner
-        self._blocks: List[Dict[str, Any]] = json.loads(data.decode("utf-8"))["blocks"]
-        self.plain = _text_of(self._blocks)
-        self.lines: Listing[Line] = Listing(_lines_of(self._blocks, runner.files["session.txt"]), _columns_of(Line))
+        self.lines: Listing[Line] = Listing(_lines_of(plain, runner.files["session.txt"]), _columns_of(Line))
         self._by_number = {line.number: line for line in self.lines}
-        if self.refused:
-            told = ", ".join(f"{it.number} ({it.refusal})" for it in self.refused[:5]) + (", .." if len(self.refused) > 5 else "")
-            warnings.warn(f"lines that are refused, change nothing and have no answer: {told}", RefusedWarning, stacklevel=3)
         self._opening: Optional[Tuple[str, ...]] = None
 
     # what came of the lines
@@ -1452,7 +1447,7 @@ class Report:
         return found
 
     def __repr__(self) -> str:
-        return f"<ror.Report accepted {self.accepted} wide {self.wide}>"
+        return f"<ror.Report accepted {self.accepted} wide {self.wide} refused {len(self.refused)}>"
 
 
 class _History:
@@ -1485,36 +1480,41 @@ class _History:
             self.standing[came.number] = came
 
 
-_OUTCOMES = ("added", "withdrawn", "replaced")
+def _rows(text: bytes) -> Iterator[List[str]]:
+    """The words of each line of a report, but for the bases and parts of its proofs."""
+    for line in io.BytesIO(text):
+        if not line.startswith((b"base ", b"part ")):
+            yield line.rstrip(b"\n").decode("utf-8").split(" ")
 
 
-def _lines_of(blocks: List[Dict[str, Any]], session: bytes) -> List[Line]:
-    """What came of each line, by the blocks of an accepted report."""
-    words_of_lines = _cut_lines(session)
-    lines = []
-    for block in blocks:
-        number = block["line"]
-        words = words_of_lines[number - 1]
-        desk = words[0][1:] if words[0].startswith("@") else ""
-        text = " ".join(words[1:] if words[0].startswith("@") else words)
-        outcome = next((it for it in _OUTCOMES if it in block), None)
-        if outcome is not None:
-            lines.append(Line(number, desk, text, outcome, statement=block[outcome]))
-        elif "undone" in block:
-            lines.append(Line(number, desk, text, "undone"))
-        elif "refused" in block:
-            lines.append(Line(number, desk, text, "refused", refusal=block["refused"]))
-        elif "repaired" in block:
-            dropped = tuple(it["number"] for it in block["repaired"]["dropped"])
-            lines.append(Line(number, desk, text, "repaired", dropped=dropped))
-        elif "repair-wide" in block:
-            lines.append(Line(number, desk, text, "repair-wide", statement=block["repair-wide"]["number"]))
-        else:
-            answers = (
-                _answer_of(number, place, desk, it["question"], it["verdict"]) for place, it in enumerate(block["answers"], 1)
-            )
-            lines.append(Line(number, desk, text, "answered", answers=tuple(answers)))
-    return lines
+def _desk_and_words(words: List[str]) -> Tuple[str, List[str]]:
+    return (words[0][1:], words[1:]) if words and words[0].startswith("@") else ("", words)
+
+
+def _lines_of(plain: bytes, session: bytes) -> Iterator[Line]:
+    """What came of each line of a session, by an accepted report."""
+    blocks: List[Tuple[int, List[List[str]]]] = []
+    for words in _rows(plain):
+        if words[0] == "line":
+            blocks.append((int(words[1]), []))
+        elif blocks and words[0] not in ("wide", "end"):
+            blocks[-1][1].append(words)
+    said = _cut_lines(session)
+    for number, body in blocks:
+        desk, words = _desk_and_words(said[number - 1])
+        kind, *operands = body[0] if body else ["answer"]
+        yield Line(
+            number,
+            desk,
+            " ".join(words),
+            "answered" if kind == "answer" else kind,
+            statement=int(operands[0]) if kind in ("added", "withdrawn", "replaced", "repair-wide") else None,
+            refusal=operands[0] if kind == "refused" else None,
+            dropped=tuple(int(it[1]) for it in body if it[0] == "dropped"),
+            answers=tuple(
+                _answer_of(number, place, desk, " ".join(it[1:-1]), it[-1]) for place, it in enumerate(body, 1) if it[0] == "answer"
+            ),
+        )
 
 
 def _answer_of(line: int, place: int, desk: str, question: str, verdict: str) -> Answer:
@@ -1529,128 +1529,78 @@ def _answer_of(line: int, place: int, desk: str, question: str, verdict: str) ->
     return Answer(line, place, desk, question, verdict, kind, tuple(rest), criterion, number)
 
 
-# ---- the two forms of a report: what is made here is checked by the program before anything of it is shown
+# ---- a report in JSON is turned into plain text, which is checked before anything of it is shown
 
 
-def _certificate_text(certificate: Mapping[str, Any]) -> str:
-    if "solution" in certificate:
-        return " ".join(["solution", *certificate["solution"]])
-    multipliers = certificate["multipliers"]
-    return " ".join(["multipliers", *multipliers["weak"], "|", *multipliers["strict"]])
+def _proof_text(proof: Mapping[str, Any]) -> str:
+    if "solution" in proof:
+        return " ".join(["solution", *proof["solution"]])
+    return " ".join(["multipliers", *proof["multipliers"]["weak"], "|", *proof["multipliers"]["strict"]])
 
 
 def _wide_text(wide: Mapping[str, Any]) -> str:
-    words = ["wide", str(wide["system"]), *(str(it) for it in wide["place"]), "path"]
-    return " ".join(words + [f"{column}:{row}" for column, row in wide["path"]])
+    words = ["wide", wide["system"], *wide["place"], "path", *(f"{column}:{row}" for column, row in wide["path"])]
+    return " ".join(map(str, words))
 
 
-def _text_of(blocks: Sequence[Mapping[str, Any]]) -> bytes:
-    """The blocks as `replay` writes them."""
-    out = ["ror-report 1"]
-    for block in blocks:
-        out.append(f"line {block['line']}")
-        outcome = next((it for it in _OUTCOMES if it in block), None)
-        if outcome is not None:
-            out.append(f"{outcome} {block[outcome]}")
-        elif "undone" in block:
-            out.append("undone")
-        elif "refused" in block:
-            out.append(f"refused {block['refused']}")
-        elif "repaired" in block:
-            repaired = block["repaired"]
-            out.append(f"repaired {len(repaired['dropped'])}")
-            out += [f"dropped {it['number']} {_certificate_text(it)}" for it in repaired["dropped"]]
-            out.append(f"base {_certificate_text(repaired['base'])}")
-        elif "repair-wide" in block:
-            out.append(f"repair-wide {block['repair-wide']['number']}")
-            out.append(_wide_text(block["repair-wide"]["wide"]))
+def _body_of(block: Mapping[str, Any]) -> Iterator[str]:
+    """The lines of a block's body."""
+    if "undone" in block:
+        yield "undone"
+    if "repaired" in block:
+        dropped = block["repaired"]["dropped"]
+        yield f"repaired {len(dropped)}"
+        yield from (f"dropped {it['number']} {_proof_text(it)}" for it in dropped)
+        yield f"base {_proof_text(block['repaired']['base'])}"
+    if "repair-wide" in block:
+        yield f"repair-wide {block['repair-wide']['number']}"
+        yield _wide_text(block["repair-wide"]["wide"])
+    for kind in ("added", "withdrawn", "replaced", "refused"):
+        if kind in block:
+            yield f"{kind} {block[kind]}"
+    for answer in block.get("answers", ()):
+        yield f"answer {answer['question']} {answer['verdict']}"
+        if "wide" in answer:
+            yield _wide_text(answer["wide"])
         else:
-            for answer in block["answers"]:
-                out.append(f"answer {answer['question']} {answer['verdict']}")
-                if "wide" in answer:
-                    out.append(_wide_text(answer["wide"]))
-                else:
-                    out.append(f"base {_certificate_text(answer['base'])}")
-                    out += [f"part {part['at']} {_certificate_text(part)}" for part in answer["parts"]]
-    out.append(f"end {len(blocks)}")
-    return ("\n".join(out) + "\n").encode("utf-8")
+            yield f"base {_proof_text(answer['base'])}"
+            yield from (f"part {it['at']} {_proof_text(it)}" for it in answer["parts"])
 
 
-def _certificate_of(words: Sequence[str]) -> Dict[str, Any]:
-    if words[0] == "solution":
-        return {"solution": list(words[1:])}
-    bar = words.index("|")
-    return {"multipliers": {"weak": list(words[1:bar]), "strict": list(words[bar + 1 :])}}
-
-
-def _wide_of(words: Sequence[str]) -> Dict[str, Any]:
-    end = words.index("path")
-    place: List[Union[str, int]] = [words[2], *(int(word) for word in words[3:end])]
-    path = [[int(number) for number in word.split(":")] for word in words[end + 1 :]]
-    return {"system": int(words[1]), "place": place, "path": path}
-
-
-def _json_of(text: bytes) -> bytes:
-    """The report in JSON that is the same as one in plain text, which was accepted."""
-    blocks: List[Dict[str, Any]] = []
-    for words in (line.split(" ") for line in text.decode("utf-8").split("\n")[1:-2]):
-        if words[0] == "line":
-            blocks.append({"line": int(words[1])})
-            continue
-        block = blocks[-1]
-        if words[0] in _OUTCOMES:
-            block[words[0]] = int(words[1])
-        elif words[0] == "undone":
-            block["undone"] = True
-        elif words[0] == "refused":
-            block["refused"] = words[1]
-        elif words[0] == "repaired":
-            block["repaired"] = {"dropped": []}
-        elif words[0] == "dropped":
-            block["repaired"]["dropped"].append({"number": int(words[1]), **_certificate_of(words[2:])})
-        elif words[0] == "repair-wide":
-            block["repair-wide"] = {"number": int(words[1])}
-        elif words[0] == "answer":
-            answer = {"question": " ".join(words[1:-1]), "verdict": words[-1]}
-            block.setdefault("answers", []).append(answer)
-        elif words[0] == "base" and "repaired" in block:
-            block["repaired"]["base"] = _certificate_of(words[1:])
-        elif words[0] == "base":
-            block["answers"][-1].update(base=_certificate_of(words[1:]), parts=[])
-        elif words[0] == "part":
-            block["answers"][-1]["parts"].append({"at": int(words[1]), **_certificate_of(words[2:])})
-        elif words[0] == "wide":
-            holder = block["repair-wide"] if "repair-wide" in block else block["answers"][-1]
-            holder["wide"] = _wide_of(words)
+def _plain_of(data: bytes) -> bytes:
+    """The plain text of a report in JSON that `check-json` accepted."""
+    blocks = json.loads(data.decode("utf-8"))["blocks"]
+    lines = ["ror-report 1"]
     for block in blocks:
-        if len(block) == 1:
-            block["answers"] = []
-    whole = {"blocks": blocks, "report": 1}
-    return json.dumps(whole, separators=(",", ":"), ensure_ascii=False, sort_keys=True).encode("utf-8") + b"\n"
+        lines += [f"line {block['line']}", *_body_of(block)]
+    return "\n".join([*lines, f"end {len(blocks)}\n"]).encode("utf-8")
 
 
 def replay(table: Table, session: Session, *, bits: Optional[int] = None, program: ProgramLike = None) -> Report:
     """Answers a session over a table, and checks the report. `bits` is 15, 31, 63 or 127, and 127 without it."""
     runner = _Runner(table, session, program)
-    _, data = runner.ror(["replay-json", *_width(bits)])
-    status, output = runner.ror(["check-json"], {"report.json": data})
-    return Report(runner, data, status, _accepted(output))
+    return _told(Report(runner, runner.ror(["replay", *_width(bits)])[1]))
 
 
-def check(table: Table, session: Session, report: Union[bytes, os.PathLike[str]], *, program: ProgramLike = None) -> Report:
+def check(
+    table: Table, session: Session, report: Union[bytes, bytearray, str, os.PathLike[str]], *, program: ProgramLike = None
+) -> Report:
     """Checks a report of `replay` or `replay-json`, whoever wrote it, given as bytes or by the path of its file. One that isn't
     accepted is raised as a `ReportError`."""
     runner = _Runner(table, session, program)
     data = bytes(report) if isinstance(report, (bytes, bytearray)) else Path(report).read_bytes()
-    if not data.lstrip(b" \t\r\n").startswith(b"{"):
-        counts = _accepted(runner.ror(["check"], {"report.txt": data})[1])
-        data = _json_of(data)
-        status, output = runner.ror(["check-json"], {"report.json": data})
-        if _accepted(output) != counts:
-            raise ProgramError("a report in plain text and the same in JSON have different counts")
-    else:
-        status, output = runner.ror(["check-json"], {"report.json": data})
-    return Report(runner, data, status, _accepted(output))
+    if data.lstrip(b" \t\r\n").startswith(b"{"):
+        runner.ror(["check-json"], {"report.json": data})
+        data = _plain_of(data)
+    return _told(Report(runner, data))
+
+
+def _told(report: Report) -> Report:
+    """The report, after a warning to the caller's caller if lines were refused."""
+    if report.refused:
+        told = ", ".join(f"{it.number} ({it.refusal})" for it in report.refused[:5]) + (", .." if len(report.refused) > 5 else "")
+        warnings.warn(f"lines that are refused, change nothing and have no answer: {told}", RefusedWarning, stacklevel=3)
+    return report
 
 
 # ---- groups, functions to show, levels, generated sessions
@@ -1698,16 +1648,29 @@ def _checked(runner: _Runner, command: str, bits: Optional[int], more: Dict[str,
     return text, _accepted(runner.ror([f"check-{command}"], {**more, "report.txt": text})[1])
 
 
+def _without_questions(runner: _Runner) -> Report:
+    """A report of the session's other lines, for commands that pass questions over and don't say which lines they refuse."""
+    data = runner.files["session.txt"]
+    lines = data.split(b"\n")
+    for place, words in enumerate(_cut_lines(data)):
+        if _desk_and_words(words)[1][:1] == ["ask"]:
+            lines[place] = b"#"
+    runner = _Runner(runner.table, Session.from_bytes(b"\n".join(lines)), runner.program)
+    return Report(runner, runner.ror(["replay"])[1])
+
+
 def group(table: Table, session: Session, *, bits: Optional[int] = None, program: ProgramLike = None) -> Group:
     """What the judges of a session say together. A line with `repair` is raised as an `UnsuitedError`."""
-    text, counts = _checked(_Runner(table, session, program), "group", bits, {})
+    runner = _Runner(table, session, program)
+    text, counts = _checked(runner, "group", bits, {})
+    _told(_without_questions(runner))
     desks: List[str] = []
     pairs: List[GroupPair] = []
     names: Tuple[str, str] = ("", "")
     verdicts: List[str] = []
-    for words in (line.split(" ") for line in text.decode("utf-8").split("\n")):
+    for words in _rows(text):
         if words[0] == "desk":
-            desks.append(words[1] if len(words) == 2 else "")
+            desks.append("".join(words[1:]))
         elif words[0] == "pair":
             names, verdicts = (words[1], words[2]), []
         elif words[0] == "answer":
@@ -1738,38 +1701,33 @@ def discriminate(
     """A most discriminating function for each desk, over what stands there in the end."""
     runner = _Runner(table, session, program)
     text, _ = _checked(runner, "discriminate", bits, {})
+    _told(_without_questions(runner))
     found: List[Discrimination] = []
-    desk = ""
-    margin, total = Fraction(0), 1
-    for words in (line.split(" ") for line in text.decode("utf-8").split("\n")):
+    desk, margin, total = "", Fraction(0), 1
+    for words in _rows(text):
         if words[0] == "desk":
-            desk = words[1] if len(words) == 2 else ""
+            desk = "".join(words[1:])
         elif words[0] == "margin":
             margin, total = Fraction(int(words[1]), int(words[2])), int(words[2])
         elif words[0] == "solution":
-            found.append(Discrimination(desk, "margin", margin, _function_at(runner, desk, words[1:], total)))
+            found.append(Discrimination(desk, "margin", margin, _function_at(runner, " ".join(words), total)))
         elif words[0] in ("none", "contradiction", "wide"):
             found.append(Discrimination(desk, words[0]))
     return Listing(found, _columns_of(Discrimination))
 
 
-def _function_at(runner: _Runner, desk: str, solution: List[str], total: int) -> ValueFunction:
-    """The function of a solution over what stands at a desk in the end, by the page of functions of `ror_show`.
+def _function_at(runner: _Runner, solution: str, total: int) -> ValueFunction:
+    """The function of a solution, by the page of functions of `ror_show`.
 
-    The page is of a report whose last line asks whether the statements are consistent, and whose answer has this solution. So the
-    page's check accepts it, or it isn't shown.
+    The page is of a session that withdraws what the table's file brings, and asks whether the statements are consistent: the answer
+    has this solution.
     """
-    lines = runner.files["session.txt"].split(b"\n")
-    for place, words in enumerate(_cut_lines(runner.files["session.txt"])):
-        if words and words[1 if words[0].startswith("@") else 0] == "ask":
-            lines[place] = b"#"
-    session = Session.from_bytes(b"\n".join(lines))
-    number = session.desk(desk).ask_consistent()
-    own = _Runner(runner.table, session, runner.program)
-    blocks = json.loads(own.ror(["replay-json"])[1].decode("utf-8"))["blocks"]
-    answer = {"question": "consistent", "verdict": "yes", "base": {"solution": solution}, "parts": []}
-    blocks[-1] = {"line": number, "answers": [answer]}
-    found = _functions_of(own.show(["functions", "--line", str(number), "--as", "csv"], {"report.txt": _text_of(blocks)}))
+    count = len(read_sheet(runner.table, runner.program).statements)
+    own = _Runner(runner.table, Session([*(f"withdraw {it}" for it in range(1, count + 1)), "ask consistent"]), runner.program)
+    lines = [f"line {it}\nwithdrawn {it}\n" for it in range(1, count + 1)]
+    text = f"ror-report 1\n{''.join(lines)}line {count + 1}\nanswer consistent yes\nbase {solution}\nend {count + 1}\n"
+    page = own.show(["functions", "--line", str(count + 1), "--as", "csv"], {"report.txt": text.encode("utf-8")})
+    found = _functions_of(page)
     if len(found) != 1 or found[0].total != total:
         raise ProgramError("the page of functions shows another function than the one that was found")
     return ValueFunction("most discriminating", total, found[0].marginals)
@@ -1807,7 +1765,7 @@ def levels(
     table: Table,
     session: Session,
     count: int,
-    put: Mapping[int, int],
+    put: Optional[Mapping[int, int]] = None,
     *,
     bits: Optional[int] = None,
     program: ProgramLike = None,
@@ -1816,11 +1774,12 @@ def levels(
 
     `put` says on which level a statement is, by its number; one that isn't named is on level 1.
     """
-    lines = ["ror-levels 1", f"count {_level(count)}", *(f"put {_level(one)} {_level(level)}" for one, level in put.items())]
-    confidence = ("\n".join(lines) + "\n").encode("utf-8")
-    text, _ = _checked(_Runner(table, session, program), "levels", bits, {"levels.txt": confidence})
+    lines = ["ror-levels 1", f"count {_level(count)}", *(f"put {_level(one)} {_level(level)}" for one, level in (put or {}).items())]
+    runner = _Runner(table, session, program)
+    text, _ = _checked(runner, "levels", bits, {"levels.txt": ("\n".join(lines) + "\n").encode("utf-8")})
+    _told(_without_questions(runner))
     spans: List[Span] = []
-    for words in (line.split(" ") for line in text.decode("utf-8").split("\n")):
+    for words in _rows(text):
         if words[0] == "pair" and words[3] == "wide":
             spans.append(Span(words[1], words[2], None, None, None, int(words[4])))
         elif words[0] == "pair":

@@ -35,6 +35,14 @@ def example(name, table="table.txt"):
     return ror.Table.read(folder / table, best_first), ror.Session.read(folder / "session.txt")
 
 
+def in_json(name, table="table.txt", *options):
+    """The report of an example as `replay-json` writes it."""
+    folder = TOP / "examples" / name
+    more = (folder / "options").read_text().split() if (folder / "options").is_file() else []
+    words = [ror.Program.find().ror, "replay-json", table, "session.txt", *more, *options]
+    return subprocess.run(words, cwd=folder, capture_output=True).stdout
+
+
 def folders():
     """Each example with each of its tables."""
     for folder in sorted((TOP / "examples").iterdir()):
@@ -66,14 +74,13 @@ class Examples(unittest.TestCase):
                 self.assertEqual((report.accepted, report.wide), (int(line.group(1)), int(line.group(2))))
                 self.assertEqual(report.status, 9 if report.wide else 0)
 
-    def test_plain_reports_are_checked_and_read_as_those_in_json(self):
+    def test_reports_are_checked_in_both_forms(self):
         for folder, table in folders():
             with self.subTest(folder.name, table=table):
                 pair = example(folder.name, table)
                 replayed, checked = ror.replay(*pair), ror.check(*pair, folder / "report.txt")
-                self.assertEqual(checked.json, replayed.json)
                 self.assertEqual(list(checked.lines), list(replayed.lines))
-                self.assertEqual(ror.check(*pair, replayed.json).plain, replayed.plain)
+                self.assertEqual(ror.check(*pair, in_json(folder.name, table)).plain, replayed.plain)
 
     def test_narrow_reports_have_the_bytes_of_replay(self):
         for name in ("twenty-cars", "lexicographic", "hidden-contradiction", "six-flats"):
@@ -84,7 +91,7 @@ class Examples(unittest.TestCase):
                     words = [ror.Program.find().ror, "replay", "table.txt", "session.txt", "--bits", str(bits)]
                     plain = subprocess.run(words, cwd=folder, capture_output=True).stdout
                     self.assertEqual(report.plain, plain)
-                    self.assertEqual(ror.check(*example(name), plain).json, report.json)
+                    self.assertEqual(ror.check(*example(name), in_json(name, "table.txt", "--bits", str(bits))).plain, plain)
 
     def test_what_stands_is_on_the_page(self):
         for folder, table in folders():
@@ -348,7 +355,7 @@ class Tables(unittest.TestCase):
         self.assertEqual(report.desks[:-1], tuple(names[1:]))
         self.assertEqual(ror.read_sheet(table).alternatives, tuple(names))
         self.assertEqual(list(report.functions(line)[0].marginals), criteria)
-        self.assertEqual(ror.check(table, session, report.plain).json, report.json)
+        self.assertEqual(list(ror.check(table, session, report.plain).lines), list(report.lines))
         for place, name in enumerate(names[1:]):
             self.assertEqual(report.standing(desk=name)[1].text, f"class {name} 1 2")
             self.assertEqual(report.answer(4 * place + 2).alternatives, (name, names[place]))
@@ -437,13 +444,17 @@ class Faults(unittest.TestCase):
                     pathlib.Path(folder, name).write_text("#!/bin/sh\n" + text, encoding="utf-8")
                     pathlib.Path(folder, name).chmod(0o755)
 
-            refuse("none")
+            refuse("*-json")
             report = ror.replay(self.table, self.session, program=folder)
             plain = report.plain
+            self.assertEqual(ror.check(self.table, self.session, plain, program=folder).plain, plain)
+            refuse("none")
+            report = ror.check(self.table, self.session, plain, program=folder)
             for command, call in (
-                ("check-json", lambda: ror.replay(self.table, self.session, program=folder)),
-                ("check-json", lambda: ror.check(self.table, self.session, plain, program=folder)),
+                ("check", lambda: ror.replay(self.table, self.session, program=folder)),
                 ("check", lambda: ror.check(self.table, self.session, plain, program=folder)),
+                ("check-json", lambda: ror.check(self.table, self.session, in_json("five-cars"), program=folder)),
+                ("check", lambda: ror.check(self.table, self.session, in_json("five-cars"), program=folder)),
                 ("check-why", lambda: report.reasons(6)),
                 ("check-group", lambda: ror.group(*example("two-judges"), program=folder)),
                 ("check-discriminate", lambda: ror.discriminate(*example("one-function"), program=folder)),
@@ -462,6 +473,36 @@ class Faults(unittest.TestCase):
         with self.assertRaises(ror.NoAnswerError) as raised:
             report.classes(3)
         self.assertEqual((raised.exception.word, raised.exception.line), ("UnknownClass", 3))
+
+    def test_lines_that_other_commands_refuse_are_told(self):
+        session = ror.Session.from_bytes(b"prefer c01 c05\r\nprefer c01 c99\r\nask\trelation\nask classes c99\nprefer c05 c09")
+        for call in (ror.group, ror.discriminate, ror.levels):
+            more = [2] if call is ror.levels else []
+            with self.subTest(call.__name__), self.assertWarnsRegex(ror.RefusedWarning, r"2 \(UnknownAlternative\)$") as warned:
+                call(self.table, session, *more)
+            self.assertEqual(warned.filename, __file__)
+            with warnings.catch_warnings():
+                warnings.simplefilter("error")
+                call(self.table, ror.Session(["prefer c01 c05", "ask classes c99"]), *more)
+        with self.assertWarns(ror.RefusedWarning) as warned:
+            self.assertEqual(repr(ror.replay(self.table, session)), "<ror.Report accepted 40 wide 0 refused 2>")
+        self.assertEqual(warned.filename, __file__)
+
+    def test_of_two_equal_keys_the_last_one_counts(self):
+        data = in_json("five-cars")
+        twice = data.replace(b'"verdict":"no"', b'"verdict":"yes","verdict":"no"')
+        self.assertNotEqual(data, twice)
+        self.assertEqual(ror.check(self.table, self.session, twice).plain, ror.replay(self.table, self.session).plain)
+
+    def test_a_function_of_a_session_of_any_lines(self):
+        table, session = example("one-function")
+        wanted = ror.discriminate(table, session)[0].function.marginals
+        for data in (b"# a\0b\rc \xc3\xa9\r\n" + session.to_bytes(), session.to_bytes().replace(b"\n", b"\r\n"),
+                     b"#\n" * (100_000 - len(session.lines)) + session.to_bytes()):
+            self.assertEqual(ror.discriminate(table, ror.Session.from_bytes(data))[0].function.marginals, wanted)
+        folder = TOP / "examples" / "twelve-firms-in-xmcda"
+        found = ror.discriminate(ror.Table.read(folder / "table.xml", True), ror.Session(["withdraw 7"]))
+        self.assertEqual(found[0].outcome, "margin")
 
     def test_what_was_not_asked_is_raised(self):
         report = ror.replay(*example("one-relation"))
