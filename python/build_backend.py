@@ -1,4 +1,4 @@
-"""Builds the package `ror` of ror.py with the stored programs in it, by the standard library alone.
+"""Builds the package `ror` of ror.py with the stored programs in it, by the standard library alone. It is marked as typed (PEP 561).
 
 The programs are for x86-64 Linux, and so is a package that has them. On other machines the package has ror.py alone, and the
 environment variable ROR has to name a program.
@@ -33,10 +33,10 @@ get_requires_for_build_sdist = get_requires_for_build_editable = get_requires_fo
 
 
 def build_wheel(wheel_directory, config_settings=None, metadata_directory=None):
-    files = {"ror.py": (HERE / "ror.py").read_bytes()}
+    files = {"ror/__init__.py": (HERE / "ror.py").read_bytes(), "ror/py.typed": b""}
     tag = "py3-none-any"
     if (sys.platform, platform.machine()) == ("linux", "x86_64"):
-        files.update(_programs())
+        files.update({f"ror/{path}": data for path, data in _programs().items()})
         tag = "py3-none-linux_x86_64"
     return _write_wheel(Path(wheel_directory), tag, files)
 
@@ -70,7 +70,7 @@ def _programs():
 
 
 def _mode(path):
-    return 0o755 if path.startswith("ror_programs/") and not path.endswith(".sh") else 0o644
+    return 0o755 if "ror_programs/" in path and not path.endswith(".sh") else 0o644
 
 
 def _write_wheel(folder, tag, files):

@@ -22,6 +22,7 @@ The programs are found in this order: the argument `program`, the environment va
 from __future__ import annotations
 
 import csv
+import html
 import importlib
 import io
 import json
@@ -37,68 +38,16 @@ from fractions import Fraction
 from numbers import Integral
 from pathlib import Path
 from typing import (
-    Any,
-    Dict,
-    Generic,
-    Iterable,
-    Iterator,
-    List,
-    Mapping,
-    NoReturn,
-    Optional,
-    Sequence,
-    Tuple,
-    TypeVar,
-    Union,
-    overload,
+    AbstractSet, Any, Dict, Generic, Iterable, Iterator, List, Mapping, NoReturn, Optional, Sequence, Tuple, Type, TypeVar,
+    Union, overload,
 )
 
 __all__ = [
-    "Answer",
-    "ClassRange",
-    "ContradictionError",
-    "Criterion",
-    "Desk",
-    "Discrimination",
-    "FileError",
-    "Generated",
-    "Group",
-    "GroupPair",
-    "LevelsError",
-    "Line",
-    "Listing",
-    "MemoryShortError",
-    "NoAnswerError",
-    "OutputError",
-    "Pair",
-    "Program",
-    "ProgramError",
-    "Reason",
-    "RefusedWarning",
-    "Relation",
-    "Repair",
-    "Report",
-    "ReportError",
-    "RorError",
-    "Session",
-    "SessionError",
-    "Sheet",
-    "SheetCriterion",
-    "Span",
-    "Statement",
-    "Table",
-    "TableError",
-    "UnsuitedError",
-    "UsageError",
-    "ValueFunction",
-    "WideError",
-    "check",
-    "discriminate",
-    "generate",
-    "group",
-    "levels",
-    "read_sheet",
-    "replay",
+    "Answer", "ClassRange", "ContradictionError", "Criterion", "Desk", "Discrimination", "FileError", "Generated", "Group",
+    "GroupPair", "LevelsError", "Line", "Listing", "MemoryShortError", "NoAnswerError", "OutputError", "Pair", "Program",
+    "ProgramError", "Reason", "RefusedWarning", "Relation", "Repair", "Report", "ReportError", "RorError", "Session",
+    "SessionError", "Sheet", "SheetCriterion", "Span", "Statement", "Table", "TableError", "UnsuitedError", "UsageError",
+    "ValueFunction", "WideError", "check", "discriminate", "generate", "group", "levels", "read_sheet", "replay",
 ]
 
 Amount = Union[int, str, Decimal, Fraction, float]
@@ -154,28 +103,19 @@ class ReportError(RorError):
     """The report isn't accepted, so nothing of it is shown. `block` and `certificate` say where the first fault is."""
 
     def __init__(
-        self,
-        message: str,
-        *,
-        status: Optional[int] = None,
-        said: str = "",
-        word: str = "",
-        line: Optional[int] = None,
-        advice: str = "",
-        block: Optional[int] = None,
-        certificate: Optional[int] = None,
+        self, message: str, *, block: Optional[int] = None, certificate: Optional[int] = None, **fault: Any
     ) -> None:
-        super().__init__(message, status=status, said=said, word=word, line=line, advice=advice)
+        super().__init__(message, **fault)
         self.block = block
         self.certificate = certificate
 
 
 class FileError(RorError):
-    """A program couldn't read a file."""
+    """A file couldn't be read."""
 
 
 class OutputError(RorError):
-    """A program couldn't write its output."""
+    """A file or a program's output couldn't be written."""
 
 
 class MemoryShortError(RorError):
@@ -206,7 +146,21 @@ class RefusedWarning(UserWarning):
     """Lines of a session were refused: they changed nothing and have no answer. `Report.refused` has them."""
 
 
-# ---- words
+# ---- files and words
+
+
+def _read(path: Union[str, os.PathLike[str]]) -> bytes:
+    try:
+        return Path(path).read_bytes()
+    except OSError as error:
+        raise FileError(f"the file can't be read: {path}: {error.strerror}") from error
+
+
+def _write(path: Union[str, os.PathLike[str]], data: bytes) -> None:
+    try:
+        Path(path).write_bytes(data)
+    except OSError as error:
+        raise OutputError(f"the file can't be written: {path}: {error.strerror}") from error
 
 
 def _word_fault(word: str) -> Optional[str]:
@@ -232,23 +186,17 @@ def _name_fault(name: object) -> Optional[str]:
     return f"begins with {name[0]}" if fault is None and name[0] in "@#" else fault
 
 
-def _session_name(name: object) -> str:
+def _name(name: object, kind: Type[RorError] = SessionError) -> str:
     fault = _name_fault(name)
     if fault is not None:
-        raise SessionError(f"a name {fault}: {name!r}", word="BadLine")
+        raise kind(f"a name {fault}: {name!r}", word="BadLine")
     return str(name)
 
 
-def _table_name(name: object) -> str:
-    fault = _name_fault(name)
-    if fault is not None:
-        raise TableError(f"a name {fault}: {name!r}", word="BadLine")
-    return str(name)
-
-
-def _count(number: object, what: str) -> str:
+def _count(number: object, what: str, kind: Type[RorError] = SessionError) -> str:
     if isinstance(number, bool) or not isinstance(number, Integral) or not 0 <= int(number) <= 999_999_999:
-        raise SessionError(f"{what} is no number from 0 to 999999999: {number!r}", word="BadLine")
+        word = "BadNumber" if kind is TableError else "BadLine"
+        raise kind(f"{what} is no number from 0 to 999999999: {number!r}", word=word)
     return str(int(number))
 
 
@@ -322,13 +270,13 @@ class Table:
         lines = ["ror-table 3"]
         for criterion in kept:
             lines.append(f"criterion {criterion.name} {criterion.direction}{' linear' if criterion.linear else ''}")
-        if isinstance(classes, bool) or not isinstance(classes, Integral) or not 0 <= int(classes) <= 999_999_999:
-            raise TableError(f"classes are no number from 0 to 999999999: {classes!r}", word="BadNumber")
-        if classes:
+        if _count(classes, "the count of classes", TableError) != "0":
             lines.append(f"classes {int(classes)}")
+        if not isinstance(alternatives, Mapping):
+            raise TableError(f"the alternatives are no mapping from names to performances: {type(alternatives).__name__}", word="BadLine")
         for name, amounts in alternatives.items():
             words = _words_of_row(name, amounts, kept)
-            lines.append(" ".join(["alternative", _table_name(name), *words]))
+            lines.append(" ".join(["alternative", _name(name, TableError), *words]))
         self._keep("".join(line + "\n" for line in lines).encode("utf-8"), False)
 
     def _keep(self, data: bytes, best_first: bool) -> None:
@@ -350,7 +298,7 @@ class Table:
     @classmethod
     def read(cls, path: Union[str, os.PathLike[str]], best_first: bool = False) -> Table:
         """A table from a file, as `from_bytes` takes it."""
-        return cls.from_bytes(Path(path).read_bytes(), best_first)
+        return cls.from_bytes(_read(path), best_first)
 
     @classmethod
     def from_frame(
@@ -359,6 +307,9 @@ class Table:
         """A table from a data frame of pandas: its index has the names, its columns the performances on the criteria."""
         kept = _criteria_of(criteria)
         rows: Dict[str, List[Amount]] = {}
+        for criterion in kept:
+            if criterion.name not in frame.columns:
+                raise TableError(f"the data frame has no column {criterion.name!r}", word="MissingPerformance")
         for place, name in enumerate(frame.index):
             if name in rows:
                 raise TableError(f"two alternatives have the name {name!r}", word="RepeatedId")
@@ -371,7 +322,7 @@ class Table:
 
     def write(self, path: Union[str, os.PathLike[str]]) -> None:
         """Writes these bytes to a file."""
-        Path(path).write_bytes(self._data)
+        _write(path, self._data)
 
     @property
     def best_first(self) -> bool:
@@ -434,7 +385,9 @@ def _criteria_of(given: Union[Mapping[str, str], Iterable[Criterion]]) -> Tuple[
         kept.extend(given)
     seen = set()
     for criterion in kept:
-        _table_name(criterion.name)
+        if not isinstance(criterion, Criterion):
+            raise TableError(f"a criterion without a direction: {criterion!r}", word="BadLine")
+        _name(criterion.name, TableError)
         if criterion.direction not in ("max", "min"):
             raise TableError(f"the direction of {criterion.name!r} is max or min: {criterion.direction!r}", word="BadLine")
         if criterion.name in seen:
@@ -455,8 +408,8 @@ def _words_of_row(
             raise TableError(f"{name!r} has a performance on {sorted(map(str, besides))[0]!r}, which is no criterion", word="BadLine")
         row = [amounts[criterion.name] for criterion in criteria]
     else:
-        if isinstance(amounts, (str, bytes)):
-            raise TableError(f"the performances of {name!r} are one text, not a list", word="BadLine")
+        if isinstance(amounts, (str, bytes, AbstractSet)) or not isinstance(amounts, Iterable):
+            raise TableError(f"the performances of {name!r} are no list in the order of the criteria: {amounts!r}", word="BadLine")
         row = list(amounts)
         if len(row) != len(criteria):
             word = "MissingPerformance" if len(row) < len(criteria) else "BadLine"
@@ -477,15 +430,16 @@ class _ParsedTable:
     classes: int
 
 
+def _lines(data: bytes) -> List[bytes]:
+    """The lines of a table or a session; one CR just before an LF belongs to the end of the line."""
+    *lines, last = data.split(b"\n")
+    return [line[:-1] if line.endswith(b"\r") else line for line in lines] + ([last] if last else [])
+
+
 def _cut_lines(data: bytes) -> List[List[str]]:
-    """The words of each line of a table or a session; none where the line is passed over."""
-    lines = data.split(b"\n")
-    ended = lines.pop() == b""
-    cut = [line[:-1] if line.endswith(b"\r") else line for line in lines]
-    if not ended:
-        cut.append(data.rpartition(b"\n")[2])
-    kept: List[List[str]] = []
-    for line in cut:
+    """The words of each line; none where the line is passed over."""
+    kept = []
+    for line in _lines(data):
         words = [word.decode("utf-8", "replace") for word in re.split(rb"[ \t]+", line) if word]
         kept.append([] if words and words[0].startswith("#") else words)
     return kept
@@ -493,37 +447,51 @@ def _cut_lines(data: bytes) -> List[List[str]]:
 
 def _parse_table(data: bytes) -> _ParsedTable:
     """What a plain table says, for those who look at it from Python. What counts is how the program reads it."""
-    criteria: List[Criterion] = []
+    criteria: Dict[str, Criterion] = {}
     rows: Dict[str, Tuple[Fraction, ...]] = {}
-    classes, begun = 0, False
+    version, classes = 0, 0
 
     def refuse(word: str, line: int) -> NoReturn:
         raise TableError(f"bad table: {word} line {line}", word=word, line=line)
 
+    try:
+        data.decode("utf-8")
+    except UnicodeDecodeError as error:
+        refuse("NotUtf8", data.count(b"\n", 0, error.start) + 1)
     for number, words in enumerate(_cut_lines(data), 1):
         if not words:
             continue
-        if not begun:
-            if len(words) != 2 or words[0] != "ror-table" or words[1] not in ("1", "2", "3"):
+        form, named, rest = words[0], len(words) > 1 and _name_fault(words[1]) is None, words[2:]
+        if not version:
+            if form != "ror-table" or words[1:] not in (["1"], ["2"], ["3"]):
                 refuse("Form", number)
-            begun = True
-        elif words[0] == "criterion" and words[2:] in (["max"], ["min"], ["max", "linear"], ["min", "linear"]):
-            criteria.append(Criterion(words[1], words[2], len(words) == 4))
-        elif words[0] == "classes" and len(words) == 2 and re.fullmatch(r"[0-9]{1,9}", words[1]):
-            classes = int(words[1])
-        elif words[0] == "alternative" and len(words) == 2 + len(criteria):
-            amounts = tuple(_amount_of_word(word) for word in words[2:])
-            exact = tuple(amount for amount in amounts if amount is not None)
-            if len(exact) != len(amounts):
+            version = int(words[1])
+        elif re.search("[\0-\x1f\x7f]", "".join(words)):
+            refuse("BadLine", number)
+        elif form == "criterion" and named and not classes and not rows and rest[:1] in (["max"], ["min"]) and (
+            not rest[1:] or version == 3 and rest[1:] == ["linear"]
+        ):
+            if words[1] in criteria:
+                refuse("RepeatedId", number)
+            criteria[words[1]] = Criterion(words[1], rest[0], len(rest) == 2)
+        elif form == "classes" and len(words) == 2 and not classes and not rows:
+            if not re.fullmatch(r"[0-9]{1,9}", words[1]) or not int(words[1]):
                 refuse("BadNumber", number)
+            classes = int(words[1])
+        elif form == "alternative" and named and len(rest) <= len(criteria):
             if words[1] in rows:
                 refuse("RepeatedId", number)
-            rows[words[1]] = exact
+            if len(rest) < len(criteria):
+                refuse("MissingPerformance", number)
+            amounts = [_amount_of_word(word) for word in rest if version > 1 or not re.search("[./]", word)]
+            rows[words[1]] = tuple(amount for amount in amounts if amount is not None)
+            if len(rows[words[1]]) != len(criteria):
+                refuse("BadNumber", number)
         else:
             refuse("BadLine", number)
     if not criteria or not rows:
-        refuse("Empty" if begun else "Form", 0 if begun else 1)
-    return _ParsedTable(tuple(criteria), rows, classes)
+        refuse("Empty" if version else "Form", 0 if version else 1)
+    return _ParsedTable(tuple(criteria.values()), rows, classes)
 
 
 # ---- sessions
@@ -539,16 +507,16 @@ def _statement(form: str, operands: Sequence[Union[str, int]], on: Optional[str]
         if on is not None:
             raise SessionError("a class statement is over all criteria", word="BadLine")
         name, lowest, highest = operands
-        return f"class {_session_name(name)} {_count(lowest, 'a class')} {_count(highest, 'a class')}"
+        return f"class {_name(name)} {_count(lowest, 'a class')} {_count(highest, 'a class')}"
     if form not in _FORMS:
         raise SessionError(f"no form of a statement: {form!r}", word="BadLine")
     if len(operands) != _FORMS[form]:
         raise SessionError(f"{form} has {_FORMS[form]} alternatives, and {len(operands)} are given", word="BadLine")
-    words = [form, *(_session_name(name) for name in operands)]
+    words = [form, *(_name(name) for name in operands)]
     if on is not None:
         if _FORMS[form] != 4:
             raise SessionError(f"{form} is over all criteria", word="BadLine")
-        words += ["on", _session_name(on)]
+        words += ["on", _name(on)]
     return " ".join(words)
 
 
@@ -639,8 +607,8 @@ class Desk:
             raise SessionError("strengths are compared of two pairs: c and d go together", word="BadLine")
         if on is not None and c is None:
             raise SessionError("on one criterion only strengths are compared: c and d are missing", word="BadLine")
-        words = ["ask", kind, *(_session_name(name) for name in (a, b, c, d) if name is not None)]
-        return self._say(" ".join(words + (["on", _session_name(on)] if on is not None else [])))
+        words = ["ask", kind, *(_name(name) for name in (a, b, c, d) if name is not None)]
+        return self._say(" ".join(words + (["on", _name(on)] if on is not None else [])))
 
     def ask_relation(self) -> int:
         """Asks both questions of each ordered pair of alternatives."""
@@ -648,15 +616,15 @@ class Desk:
 
     def ask_classes(self, a: str) -> int:
         """Asks to which classes a may belong, by some function and by every one."""
-        return self._say(f"ask classes {_session_name(a)}")
+        return self._say(f"ask classes {_name(a)}")
 
     def ask_possible_class(self, a: str, number: int) -> int:
         """Asks whether some function that agrees leaves a this class."""
-        return self._say(f"ask possible-class {_session_name(a)} {_count(number, 'a class')}")
+        return self._say(f"ask possible-class {_name(a)} {_count(number, 'a class')}")
 
     def ask_necessary_class(self, a: str, number: int) -> int:
         """Asks whether every function that agrees leaves a this class."""
-        return self._say(f"ask necessary-class {_session_name(a)} {_count(number, 'a class')}")
+        return self._say(f"ask necessary-class {_name(a)} {_count(number, 'a class')}")
 
 
 class Session(Desk):
@@ -668,6 +636,7 @@ class Session(Desk):
 
     def __init__(self, lines: Iterable[str] = ()) -> None:
         self._data = bytearray()
+        self._count = 0
         super().__init__(self, "")
         if isinstance(lines, str):
             raise SessionError("the lines are one text, not a list", word="BadLine")
@@ -679,12 +648,13 @@ class Session(Desk):
         """A session from the bytes of its file, which are kept as they are."""
         session = cls()
         session._data = bytearray(data)
+        session._count = len(_lines(data))
         return session
 
     @classmethod
     def read(cls, path: Union[str, os.PathLike[str]]) -> Session:
         """A session from a file."""
-        return cls.from_bytes(Path(path).read_bytes())
+        return cls.from_bytes(_read(path))
 
     def to_bytes(self) -> bytes:
         """The bytes that the program reads."""
@@ -692,7 +662,7 @@ class Session(Desk):
 
     def write(self, path: Union[str, os.PathLike[str]]) -> None:
         """Writes these bytes to a file."""
-        Path(path).write_bytes(self._data)
+        _write(path, self._data)
 
     def desk(self, name: str) -> Desk:
         """The desk of a judge, whose methods add lines to this session."""
@@ -709,12 +679,11 @@ class Session(Desk):
     @property
     def lines(self) -> Tuple[str, ...]:
         """The lines, the first of which has the number 1."""
-        parts = bytes(self._data).split(b"\n")
-        if parts[-1] == b"":
-            parts.pop()
-        return tuple(part.decode("utf-8", "replace") for part in parts)
+        return tuple(line.decode("utf-8", "replace") for line in _lines(bytes(self._data)))
 
     def _add(self, line: str) -> int:
+        if not isinstance(line, str):
+            raise SessionError(f"a line is a {type(line).__name__}, not a text: {line!r}", word="BadLine")
         if "\n" in line or "\r" in line:
             raise SessionError(f"a line has the end of a line in it: {line!r}", word="BadLine")
         try:
@@ -724,10 +693,11 @@ class Session(Desk):
         if self._data and not self._data.endswith(b"\n"):
             self._data += b"\n"
         self._data += data + b"\n"
-        return self._data.count(b"\n")
+        self._count += 1
+        return self._count
 
     def __repr__(self) -> str:
-        return f"<ror.Session of {len(self.lines)} lines>"
+        return f"<ror.Session of {self._count} lines>"
 
 
 # ---- programs
@@ -735,10 +705,15 @@ class Session(Desk):
 
 @dataclass(frozen=True)
 class Program:
-    """Where the two programs are."""
+    """Where the two programs are, and after how many seconds a call of one is ended (None: never)."""
 
     ror: str
     ror_show: str
+    timeout: Optional[float] = None
+
+    def __post_init__(self) -> None:
+        object.__setattr__(self, "ror", os.path.abspath(self.ror))
+        object.__setattr__(self, "ror_show", os.path.abspath(self.ror_show))
 
     @staticmethod
     def find(given: Union[None, str, os.PathLike[str], Program] = None) -> Program:
@@ -770,7 +745,7 @@ def _program_at(ror: Path, show: Optional[str], source: str) -> Program:
     beside = Path(show) if show else ror.parent / "ror_show"
     if not beside.is_file():
         raise ProgramError(f"the program ror_show is not found: {str(beside)!r} is no file (ROR_SHOW may name another one)")
-    return Program(os.path.abspath(ror), os.path.abspath(beside))
+    return Program(str(ror), str(beside))
 
 
 ProgramLike = Union[None, str, "os.PathLike[str]", Program]
@@ -795,7 +770,7 @@ class _Runner:
         """The status, the output and the errors of a call; its words are the command and what stands behind the files."""
         files = {**self.files, **more}
         program = self.program.ror_show if page else self.program.ror
-        return _call(program, [words[0], *files, *words[1:], *self.options], files)
+        return _call(program, [words[0], *files, *words[1:], *self.options], files, self.program.timeout)
 
     def ror(self, words: Sequence[str], more: Mapping[str, bytes] = {}) -> Tuple[int, bytes]:
         """The status (0 or 9) and the output of `ror`; any other status is raised, with the advice of `ror_show`."""
@@ -812,21 +787,28 @@ class _Runner:
         return output
 
     def _advice(self, command: str, status: int, more: Mapping[str, bytes]) -> str:
-        if status in (3, 4):
-            return _behind_first_line(self.call(True, ["read"], {})[2])
-        if status == 5 and command == "check":
-            return _behind_first_line(self.call(True, ["standing"], more)[2])
+        try:
+            if status in (3, 4):
+                return _behind_first_line(self.call(True, ["read"], {})[2])
+            if status == 5 and command == "check":
+                return _behind_first_line(self.call(True, ["standing"], more)[2])
+        except ProgramError:
+            pass
         return ""
 
 
-def _call(program: str, words: Sequence[str], files: Mapping[str, bytes]) -> Tuple[int, bytes, str]:
-    with tempfile.TemporaryDirectory(prefix="ror-") as folder:
-        for name, data in files.items():
-            Path(folder, name).write_bytes(data)
-        try:
-            done = subprocess.run([program, *words], cwd=folder, stdin=subprocess.DEVNULL, capture_output=True)
-        except OSError as error:
-            raise ProgramError(f"the program can't run here: {program}: {error.strerror}") from error
+def _call(
+    program: str, words: Sequence[str], files: Mapping[str, bytes], timeout: Optional[float]
+) -> Tuple[int, bytes, str]:
+    try:
+        with tempfile.TemporaryDirectory(prefix="ror-") as folder:
+            for name, data in files.items():
+                Path(folder, name).write_bytes(data)
+            done = subprocess.run([program, *words], cwd=folder, stdin=subprocess.DEVNULL, capture_output=True, timeout=timeout)
+    except subprocess.TimeoutExpired as error:
+        raise ProgramError(f"the program was ended after {timeout} seconds: {program}") from error
+    except OSError as error:
+        raise ProgramError(f"the program can't run here: {program}: {error.strerror}") from error
     return done.returncode, done.stdout, done.stderr.decode("utf-8", "replace")
 
 
@@ -834,37 +816,30 @@ def _behind_first_line(errors: str) -> str:
     return errors.partition("\n")[2].strip("\n")
 
 
+_FAULT = re.compile(
+    r"(?:bad \w+|rejected|unsuited session): (?:(block|certificate) ([0-9]+) )?"
+    r"(.*?)(?: ?(?:line |(?<=BadLine )|(?<=BadNumber ))([0-9]+))?"
+)
+_KINDS: Dict[int, Type[RorError]] = {
+    2: UsageError, 3: TableError, 4: SessionError, 5: ReportError, 6: FileError, 7: OutputError, 8: MemoryShortError,
+    10: UnsuitedError, 11: LevelsError,
+}
+
+
 def _raise(status: int, errors: str, advice: str) -> NoReturn:
     """Raises what a status other than 0 and 9 says."""
     said = errors.partition("\n")[0]
-    message = said or f"status {status}"
-    fault = re.fullmatch(r"(?:bad \w+|rejected): (?:(block|certificate) ([0-9]+) )?(.*?)(?: line ([0-9]+))?", said)
-    word = fault.group(3) if fault else ""
-    line = int(fault.group(4)) if fault and fault.group(4) else None
-    kinds = {2: UsageError, 3: TableError, 4: SessionError, 6: FileError, 7: OutputError, 8: MemoryShortError, 11: LevelsError}
-    if status == 5:
-        place = int(fault.group(2)) if fault and fault.group(2) else None
-        in_line = re.fullmatch(r"(BadLine|BadNumber) ([0-9]+)", word)
-        raise ReportError(
-            message,
-            status=status,
-            said=said,
-            word=in_line.group(1) if in_line else word,
-            line=int(in_line.group(2)) if in_line else None,
-            advice=advice,
-            block=place if fault and fault.group(1) == "block" else None,
-            certificate=place if fault and fault.group(1) == "certificate" else None,
-        )
-    if status == 10:
-        unsuited = re.fullmatch(r"unsuited session: line ([0-9]+)", said)
-        raise UnsuitedError(
-            message, status=status, said=said, word="Unsuited", line=int(unsuited.group(1)) if unsuited else None, advice=advice
-        )
-    if status in kinds:
-        raise kinds[status](message, status=status, said=said, word=word, line=line, advice=advice)
     if status < 0:
         raise ProgramError(f"a signal ended the program: {-status}", status=status, said=said)
-    raise ProgramError(errors.strip() or message, status=status, said=said)
+    if status not in _KINDS:
+        raise ProgramError(errors.strip() or f"status {status}", status=status, said=said)
+    found = _FAULT.fullmatch(said)
+    kind, place, word, line = found.groups() if found else (None, None, "", None)
+    where = {kind: int(place)} if kind and place else {}
+    word = "Unsuited" if status == 10 else word
+    raise _KINDS[status](
+        said or f"status {status}", status=status, said=said, word=word, line=int(line) if line else None, advice=advice, **where
+    )
 
 
 def _accepted(output: bytes) -> Tuple[int, int]:
@@ -876,6 +851,8 @@ def _accepted(output: bytes) -> Tuple[int, int]:
 
 
 def _width(bits: Optional[int]) -> List[str]:
+    if bits not in (None, 15, 31, 63, 127):
+        raise UsageError(f"bits are 15, 31, 63 or 127: {bits!r}")
     return [] if bits is None else ["--bits", str(bits)]
 
 
@@ -920,10 +897,24 @@ class Listing(Sequence[Row], Generic[Row]):
 
     def to_frame(self) -> Any:
         """The rows as a data frame of pandas."""
-        return _pandas().DataFrame([list(it.values()) for it in self.records()], columns=list(self.columns), dtype=object)
+        return _pandas().DataFrame(self.records(), columns=list(self.columns), dtype=object)
 
     def __repr__(self) -> str:
-        return f"<ror.Listing of {len(self._rows)}: {', '.join(self.columns)}>"
+        return f"<ror.{type(self).__name__} of {len(self._rows)}: {', '.join(self.columns)}>"
+
+    def _repr_html_(self) -> str:
+        """The first hundred rows as a table, for a notebook."""
+        cells = [[_shown(getattr(row, name)) for name in self.columns] for row in self._rows[:100]]
+        rows = [f"<tr>{''.join(f'<td>{html.escape(cell)}</td>' for cell in row)}</tr>" for row in cells]
+        head = f"<tr>{''.join(f'<th>{name}</th>' for name in self.columns)}</tr>"
+        more = f"<p>and {len(self) - 100} more</p>" if len(self) > 100 else ""
+        return f"<table>{head}{''.join(rows)}</table>{more}"
+
+
+def _shown(value: object) -> str:
+    if isinstance(value, tuple):
+        return ", ".join(map(_shown, value))
+    return value.text if isinstance(value, Statement) else "" if value is None else str(value)
 
 
 def _columns_of(kind: Any) -> Tuple[str, ...]:
@@ -1050,13 +1041,13 @@ class ValueFunction:
         """The weight of each criterion: the marginal value of its best level."""
         return {name: list(levels.values())[-1] for name, levels in self.marginals.items()}
 
-    def value(self, performances: Mapping[str, Fraction]) -> Fraction:
+    def value(self, performances: Mapping[str, Amount]) -> Fraction:
         """The value of an alternative with these performances, each of which has to be a level of the table."""
         value = Fraction(0)
         for name, levels in self.marginals.items():
             if name not in performances:
                 raise TableError(f"there is no performance on {name!r}", word="MissingPerformance")
-            level = Fraction(performances[name])
+            level = Fraction(_word_of_amount(performances[name]))
             if level not in levels:
                 raise TableError(f"{performances[name]} is no level of {name!r}, so the function says nothing of it")
             value += levels[level]
@@ -1077,6 +1068,9 @@ class ValueFunction:
     def to_frame(self) -> Any:
         """These rows as a data frame of pandas."""
         return self.rows.to_frame()
+
+    def _repr_html_(self) -> str:
+        return self.rows._repr_html_()
 
     def __repr__(self) -> str:
         return f"<ror.ValueFunction {self.label}>"
@@ -1274,7 +1268,7 @@ class Report:
         self.status, output = runner.ror(["check"], {"report.txt": plain})
         self.accepted, self.wide = _accepted(output)
         self._runner = runner
-        self.lines: Listing[Line] = Listing(_lines_of(plain, runner.files["session.txt"]), _columns_of(Line))
+        self.lines: Listing[Line] = Listing(_lines_of(plain, runner.files["session.txt"]), _columns_of(Line)[:-1])
         self._by_number = {line.number: line for line in self.lines}
         self._opening: Optional[Tuple[str, ...]] = None
 
@@ -1352,11 +1346,14 @@ class Report:
             raise NoAnswerError(f"line {line} doesn't ask for classes", line=line)
         if not rows:
             raise NoAnswerError("`ask classes` isn't answered")
-        return Listing(rows, ("line", "desk", "alternative", "lowest", "highest", "possible", "necessary"))
+        return Listing(rows, _columns_of(ClassRange))
 
     def functions(self, line: int) -> Tuple[ValueFunction, ...]:
-        """The value functions in the answers to a line, by the page of functions of `ror_show`. One whose total passes 127
-        bits is left out there, and so it is here."""
+        """The value functions in the answers to a line, by the page of functions of `ror_show`.
+
+        An answer has its own function `base` only if the previous answer hasn't the same. A function whose total passes 127 bits is
+        left out.
+        """
         self._answered(line)
         page = self._runner.show(["functions", "--line", str(line), "--as", "csv"], {"report.txt": self.plain})
         return _functions_of(page, line)
@@ -1413,15 +1410,8 @@ class Report:
         """What the table's file brings, which each desk begins with."""
         if self._opening is None:
             self._opening = ()
-            if "table.xml" in self._runner.files:
-                status, page, errors = _call(
-                    self._runner.program.ror_show,
-                    ["read", "table.xml", *self._runner.options],
-                    {"table.xml": self._runner.files["table.xml"]},
-                )
-                if status != 0:
-                    _raise(status, errors, _behind_first_line(errors))
-                self._opening = _sheet_of(page).statements
+            if self._runner.table.is_xmcda:
+                self._opening = read_sheet(self._runner.table, self._runner.program).statements
         return self._opening
 
     def _stood(self, wanted: set[int], before: bool = False, last_of: Optional[str] = None) -> Dict[int, Dict[int, Statement]]:
@@ -1588,7 +1578,7 @@ def check(
     """Checks a report of `replay` or `replay-json`, whoever wrote it, given as bytes or by the path of its file. One that isn't
     accepted is raised as a `ReportError`."""
     runner = _Runner(table, session, program)
-    data = bytes(report) if isinstance(report, (bytes, bytearray)) else Path(report).read_bytes()
+    data = bytes(report) if isinstance(report, (bytes, bytearray)) else _read(report)
     if data.lstrip(b" \t\r\n").startswith(b"{"):
         runner.ror(["check-json"], {"report.json": data})
         data = _plain_of(data)
@@ -1774,7 +1764,9 @@ def levels(
 
     `put` says on which level a statement is, by its number; one that isn't named is on level 1.
     """
-    lines = ["ror-levels 1", f"count {_level(count)}", *(f"put {_level(one)} {_level(level)}" for one, level in (put or {}).items())]
+    lines = ["ror-levels 1", f"count {_count(count, 'the count', LevelsError)}"]
+    for number, level in (put or {}).items():
+        lines.append(f"put {_count(number, 'a statement', LevelsError)} {_count(level, 'a level', LevelsError)}")
     runner = _Runner(table, session, program)
     text, _ = _checked(runner, "levels", bits, {"levels.txt": ("\n".join(lines) + "\n").encode("utf-8")})
     _told(_without_questions(runner))
@@ -1785,12 +1777,6 @@ def levels(
         elif words[0] == "pair":
             spans.append(Span(words[1], words[2], int(words[6]), int(words[8]), int(words[4])))
     return Listing(spans, _columns_of(Span))
-
-
-def _level(number: int) -> str:
-    if isinstance(number, bool) or not isinstance(number, Integral) or not 0 <= int(number) <= 999_999_999:
-        raise LevelsError(f"no number from 0 to 999999999: {number!r}", word="BadLine")
-    return str(int(number))
 
 
 @dataclass(frozen=True)
@@ -1808,7 +1794,8 @@ class Generated:
 
 def generate(number: int, *, program: ProgramLike = None) -> Generated:
     """Makes a table and a session of a number, answers it, and checks the answers."""
-    status, output, errors = _call(Program.find(program).ror, ["generate", str(number)], {})
+    found = Program.find(program)
+    status, output, errors = _call(found.ror, ["generate", _count(number, "the number", UsageError)], {}, found.timeout)
     if status not in (0, 9):
         _raise(status, errors, "")
     counts = [int(word) for word in re.findall(rb"[0-9]+", output)]

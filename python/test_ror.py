@@ -282,6 +282,12 @@ class Sessions(unittest.TestCase):
         self.assertEqual([(it.number, it.desk, it.text) for it in report.lines],
                          [(2, "", "prefer a b"), (4, "j", "ask consistent"), (5, "", "ask relation")])
 
+    def test_lines_are_lines_again(self):
+        session = ror.Session.from_bytes("# é\r\nprefer a b\r\n\r\nundo".encode())
+        self.assertEqual(session.lines, ("# é", "prefer a b", "", "undo"))
+        self.assertEqual(ror.Session(session.lines).lines, session.lines)
+        self.assertEqual((session.undo(), session.lines[-1]), (5, "undo"))
+
 
 class Tables(unittest.TestCase):
     def test_amounts_are_exact(self):
@@ -325,7 +331,7 @@ class Tables(unittest.TestCase):
             ("RepeatedId", lambda: ror.Table([ror.Criterion("q", "max"), ror.Criterion("q", "min")], {})),
             ("MissingPerformance", lambda: ror.Table(q, {"a": []})), ("BadLine", lambda: ror.Table(q, {"a": [1, 2]})),
             ("MissingPerformance", lambda: ror.Table(q, {"a": {}})), ("BadLine", lambda: ror.Table(q, {"a": {"q": 1, "r": 2}})),
-            ("BadLine", lambda: ror.Table(q, {"a": "1"})), ("BadLine", lambda: ror.Table(q, {"a b": [1]})),
+            ("BadLine", lambda: ror.Table(q, {"a": "1"})), ("BadLine", lambda: ror.Table({**q, "p": "min"}, {"a": {7, 3}})), ("BadLine", lambda: ror.Table(q, {"a b": [1]})),
             ("BadLine", lambda: ror.Table({"q r": "max"}, {})), ("BadNumber", lambda: ror.Table(q, {"a": [1]}, classes=-1)),
             ("UnknownAlternative", lambda: ror.Table(q, {"a": [1]}).performances("b")),
             ("Form", lambda: ror.Table.from_bytes(b"").alternatives),
@@ -334,6 +340,28 @@ class Tables(unittest.TestCase):
             with self.assertRaises(ror.TableError) as raised:
                 call()
             self.assertEqual(raised.exception.word, word)
+
+    def test_nothing_is_shown_that_the_program_refuses(self):
+        tables = {path.read_bytes() for path in (TOP / "cases").glob("*/table.txt") if path.stat().st_size < 200_000}
+        for table in filter(lambda it: not it.is_xmcda, map(ror.Table.from_bytes, tables)):
+            faults = []
+            for call in (ror.read_sheet, ror.Table._parse):
+                try:
+                    call(table)
+                    faults.append(None)
+                except ror.TableError as error:
+                    faults.append((error.word, error.line))
+            if faults[0] is None or faults[0][0] not in ("TooMany Classes", "WideScale"):
+                self.assertEqual(*faults, table.to_bytes()[:400])
+
+    def test_an_amount_has_one_meaning(self):
+        table = ror.Table({"q": "max"}, {"a": [0.1], "b": [0.2]})
+        function = ror.replay(table, ror.Session(["ask consistent"])).functions(1)[0]
+        for amount, share in ((0.1, 0), (0.2, 1), ("0.20", 1), (Decimal("0.1"), 0), ("1/5", 1)):
+            self.assertEqual(function.value({"q": amount}), share)
+        for amount in (0.3, None, "x"):
+            with self.assertRaises(ror.TableError):
+                function.value({"q": amount})
 
     def test_hostile_names(self):
         names = ["on", "undo", "a,b\"c", "--", "é\u0085x", "p\u2028q", "NA", "\ufeffz", "L" * 64, "\"", "=1+2", "line", "it's", "\\n",
@@ -425,15 +453,32 @@ class Faults(unittest.TestCase):
             ror.levels(*example("three-levels"), 2.5, {})
 
     def test_other_calls_that_fail(self):
-        with self.assertRaises(ror.UsageError) as raised:
+        with self.assertRaisesRegex(ror.UsageError, "15, 31, 63 or 127: 16"):
             ror.replay(self.table, self.session, bits=16)
-        self.assertEqual(raised.exception.status, 2)
-        with self.assertRaises(ror.UsageError):
+        with self.assertRaisesRegex(ror.UsageError, "no number from 0 to 999999999: -1"):
             ror.generate(-1)
         with self.assertRaises(ror.TableError):
             ror.replay("table.txt", self.session)
         with self.assertRaises(ror.SessionError):
             ror.replay(self.table, "session.txt")
+
+    def test_all_that_goes_wrong_is_an_error_of_this_file(self):
+        with tempfile.TemporaryDirectory() as folder:
+            none = pathlib.Path(folder, "none")
+            for kind, call in (
+                (ror.FileError, lambda: ror.Table.read(none)), (ror.FileError, lambda: ror.Session.read(folder)),
+                (ror.FileError, lambda: ror.check(self.table, self.session, str(none))),
+                (ror.OutputError, lambda: self.table.write(folder)), (ror.OutputError, lambda: self.session.write(none / "x")),
+                (ror.TableError, lambda: ror.Table({"q": "max"}, [("a", [1])])), (ror.TableError, lambda: ror.Table(["q"], {"a": [1]})),
+                (ror.TableError, lambda: ror.Table({"q": "max"}, {"a": 1})), (ror.SessionError, lambda: ror.Session([1])),
+            ):
+                with self.assertRaises(kind):
+                    call()
+            pathlib.Path(folder, "ror").symlink_to(ror.Program.find().ror)
+            pathlib.Path(folder, "ror_show").write_text("no program", encoding="utf-8")
+            with self.assertRaises(ror.TableError) as raised:
+                ror.replay(ror.Table.from_bytes(b"x"), self.session, program=folder)
+            self.assertEqual((raised.exception.word, raised.exception.line, raised.exception.advice), ("Form", 1, ""))
 
     def test_nothing_is_shown_that_a_check_rejects(self):
         real = ror.Program.find()
@@ -522,6 +567,11 @@ class Faults(unittest.TestCase):
             with self.assertRaises(ror.ContradictionError):
                 call()
         self.assertFalse(report.answer(4).holds)
+        table = ror.Table({"q": "max"}, {"a": [1], "b": [2]}, classes=2)
+        classes = ror.replay(table, ror.Session(["prefer a b", "prefer b a", "ask classes a"])).classes()
+        self.assertEqual(classes.records()[0]["possible_verdicts"], ("contradiction", "contradiction"))
+        with self.assertRaises(ror.ContradictionError):
+            classes[0].lowest
 
     def test_what_is_too_wide_concludes_nothing(self):
         folder = TOP / "cases" / "check-json-of-each-body-and-verdict"
@@ -582,13 +632,38 @@ class Faults(unittest.TestCase):
                 pathlib.Path(folder, name).write_text(f"#!/bin/sh\n{script}\n")
                 with self.assertRaises(ror.ProgramError):
                     ror.replay(self.table, self.session, program=folder)
+            pathlib.Path(folder, "ror").write_text("#!/bin/sh\nexec sleep 60\n")
+            slow = ror.Program(folder + "/ror", folder + "/ror_show", timeout=0.1)
+            for call in (lambda: ror.replay(self.table, self.session, program=slow), lambda: ror.generate(7, program=slow)):
+                with self.assertRaisesRegex(ror.ProgramError, "after 0.1 seconds"):
+                    call()
             pathlib.Path(folder, "ror").chmod(0o644)
             with self.assertRaises(ror.ProgramError):
                 ror.replay(self.table, self.session, program=folder)
         self.assertEqual(ror.Program.find(found), found)
+        near = ror.Program(os.path.relpath(found.ror), os.path.relpath(found.ror_show))
+        self.assertEqual(ror.replay(self.table, self.session, program=near).accepted, 3)
 
 
 class Frames(unittest.TestCase):
+    def test_notebooks_show_rows(self):
+        table = ror.Table({"<q>": "max"}, {"<b>": [1], "a&b": [2]})
+        report = ror.replay(table, ror.Session(["prefer a&b <b>", "ask relation"]))
+        relation = report.relation()
+        self.assertEqual(repr(relation), "<ror.Relation of 2: first, second, necessary, possible>")
+        self.assertEqual(relation._repr_html_(), (
+            "<table><tr><th>first</th><th>second</th><th>necessary</th><th>possible</th></tr>"
+            "<tr><td>&lt;b&gt;</td><td>a&amp;b</td><td>no</td><td>no</td></tr>"
+            "<tr><td>a&amp;b</td><td>&lt;b&gt;</td><td>yes</td><td>yes</td></tr></table>"))
+        self.assertIn("<td>&lt;q&gt;</td><td>2</td><td>1</td>", report.functions(2)[0]._repr_html_())
+        flats = ror.replay(*example("six-flats"))
+        self.assertIn("<td>9</td><td></td><td>prefer bridge mill</td>", flats.repairs._repr_html_())
+        self.assertIn("<td>1, 2, 4</td>", flats.reasons()._repr_html_())
+        cars = ror.replay(*example("twenty-cars"))
+        self.assertIn("</table><p>and 280 more</p>", cars.relation(26)._repr_html_())
+        self.assertEqual(cars.relation(26)._repr_html_().count("<tr>"), 101)
+        self.assertLess(len(cars.lines._repr_html_()), 10_000)
+
     @unittest.skipUnless(HAS_PANDAS, "pandas isn't here")
     def test_frames(self):
         import pandas
@@ -603,13 +678,13 @@ class Frames(unittest.TestCase):
         self.assertEqual(report.lines.to_frame().shape[0], 7)
         self.assertEqual(table.to_frame().loc["c01", "price"], 9900)
         firms = ror.replay(*example("twelve-firms")).classes().to_frame()
-        self.assertEqual(firms.loc[firms.line == 14, "lowest"].item(), 2)
+        self.assertEqual(firms.loc[firms.line == 14, "possible_verdicts"].item(), ("no", "yes", "yes", "yes"))
         self.assertEqual(ror.group(*example("two-judges")).to_frame().shape, (20, 6))
         made = pandas.DataFrame({"q": [1, 2], "p": [0.1, 2.5]}, index=["a", "b"])
         self.assertEqual(ror.Table.from_frame(made, {"q": "max", "p": "min"}).performances("a"), {"q": 1, "p": Fraction(1, 10)})
-        for index, word in ((["a", "a"], "RepeatedId"), ([1, 2], "BadLine")):
+        for index, column, word in ((["a", "a"], "q", "RepeatedId"), ([1, 2], "q", "BadLine"), (["a", "b"], "p", "MissingPerformance")):
             with self.assertRaises(ror.TableError) as raised:
-                ror.Table.from_frame(pandas.DataFrame({"q": [1, 2]}, index=index), {"q": "max"})
+                ror.Table.from_frame(pandas.DataFrame({"q": [1, 2]}, index=index), {column: "max"})
             self.assertEqual(raised.exception.word, word)
 
     @unittest.skipIf(HAS_PANDAS, "pandas is here")
@@ -629,7 +704,20 @@ class Package(unittest.TestCase):
             code = "import ror; print(ror.generate(7).accepted, ror.Program.find().ror)"
             environment = {"PATH": os.environ["PATH"], "PYTHONDONTWRITEBYTECODE": "1"}
             done = subprocess.run([sys.executable, "-c", code], cwd=folder, env=environment, capture_output=True, text=True)
-            self.assertEqual(done.stdout, f"2209 {os.path.realpath(folder)}/ror_programs/ror\n")
+            self.assertEqual(done.stdout, f"2209 {os.path.realpath(folder)}/ror/ror_programs/ror\n")
+            self.assertTrue(pathlib.Path(folder, "ror", "py.typed").is_file())
+
+    @unittest.skipUnless(importlib.util.find_spec("pip"), "pip isn't here")
+    def test_pip_installs_it_without_a_network(self):
+        with tempfile.TemporaryDirectory() as folder:
+            words = ["-m", "pip", "install", "--quiet", "--no-index", "--disable-pip-version-check", "--target", folder, str(HERE)]
+            environment = {**os.environ, "PYTHONDONTWRITEBYTECODE": "1", "PIP_ROOT_USER_ACTION": "ignore"}
+            done = subprocess.run([sys.executable, *words], env=environment, capture_output=True, text=True)
+            self.assertEqual(done.returncode, 0, done.stderr)
+            code = "import ror; print(ror.generate(7).accepted, ror.__file__)"
+            environment = {"PATH": os.environ["PATH"], "PYTHONDONTWRITEBYTECODE": "1", "PYTHONPATH": folder}
+            done = subprocess.run([sys.executable, "-c", code], cwd=folder, env=environment, capture_output=True, text=True)
+            self.assertEqual(done.stdout, f"2209 {folder}/ror/__init__.py\n")
 
     def test_the_sources_build_the_same_wheel(self):
         with tempfile.TemporaryDirectory() as folder:
