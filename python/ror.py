@@ -949,6 +949,11 @@ def read_sheet(table: Table, program: ProgramLike = None) -> Sheet:
     return _sheet_of(_Runner(table, None, program).show(["read"]))
 
 
+def _brought(runner: _Runner) -> Tuple[str, ...]:
+    """The statements that the table's file brings, which each desk begins with."""
+    return read_sheet(runner.table, runner.program).statements if runner.table.is_xmcda else ()
+
+
 class _Words:
     """The words of a text, one after another."""
 
@@ -1270,7 +1275,6 @@ class Report:
         self._runner = runner
         self.lines: Listing[Line] = Listing(_lines_of(plain, runner.files["session.txt"]), _columns_of(Line)[:-1])
         self._by_number = {line.number: line for line in self.lines}
-        self._opening: Optional[Tuple[str, ...]] = None
 
     # what came of the lines
 
@@ -1406,22 +1410,15 @@ class Report:
             raise NoAnswerError(f"`{text}` is answered {len(lines)} times: name a line, {which}" if lines else f"`{text}` isn't answered")
         return lines[0]
 
-    def _opening_statements(self) -> Tuple[str, ...]:
-        """What the table's file brings, which each desk begins with."""
-        if self._opening is None:
-            self._opening = ()
-            if self._runner.table.is_xmcda:
-                self._opening = read_sheet(self._runner.table, self._runner.program).statements
-        return self._opening
-
     def _stood(self, wanted: set[int], before: bool = False, last_of: Optional[str] = None) -> Dict[int, Dict[int, Statement]]:
         """What stood after these lines (or before them) at their desks; under 0, what stands in the end at one desk."""
+        brought = _brought(self._runner)
         desks: Dict[str, _History] = {}
         found: Dict[int, Dict[int, Statement]] = {}
 
         def history_of(name: str) -> _History:
             if name not in desks:
-                opening = (Statement(number, text, None, name) for number, text in enumerate(self._opening_statements(), 1))
+                opening = (Statement(number, text, None, name) for number, text in enumerate(brought, 1))
                 desks[name] = _History({statement.number: statement for statement in opening})
             return desks[name]
 
@@ -1712,7 +1709,7 @@ def _function_at(runner: _Runner, solution: str, total: int) -> ValueFunction:
     The page is of a session that withdraws what the table's file brings, and asks whether the statements are consistent: the answer
     has this solution.
     """
-    count = len(read_sheet(runner.table, runner.program).statements)
+    count = len(_brought(runner))
     own = _Runner(runner.table, Session([*(f"withdraw {it}" for it in range(1, count + 1)), "ask consistent"]), runner.program)
     lines = [f"line {it}\nwithdrawn {it}\n" for it in range(1, count + 1)]
     text = f"ror-report 1\n{''.join(lines)}line {count + 1}\nanswer consistent yes\nbase {solution}\nend {count + 1}\n"
