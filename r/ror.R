@@ -1,4 +1,4 @@
-# Robust ordinal regression in R, by the proved programs `ror` and `ror_show`. It needs the package jsonlite.
+# Robust ordinal regression in R, by the proved programs `ror` and `ror_show`. Only reports in JSON need a package, jsonlite.
 #
 #   source("r/ror.R")
 #   table <- ror_table(data.frame(price = c(9900, 12400), power = c(50, 66), row.names = c("a", "b")),
@@ -11,7 +11,8 @@
 # table. Numbers of value functions are texts, since doubles would lose digits; `ror_number` makes doubles of them.
 #
 # The programs are found in this order: the argument `program` (the path of `ror`; `ror_show` stands beside it), the environment
-# variable ROR (and ROR_SHOW), the folder above this file, and the search path. They run on x86-64 Linux.
+# variable ROR (and ROR_SHOW), the folder above this file, and the search path. They run on x86-64 Linux. A call is ended after
+# `options(ror.timeout = SECONDS)`, if that is set.
 #
 # What goes wrong is a condition of the class `ror_error` and of one of its own: `ror_table_error`, `ror_session_error`,
 # `ror_unsuited_error`, `ror_levels_error`, `ror_report_error`, `ror_file_error`, `ror_output_error`, `ror_memory_error`,
@@ -35,7 +36,7 @@ ror_stop_by_status <- function(status, errors, advice) {
   kinds <- c("2" = "usage", "3" = "table", "4" = "session", "5" = "report", "6" = "file", "7" = "output", "8" = "memory",
              "10" = "unsuited", "11" = "levels")
   kind <- kinds[as.character(status)]
-  message <- if (nzchar(said)) said else paste("status", status)
+  message <- if (nzchar(said)) said else if (status > 128) paste("a signal ended the program:", status - 128) else paste("status", status)
   if (is.na(kind)) ror_stop("program", if (length(errors) > 0) paste(errors, collapse = "\n") else message, status, said)
   word <- sub("^(bad [a-z]+|rejected|unsuited session): ", "", said, useBytes = TRUE)
   block <- NA_integer_
@@ -96,7 +97,7 @@ ror_decimal <- function(number) {
   vapply(number, function(one) {
     if (!is.finite(one)) return("NA")
     for (digits in 1:17) {
-      word <- format(one, digits = digits, scientific = TRUE)
+      word <- sprintf("%.*e", digits - 1L, one)
       if (as.numeric(word) == one) break
     }
     parts <- regmatches(word, regexec("^(-?)([0-9])\\.?([0-9]*)e([+-][0-9]+)$", word))[[1]]
@@ -146,6 +147,9 @@ ror_table <- function(frame, directions, linear = character(), classes = 0, id =
   if (!all(linear %in% criteria)) ror_stop("table", "linear names no criterion", word = "BadLine")
   lacking <- setdiff(c(criteria, id), names(frame))
   if (length(lacking) > 0) ror_stop("table", paste("the data frame has no column", lacking[1]), word = "MissingPerformance")
+  if (is.null(id) && is.integer(attr(frame, "row.names"))) {
+    ror_stop("table", "the rows have no names: say by `id` which column has them", word = "BadLine")
+  }
   names <- ror_names(if (is.null(id)) rownames(frame) else frame[[id]], "table")
   if (anyDuplicated(names)) ror_stop("table", paste("two alternatives have the name", names[anyDuplicated(names)]), word = "RepeatedId")
   words <- lapply(criteria, function(it) ror_amounts(frame[[it]], it))
@@ -160,17 +164,23 @@ ror_table <- function(frame, directions, linear = character(), classes = 0, id =
 ror_table_read <- function(path, best_first = FALSE) ror_table_of(ror_read_bytes(path), best_first)
 
 ror_table_of <- function(bytes, best_first) {
-  front <- bytes
-  if (length(front) >= 3 && identical(front[1:3], as.raw(c(0xef, 0xbb, 0xbf)))) front <- front[-(1:3)]
-  front <- front[cumsum(!front %in% as.raw(c(32, 9, 13, 10))) > 0]
-  structure(list(bytes = bytes, best_first = best_first, xmcda = length(front) > 0 && front[1] == as.raw(60)), class = "ror_table")
+  front <- if (identical(utils::head(bytes, 3), as.raw(c(0xef, 0xbb, 0xbf)))) bytes[-(1:3)] else bytes
+  structure(list(bytes = bytes, best_first = best_first, xmcda = ror_first_byte(front) == as.raw(60)), class = "ror_table")
+}
+
+# the first byte that is no white space, or 0
+ror_first_byte <- function(bytes) {
+  for (byte in bytes) if (!byte %in% as.raw(c(32, 9, 13, 10))) return(byte)
+  as.raw(0)
 }
 
 ror_bytes <- function(lines) charToRaw(paste0(enc2utf8(lines), "\n", collapse = ""))
 
 ror_read_bytes <- function(path) {
-  if (!file.exists(path)) ror_stop("file", paste("there is no file", path))
-  readBin(path, "raw", file.size(path))
+  tryCatch({
+    stopifnot(file.exists(path), !dir.exists(path))
+    suppressWarnings(readBin(path, "raw", file.size(path)))
+  }, error = function(error) ror_stop("file", paste("the file can't be read:", path)))
 }
 
 print.ror_table <- function(x, ...) {
@@ -263,15 +273,20 @@ ror_session <- function(...) {
 ror_session_read <- function(path) structure(list(bytes = ror_read_bytes(path)), class = "ror_session")
 
 ror_text_lines <- function(bytes) {
-  text <- rawToChar(bytes)
-  Encoding(text) <- "UTF-8"
-  lines <- strsplit(text, "\n", fixed = TRUE)[[1]]
+  lines <- strsplit(rawToChar(bytes), "\n", fixed = TRUE, useBytes = TRUE)[[1]]
   Encoding(lines) <- "UTF-8"
   lines
 }
 
+# the lines of somebody's text; one CR just before an LF belongs to the end of the line, and `?` stands for a NUL, which R has in no text
+ror_given_lines <- function(bytes) {
+  bytes <- bytes[!(bytes == as.raw(13) & c(bytes[-1], as.raw(0)) == as.raw(10))]
+  bytes[bytes == as.raw(0)] <- charToRaw("?")
+  ror_text_lines(bytes)
+}
+
 # the lines of a session
-ror_session_lines <- function(session) ror_text_lines(session$bytes)
+ror_session_lines <- function(session) ror_given_lines(session$bytes)
 
 print.ror_session <- function(x, ...) {
   cat(ror_session_lines(x), sep = "\n")
@@ -320,8 +335,11 @@ ror_call <- function(program, words, files) {
     unlink(folder, recursive = TRUE)
   })
   for (name in names(files)) writeBin(files[[name]], name)
-  status <- suppressWarnings(system2(program, shQuote(words), stdout = "out", stderr = "err", stdin = "/dev/null"))
-  errors <- ror_text_lines(readBin("err", "raw", file.size("err")))
+  command <- paste(c(shQuote(c(program, words)), "</dev/null >out 2>err; exit $?"), collapse = " ")
+  timeout <- getOption("ror.timeout", 0)
+  status <- suppressWarnings(system(command, timeout = timeout))
+  if (timeout > 0 && status == 124) ror_stop("program", paste("the program was ended after", timeout, "seconds:", program), status)
+  errors <- ror_given_lines(readBin("err", "raw", file.size("err")))
   list(status = as.integer(status), output = readBin("out", "raw", file.size("out")), errors = errors)
 }
 
@@ -374,91 +392,99 @@ ror_counts <- function(output) {
   as.numeric(words[2:3])
 }
 
-ror_width <- function(bits) if (is.null(bits)) character() else c("--bits", format(bits, scientific = FALSE))
+ror_width <- function(bits) {
+  if (is.null(bits)) return(character())
+  if (!identical(length(bits), 1L) || !bits %in% c(15, 31, 63, 127)) {
+    ror_stop("usage", paste("bits are 15, 31, 63 or 127:", paste(bits, collapse = " ")))
+  }
+  c("--bits", format(bits))
+}
 
 # ---- reports
 
 # Answers a session over a table, and checks the report. `bits` is 15, 31, 63 or 127, and 127 without it.
 # The report has `accepted` (how many answers are proved), `wide` (how many answers and repairs conclude nothing), `status` (0, or 9
 # where something is wide), `lines` (a data frame of what came of each line), `answers` (one of all answers with their verdicts),
-# and its bytes, `json` as `replay-json` writes them and `plain` as `replay` does.
+# and `plain`, the bytes that `check` accepted.
 ror_replay <- function(table, session, bits = NULL, program = NULL) {
   run <- ror_run_of(table, session, program)
-  ror_report(run, ror_run(run, c("replay-json", ror_width(bits)))$output)
+  ror_told(ror_report(run, ror_run(run, c("replay", ror_width(bits)))$output))
 }
 
 # Checks a report of `replay` or `replay-json`, whoever wrote it: bytes, or the path of its file.
 ror_check <- function(table, session, report, program = NULL) {
   run <- ror_run_of(table, session, program)
   bytes <- if (is.raw(report)) report else ror_read_bytes(report)
-  front <- bytes[cumsum(!bytes %in% as.raw(c(32, 9, 13, 10))) > 0]
-  if (length(front) > 0 && front[1] == as.raw(123)) return(ror_report(run, bytes))
-  ror_run(run, "check", list(report.txt = bytes))
-  ror_report(run, ror_json_of(bytes))
+  if (ror_first_byte(bytes) == as.raw(123)) {
+    ror_run(run, "check-json", list(report.json = bytes))
+    bytes <- ror_plain_of(bytes)
+  }
+  ror_told(ror_report(run, bytes))
 }
 
-ror_report <- function(run, json) {
-  checked <- ror_run(run, "check-json", list(report.json = json))
+ror_report <- function(run, plain) {
+  checked <- ror_run(run, "check", list(report.txt = plain))
   counts <- ror_counts(checked$output)
-  text <- rawToChar(json)
-  Encoding(text) <- "UTF-8"
-  blocks <- jsonlite::fromJSON(text, simplifyVector = FALSE)$blocks
-  lines <- ror_block_lines(blocks, run$session)
-  refused <- lines$lines[lines$lines$outcome == "refused", ]
+  report <- list(accepted = counts[1], wide = counts[2], status = checked$status, plain = plain, run = run)
+  structure(c(report, ror_block_lines(plain, run$session)), class = "ror_report")
+}
+
+# the report, after a warning if lines were refused
+ror_told <- function(report) {
+  refused <- ror_refused(report)
   if (nrow(refused) > 0) {
     told <- paste(utils::head(paste0(refused$number, " (", refused$refusal, ")"), 5), collapse = ", ")
     message <- paste0("lines that are refused, change nothing and have no answer: ", told, if (nrow(refused) > 5) ", ..")
     warning(structure(class = c("ror_refused_warning", "warning", "condition"), list(message = message, call = NULL)))
   }
-  structure(list(accepted = counts[1], wide = counts[2], status = checked$status, lines = lines$lines, answers = lines$answers,
-                 json = json, plain = ror_plain_of(blocks), dropped = lines$dropped, run = run), class = "ror_report")
+  report
 }
 
 print.ror_report <- function(x, ...) {
-  cat(paste("ror report, accepted", x$accepted, "wide", x$wide), "\n", sep = "")
+  cat("ror report, accepted ", ror_whole(x$accepted), " wide ", ror_whole(x$wide), " refused ", nrow(ror_refused(x)), "\n", sep = "")
   invisible(x)
 }
 
 # the words of a line, cut as a session's reader cuts them
 ror_words <- function(line) {
-  line <- sub("\r$", "", line, useBytes = TRUE)
   words <- strsplit(gsub("\t", " ", line, fixed = TRUE), " ", fixed = TRUE)[[1]]
   Encoding(words) <- "UTF-8"
   words[nzchar(words)]
 }
 
-ror_outcomes <- c("added", "withdrawn", "replaced", "undone", "refused", "repaired", "repair-wide", "answers")
+# the lines of a report, but for the bases and parts of its proofs
+ror_rows <- function(bytes) {
+  rows <- ror_text_lines(bytes)
+  rows[!startsWith(rows, "base ") & !startsWith(rows, "part ")]
+}
 
-# what came of each line, and the answers, as data frames
-ror_block_lines <- function(blocks, session) {
-  said <- ror_session_lines(session)
-  kinds <- vapply(blocks, function(block) intersect(ror_outcomes, names(block))[1], "")
-  number <- vapply(blocks, function(block) as.integer(block$line), 0L)
-  words <- lapply(said[number], ror_words)
+# what came of each line, and the answers, as data frames; and the numbers that each repair dropped
+ror_block_lines <- function(plain, session) {
+  rows <- ror_rows(plain)
+  rows <- rows[!startsWith(rows, "wide ")]
+  rows <- rows[-c(1, length(rows))]
+  kind <- sub(" .*", "", rows)
+  heads <- which(kind == "line")
+  block <- cumsum(kind == "line")
+  number <- as.integer(substring(rows[heads], 6))
+  first <- c(kind, "line")[heads + 1]
+  operand <- sub("^[^ ]* ?", "", c(rows, "")[heads + 1])
+  words <- lapply(ror_session_lines(session)[number], ror_words)
   has_desk <- vapply(words, function(it) startsWith(it[1], "@"), TRUE)
-  desk <- ifelse(has_desk, vapply(words, function(it) substring(it[1], 2), ""), "")
+  desk <- vapply(words, function(it) if (startsWith(it[1], "@")) substring(it[1], 2) else "", "")
   words[has_desk] <- lapply(words[has_desk], function(it) it[-1])
-  statement <- rep(NA_real_, length(blocks))
-  refusal <- rep(NA_character_, length(blocks))
-  dropped <- vector("list", length(blocks))
-  answers <- list()
-  for (place in seq_along(blocks)) {
-    value <- blocks[[place]][[kinds[place]]]
-    if (kinds[place] %in% c("added", "withdrawn", "replaced")) statement[place] <- value
-    if (kinds[place] == "repair-wide") statement[place] <- value$number
-    if (kinds[place] == "refused") refusal[place] <- value
-    if (kinds[place] == "repaired") dropped[[place]] <- vapply(value$dropped, function(it) as.numeric(it$number), 0)
-    if (kinds[place] == "answers" && length(value) > 0) {
-      answers[[length(answers) + 1]] <- data.frame(
-        line = number[place], place = seq_along(value), desk = desk[place],
-        question = vapply(value, function(it) it$question, ""), verdict = vapply(value, function(it) it$verdict, ""))
-    }
-  }
-  none <- data.frame(line = integer(), place = integer(), desk = character(), question = character(), verdict = character())
+  numbered <- first %in% c("added", "withdrawn", "replaced", "repair-wide")
+  statement <- rep(NA_real_, length(heads))
+  statement[numbered] <- as.numeric(operand[numbered])
   lines <- data.frame(number = number, desk = desk, text = vapply(words, paste, "", collapse = " "),
-                      outcome = ifelse(kinds == "answers", "answered", kinds), statement = statement, refusal = refusal)
-  names(dropped) <- number
-  list(lines = lines, answers = if (length(answers) > 0) do.call(rbind, answers) else none, dropped = dropped)
+                      outcome = ifelse(first %in% c("line", "answer"), "answered", first), statement = statement,
+                      refusal = ifelse(first == "refused", operand, NA_character_))
+  gone <- kind == "dropped"
+  dropped <- split(as.numeric(sub("^dropped ([0-9]+) .*", "\\1", rows[gone])), factor(block[gone], seq_along(heads)))
+  said <- kind == "answer"
+  answers <- data.frame(line = number[block[said]], place = sequence(rle(block[said])$lengths), desk = desk[block[said]],
+                        question = sub("^answer (.*) [^ ]*$", "\\1", rows[said]), verdict = sub(".* ", "", rows[said]))
+  list(lines = lines, answers = answers, dropped = unname(dropped))
 }
 
 ror_asked <- function(report, line) {
@@ -525,15 +551,15 @@ ror_classes <- function(report, line = NULL) {
   if (!is.null(line)) ror_asked(report, line)
   asked <- report$lines[report$lines$outcome == "answered" & startsWith(report$lines$text, "ask classes "), ]
   if (!is.null(line)) asked <- asked[asked$number == line, ]
-  if (!is.null(line) && nrow(asked) == 0) ror_stop("no_answer", paste("line", line, "doesn't ask for classes"), line = as.integer(line))
-  rows <- lapply(seq_len(nrow(asked)), function(place) {
-    answers <- report$answers[report$answers$line == asked$number[place], ]
-    first <- seq(1, length.out = nrow(answers) / 2, by = 2)
-    data.frame(line = asked$number[place], desk = asked$desk[place], alternative = ror_words(asked$text[place])[3],
-               class = seq_along(first), possible = answers$verdict[first], necessary = answers$verdict[first + 1])
-  })
-  if (length(rows) == 0) ror_stop("no_answer", "`ask classes` isn't answered")
-  do.call(rbind, rows)
+  if (nrow(asked) == 0) {
+    if (is.null(line)) ror_stop("no_answer", "`ask classes` isn't answered")
+    ror_stop("no_answer", paste("line", line, "doesn't ask for classes"), line = as.integer(line))
+  }
+  answers <- report$answers[report$answers$line %in% asked$number, ]
+  first <- answers$place %% 2 == 1
+  text <- asked$text[match(answers$line[first], asked$number)]
+  data.frame(line = answers$line[first], desk = answers$desk[first], alternative = substring(text, nchar("ask classes ") + 1),
+             class = (answers$place[first] + 1L) %/% 2L, possible = answers$verdict[first], necessary = answers$verdict[!first])
 }
 
 # The lowest and the highest class that some function leaves to each alternative asked for, NA where there is none. A contradiction or
@@ -562,7 +588,8 @@ ror_csv <- function(bytes) {
 
 # The value functions in the answers to a line: what each level is worth. `level`, `marginal` and `total` are exact texts; `share` is
 # the marginal value as a share of the total, as a double. `place` counts the line's answers; `label` is `base`, or the question that
-# the function decides with the verdict. A function whose total passes 127 bits is left out.
+# the function decides with the verdict. An answer has its own function `base` only if the previous answer hasn't the same. A function
+# whose total passes 127 bits is left out.
 ror_functions <- function(report, line) {
   ror_asked(report, line)
   ror_shown_functions(report$run, line, report$plain)
@@ -575,6 +602,61 @@ ror_shown_functions <- function(run, line, plain) {
              marginal = rows$marginal, total = rows$total, share = as.numeric(rows$marginal) / as.numeric(rows$total))
 }
 
+# The weight of each criterion in each of these functions: the marginal value of its best level.
+ror_weights <- function(functions) {
+  rows <- functions[!duplicated(functions[names(functions) %in% c("place", "label", "criterion")], fromLast = TRUE), ]
+  names(rows)[names(rows) == "marginal"] <- "weight"
+  rownames(rows) <- NULL
+  rows[names(rows) != "level"]
+}
+
+# The value of each alternative of a plain table by each of these functions: `value` is exact, as `marginal` is.
+ror_values <- function(functions, table, program = NULL) {
+  levels <- ror_performances(table, program)
+  key <- paste(functions$place, functions$label)
+  rows <- lapply(split(functions, factor(key, unique(key))), function(it) {
+    worth <- vapply(colnames(levels), function(criterion) {
+      here <- it[it$criterion == criterion, ]
+      here$marginal[match(levels[, criterion], here$level)]
+    }, character(nrow(levels)))
+    if (anyNA(worth) || !setequal(colnames(levels), it$criterion)) {
+      ror_stop("table", "a performance is no level of the function, which says nothing of it")
+    }
+    value <- ror_sums(matrix(worth, nrow(levels)))
+    data.frame(it[rep(1, length(value)), names(it) %in% c("place", "label"), drop = FALSE], alternative = rownames(levels),
+               value = value, total = it$total[1], share = as.numeric(value) / as.numeric(it$total[1]), row.names = NULL)
+  })
+  do.call(rbind, unname(rows))
+}
+
+# the performances of a plain table, as the program writes levels: a row for each alternative, a column for each criterion
+ror_performances <- function(table, program) {
+  sheet <- ror_sheet(table, program)
+  if (table$xmcda) ror_stop("table", "the performances of a table in XMCDA are known to the program alone")
+  words <- lapply(ror_given_lines(table$bytes), ror_words)
+  rows <- do.call(rbind, words[vapply(words, function(it) identical(it[1], "alternative"), TRUE)])
+  given <- unique(c(rows[, -(1:2)]))
+  levels <- lapply(split(given, (seq_along(given) - 1) %/% 64), function(it) {
+    lines <- c("ror-table 3", paste("criterion", seq_along(it), "max"), paste(c("alternative a", it), collapse = " "))
+    ror_sheet(ror_table_of(ror_bytes(lines), FALSE), program)$levels
+  })
+  matrix(unlist(levels)[match(rows[, -(1:2)], given)], nrow(rows), dimnames = list(rows[, 2], sheet$criteria$name))
+}
+
+# the sum of each row of whole numbers in decimal digits, exactly
+ror_sums <- function(words) {
+  apply(words, 1, function(row) {
+    width <- max(nchar(row)) + 2
+    digits <- strsplit(paste0(strrep("0", width - nchar(row)), row), "")
+    sums <- Reduce(`+`, lapply(digits, as.integer))
+    for (place in width:2) {
+      sums[place - 1] <- sums[place - 1] + sums[place] %/% 10
+      sums[place] <- sums[place] %% 10
+    }
+    sub("^0+(?=.)", "", paste(sums, collapse = ""), perl = TRUE)
+  })
+}
+
 # The certificates of reasons that `ror_show why` writes, once `check-why` accepted them.
 ror_certificates <- function(report, line = NULL) {
   if (!is.null(line)) ror_asked(report, line)
@@ -584,83 +666,85 @@ ror_certificates <- function(report, line = NULL) {
   found
 }
 
-# Why the answers to a line, or to all lines, are what they are: a row for each statement that carries an answer. Of these none can be
-# spared, and others may carry it too. An answer that one function decides has no rows; nor has one whose reason is too wide, or a repair.
+# Why the answers to a line, or to all lines, are what they are: a row for each statement that carries an answer, or one with NA where no
+# statement is needed. Of these none can be spared, and others may carry it too. An answer that one function decides has no rows; nor has
+# one whose reason is too wide, or a repair.
 ror_reasons <- function(report, line = NULL) {
-  none <- data.frame(line = integer(), place = integer(), question = character(), verdict = character(), number = numeric(),
-                     statement = character(), said_in = integer())
-  reducts <- grep("^reduct ", ror_text_lines(ror_certificates(report, line)), value = TRUE, useBytes = TRUE)
-  words <- strsplit(reducts, " ", fixed = TRUE)
-  at <- vapply(words, function(it) as.integer(it[2]), 0L)
-  place <- vapply(words, function(it) as.integer(it[3]), 0L)
-  numbers <- lapply(words, function(it) as.numeric(it[-(1:3)]))
-  rows <- lapply(unique(at), function(line) {
-    here <- which(at == line)
-    sizes <- lengths(numbers[here])
-    answers <- report$answers[report$answers$line == line, ]
-    answers <- answers[rep(match(place[here], answers$place), sizes), ]
-    stood <- ror_standing(report, line)
-    stood <- stood[match(unlist(numbers[here]), stood$number), ]
-    data.frame(line = answers$line, place = answers$place, question = answers$question, verdict = answers$verdict,
-               number = stood$number, statement = stood$text, said_in = stood$line)
-  })
-  do.call(rbind, c(list(none), rows))
+  reducts <- grep("^reduct ", ror_text_lines(ror_certificates(report, line)), value = TRUE)
+  words <- lapply(strsplit(reducts, " ", fixed = TRUE), function(it) as.integer(it[-1]))
+  numbers <- lapply(words, function(it) if (length(it) > 2) it[-(1:2)] else NA_integer_)
+  keys <- vapply(words, function(it) paste(it[1], it[2]), "")
+  rows <- report$answers[match(keys, paste(report$answers$line, report$answers$place)), ]
+  stood <- ror_stood(report, match(rows$line, report$lines$number))
+  said <- do.call(rbind, c(list(ror_no_statements), Map(function(it, numbers) it[match(numbers, it$number), ], stood, numbers)))
+  rows <- rows[rep(seq_along(numbers), lengths(numbers)), c("line", "place", "question", "verdict")]
+  data.frame(rows, number = said$number, statement = said$text, said_in = said$line, row.names = NULL)
 }
 
 # What stands after a line at its desk; or, without a line, in the end at a desk. `line` is the line that said the statement, NA where
 # the table's file brings it.
 ror_standing <- function(report, line = NULL, desk = "") {
   lines <- report$lines
-  if (is.null(line)) {
-    if (nrow(lines) > 0 && !desk %in% lines$desk) ror_stop("no_answer", paste0("the session has no desk `", desk, "`"))
-  } else {
-    at <- match(line, lines$number)
-    if (is.na(at)) ror_stop("no_answer", paste("line", line, "of the session says nothing, or isn't there"), line = as.integer(line))
-    desk <- lines$desk[at]
-    lines <- lines[seq_len(at), ]
-  }
-  ror_stood(report, lines, desk)
+  at <- if (is.null(line)) utils::tail(which(lines$desk == desk), 1) else match(line, lines$number)
+  if (anyNA(at)) ror_stop("no_answer", paste("line", line, "of the session says nothing, or isn't there"), line = as.integer(line))
+  if (length(at) > 0) return(ror_stood(report, at)[[1]])
+  if (nrow(lines) > 0) ror_stop("no_answer", paste0("the session has no desk `", desk, "`"))
+  ror_brought(report$run)
 }
 
-# what stands at a desk after these lines
-ror_stood <- function(report, lines, desk) {
-  opening <- ror_opening(report$run)
-  standing <- data.frame(number = as.numeric(seq_along(opening)), text = opening, line = rep(NA_integer_, length(opening)))
-  before <- list()
-  for (place in which(lines$desk == desk)) {
-    outcome <- lines$outcome[place]
-    if (outcome == "undone") {
-      standing <- before[[length(before)]]
-      before[[length(before)]] <- NULL
-    } else if (outcome %in% c("added", "withdrawn", "replaced", "repaired")) {
-      before[[length(before) + 1]] <- standing
-      gone <- if (outcome == "repaired") report$dropped[[as.character(lines$number[place])]] else lines$statement[place]
-      standing <- standing[!standing$number %in% gone, ]
-      if (outcome %in% c("added", "replaced")) {
-        words <- ror_words(lines$text[place])
-        if (outcome == "replaced") words <- words[-(1:2)]
-        if (words[1] == "class") words[3:4] <- as.character(as.integer(words[3:4]))
-        said <- data.frame(number = lines$statement[place], text = paste(words, collapse = " "), line = lines$number[place])
-        standing <- rbind(standing, said)
+ror_no_statements <- data.frame(number = numeric(), text = character(), line = integer())
+
+# the statements that the table's file brings, as ror_standing has them
+ror_brought <- function(run) {
+  opening <- ror_opening(run)
+  data.frame(number = as.numeric(seq_along(opening)), text = opening, line = rep(NA_integer_, length(opening)))
+}
+
+# what stood after each of these rows of the lines, or before it, at its desk
+ror_stood <- function(report, places, before = FALSE) {
+  lines <- report$lines
+  said <- which(lines$outcome %in% c("added", "replaced"))
+  text <- sub("^replace [0-9]+ ", "", lines$text[said])
+  class <- grepl("^class ", text)
+  text[class] <- vapply(lapply(text[class], ror_words), function(it) paste(c(it[1:2], as.integer(it[3:4])), collapse = " "), "")
+  brought <- ror_brought(report$run)
+  statements <- rbind(brought, data.frame(number = lines$statement[said], text = text, line = lines$number[said]))
+  own <- match(seq_len(nrow(lines)), said) + nrow(brought)
+  wanted <- seq_len(nrow(lines)) %in% places
+  found <- vector("list", nrow(lines))
+  for (desk in unique(lines$desk[places])) {
+    standing <- seq_len(nrow(brought))
+    past <- vector("list", sum(lines$desk == desk))
+    depth <- 0
+    for (place in which(lines$desk == desk)) {
+      if (before && wanted[place]) found[[place]] <- standing
+      outcome <- lines$outcome[place]
+      if (outcome == "undone") {
+        standing <- past[[depth]]
+        depth <- depth - 1
+      } else if (outcome %in% c("added", "withdrawn", "replaced", "repaired")) {
+        depth <- depth + 1
+        past[[depth]] <- standing
+        gone <- if (outcome == "repaired") report$dropped[[place]] else lines$statement[place]
+        standing <- c(standing[!statements$number[standing] %in% gone], if (!is.na(own[place])) own[place])
       }
+      if (!before && wanted[place]) found[[place]] <- standing
     }
   }
-  standing <- standing[order(standing$number), ]
-  rownames(standing) <- NULL
-  standing
+  lapply(found[places], function(rows) {
+    rows <- statements[rows[order(statements$number[rows])], ]
+    rownames(rows) <- NULL
+    rows
+  })
 }
 
 # The repairs: a row for each statement that one withdrew, since it contradicts those kept before it.
 ror_repairs <- function(report) {
-  none <- data.frame(line = integer(), number = numeric(), statement = character())
-  rows <- lapply(report$lines$number[report$lines$outcome == "repaired"], function(at) {
-    gone <- report$dropped[[as.character(at)]]
-    if (length(gone) == 0) return(none)
-    lines <- report$lines
-    stood <- ror_stood(report, lines[lines$number < at, ], lines$desk[lines$number == at])
-    data.frame(line = at, number = gone, statement = stood$text[match(gone, stood$number)])
-  })
-  do.call(rbind, c(list(none), rows))
+  places <- which(lengths(report$dropped) > 0)
+  rows <- Map(function(stood, gone) stood[match(gone, stood$number), ], ror_stood(report, places, before = TRUE), report$dropped[places])
+  said <- do.call(rbind, c(list(ror_no_statements), rows))
+  line <- rep(report$lines$number[places], lengths(report$dropped[places]))
+  data.frame(line = line, number = said$number, statement = said$text)
 }
 
 # the statements that the table's file brings, by the sheet that `ror_show read` writes
@@ -719,110 +803,55 @@ ror_sheet <- function(table, program = NULL) {
   list(criteria = do.call(rbind, rows), levels = levels, alternatives = alternatives, classes = classes, statements = statements)
 }
 
-# ---- the two forms of a report: what is made here is checked by the program before anything of it is shown
+# ---- a report in JSON is turned into plain text, which is checked before anything of it is shown
 
-ror_certificate_text <- function(it) {
+ror_whole <- function(numbers) format(as.numeric(unlist(numbers)), scientific = FALSE, trim = TRUE)
+
+ror_proof_text <- function(it) {
   if (!is.null(it$solution)) return(paste(c("solution", unlist(it$solution)), collapse = " "))
   paste(c("multipliers", unlist(it$multipliers$weak), "|", unlist(it$multipliers$strict)), collapse = " ")
 }
 
+ror_proof_texts <- function(word, numbers, proofs) {
+  if (length(proofs) > 0) paste(word, ror_whole(numbers), vapply(proofs, ror_proof_text, "")) else character()
+}
+
 ror_wide_text <- function(it) {
-  path <- vapply(it$path, function(pair) paste(unlist(pair), collapse = ":"), "")
-  paste(c("wide", it$system, unlist(it$place), "path", path), collapse = " ")
+  path <- vapply(it$path, function(pair) paste(ror_whole(pair), collapse = ":"), "")
+  paste(c("wide", ror_whole(it$system), it$place[[1]], ror_whole(it$place[-1]), "path", path), collapse = " ")
 }
 
 ror_answer_text <- function(it) {
   head <- paste("answer", it$question, it$verdict)
   if (!is.null(it$wide)) return(c(head, ror_wide_text(it$wide)))
-  parts <- vapply(it$parts, function(part) paste("part", part$at, ror_certificate_text(part)), "")
-  c(head, paste("base", ror_certificate_text(it$base)), parts)
+  c(head, paste("base", ror_proof_text(it$base)), ror_proof_texts("part", lapply(it$parts, function(part) part$at), it$parts))
 }
 
-# the blocks as `replay` writes them
-ror_plain_of <- function(blocks) {
+# of equal keys the last one, as `check-json` takes it
+ror_last_keys <- function(it) {
+  if (!is.list(it)) return(it)
+  lapply(if (is.null(names(it))) it else it[!duplicated(names(it), fromLast = TRUE)], ror_last_keys)
+}
+
+# the plain text of a report in JSON that `check-json` accepted
+ror_plain_of <- function(bytes) {
+  text <- rawToChar(bytes)
+  Encoding(text) <- "UTF-8"
+  blocks <- ror_last_keys(jsonlite::fromJSON(text, simplifyVector = FALSE))$blocks
   lines <- lapply(blocks, function(block) {
-    kind <- intersect(ror_outcomes, names(block))[1]
+    kind <- setdiff(names(block), "line")
     value <- block[[kind]]
-    c(paste("line", block$line), switch(kind,
+    c(paste("line", ror_whole(block$line)), switch(kind,
       undone = "undone",
+      refused = paste("refused", value),
       repaired = c(paste("repaired", length(value$dropped)),
-                   vapply(value$dropped, function(it) paste("dropped", it$number, ror_certificate_text(it)), ""),
-                   paste("base", ror_certificate_text(value$base))),
-      `repair-wide` = c(paste("repair-wide", value$number), ror_wide_text(value$wide)),
+                   ror_proof_texts("dropped", lapply(value$dropped, function(it) it$number), value$dropped),
+                   paste("base", ror_proof_text(value$base))),
+      `repair-wide` = c(paste("repair-wide", ror_whole(value$number)), ror_wide_text(value$wide)),
       answers = unlist(lapply(value, ror_answer_text)),
-      paste(kind, value)))
+      paste(kind, ror_whole(value))))
   })
-  ror_bytes(c("ror-report 1", unlist(lines), paste("end", length(blocks))))
-}
-
-ror_quoted <- function(texts) {
-  texts <- gsub("\"", "\\\"", gsub("\\", "\\\\", texts, fixed = TRUE), fixed = TRUE)
-  if (length(texts) > 0) paste0("\"", texts, "\"") else character()
-}
-
-ror_list <- function(items) paste0("[", paste(items, collapse = ","), "]")
-
-ror_certificate_json <- function(words) {
-  if (words[1] == "solution") return(paste0("\"solution\":", ror_list(ror_quoted(words[-1]))))
-  bar <- match("|", words)
-  strict <- ror_list(ror_quoted(words[-seq_len(bar)]))
-  paste0("\"multipliers\":{\"strict\":", strict, ",\"weak\":", ror_list(ror_quoted(words[seq_len(bar - 1)][-1])), "}")
-}
-
-ror_wide_json <- function(words) {
-  end <- match("path", words)
-  path <- vapply(strsplit(words[-seq_len(end)], ":", fixed = TRUE), ror_list, "")
-  place <- ror_list(c(ror_quoted(words[3]), words[seq(4, end - 1)]))
-  paste0("\"wide\":{\"path\":", ror_list(path), ",\"place\":", place, ",\"system\":", words[2], "}")
-}
-
-# the report in JSON that is the same as one in plain text, which was accepted
-ror_json_of <- function(bytes) {
-  lines <- strsplit(ror_text_lines(bytes), " ", fixed = TRUE)
-  lines <- lines[-c(1, length(lines))]
-  starts <- which(vapply(lines, function(words) words[1] == "line", TRUE))
-  ends <- c(starts[-1] - 1, length(lines))[seq_along(starts)]
-  blocks <- vapply(seq_along(starts), function(place) ror_block_json(lines[seq(starts[place], ends[place])]), "")
-  ror_bytes(paste0("{\"blocks\":", ror_list(blocks), ",\"report\":1}"))
-}
-
-ror_block_json <- function(lines) {
-  line <- paste0("\"line\":", lines[[1]][2])
-  body <- lines[-1]
-  first <- if (length(body) > 0) body[[1]] else "answers"
-  last <- length(body)
-  members <- switch(first[1],
-    undone = c(line, "\"undone\":true"),
-    refused = c(line, paste0("\"refused\":", ror_quoted(first[2]))),
-    added = c(paste0("\"added\":", first[2]), line),
-    withdrawn = c(line, paste0("\"withdrawn\":", first[2])),
-    replaced = c(line, paste0("\"replaced\":", first[2])),
-    repaired = {
-      dropped <- vapply(body[-c(1, last)], function(words) {
-        paste0("{", ror_certificate_json(words[-(1:2)]), ",\"number\":", words[2], "}")
-      }, "")
-      base <- ror_certificate_json(body[[last]][-1])
-      c(line, paste0("\"repaired\":{\"base\":{", base, "},\"dropped\":", ror_list(dropped), "}"))
-    },
-    `repair-wide` = c(line, paste0("\"repair-wide\":{\"number\":", first[2], ",", ror_wide_json(body[[2]]), "}")),
-    c(paste0("\"answers\":", ror_list(ror_answers_json(body))), line))
-  paste0("{", paste(members, collapse = ","), "}")
-}
-
-ror_answers_json <- function(body) {
-  starts <- which(vapply(body, function(words) words[1] == "answer", TRUE))
-  ends <- c(starts[-1] - 1, length(body))[seq_along(starts)]
-  vapply(seq_along(starts), function(place) {
-    head <- body[[starts[place]]]
-    next_one <- body[[starts[place] + 1]]
-    question <- paste0("\"question\":", ror_quoted(paste(head[-c(1, length(head))], collapse = " ")))
-    said <- paste0(question, ",\"verdict\":", ror_quoted(head[length(head)]))
-    if (next_one[1] == "wide") return(paste0("{", said, ",", ror_wide_json(next_one), "}"))
-    parts <- vapply(body[seq_len(ends[place] - starts[place] - 1) + starts[place] + 1], function(words) {
-      paste0("{\"at\":", words[2], ",", ror_certificate_json(words[-(1:2)]), "}")
-    }, "")
-    paste0("{\"base\":{", ror_certificate_json(next_one[-1]), "},\"parts\":", ror_list(parts), ",", said, "}")
-  }, "")
+  ror_bytes(c("ror-report 1", unlist(lines), paste("end", ror_whole(length(blocks)))))
 }
 
 # ---- groups, functions to show, levels, generated sessions
@@ -831,7 +860,21 @@ ror_answers_json <- function(body) {
 ror_checked <- function(run, command, bits, more = list()) {
   found <- ror_run(run, c(command, ror_width(bits)), more)$output
   counts <- ror_counts(ror_run(run, paste0("check-", command), c(more, list(report.txt = found)))$output)
-  list(bytes = found, lines = strsplit(ror_text_lines(found), " ", fixed = TRUE), accepted = counts[1], wide = counts[2])
+  ror_told(ror_without_questions(run))
+  list(lines = strsplit(ror_rows(found), " ", fixed = TRUE), accepted = counts[1], wide = counts[2])
+}
+
+# a report of the session's other lines, for commands that pass questions over and don't say which lines they refuse
+ror_without_questions <- function(run) {
+  said <- ror_session_lines(run$session)
+  passed <- vapply(said, function(line) {
+    words <- ror_words(line)
+    if (length(words) > 1 && startsWith(words[1], "@")) words <- words[-1]
+    length(words) > 0 && (words[1] == "ask" || startsWith(words[1], "#"))
+  }, TRUE)
+  said[passed] <- "#"
+  run <- ror_run_of(run$table, ror_session(said), run$programs)
+  ror_report(run, ror_run(run, "replay")$output)
 }
 
 ror_starting <- function(lines, word) lines[vapply(lines, function(words) words[1] == word, TRUE)]
@@ -868,15 +911,12 @@ ror_levels <- function(table, session, count, put = numeric(), bits = NULL, prog
     lines <- c(lines, paste("put", ror_count(if (length(numbers) > 0) numbers else NA_real_, "levels"), ror_count(put, "levels")))
   }
   found <- ror_checked(ror_run_of(table, session, program), "levels", bits, list(levels.txt = ror_bytes(lines)))
-  rows <- lapply(ror_starting(found$lines, "pair"), function(words) {
-    wide <- words[4] == "wide"
-    number <- function(place) if (wide) NA_integer_ else as.integer(words[place])
-    data.frame(first = words[2], second = words[3], necessary = number(7), possible = number(9), contradictory = number(5),
-               wide = if (wide) as.integer(words[5]) else NA_integer_)
-  })
-  none <- data.frame(first = character(), second = character(), necessary = integer(), possible = integer(),
-                     contradictory = integer(), wide = integer())
-  do.call(rbind, c(list(none), rows))
+  pairs <- ror_starting(found$lines, "pair")
+  word <- function(place) vapply(pairs, function(words) words[place], "")
+  wide <- word(4) == "wide"
+  number <- function(place, given) as.integer(ifelse(given, word(place), NA))
+  data.frame(first = word(2), second = word(3), necessary = number(7, !wide), possible = number(9, !wide),
+             contradictory = number(5, !wide), wide = number(5, wide))
 }
 
 # A most discriminating function for each desk: a list, by the desks, of `outcome` (margin; none, where nothing is said strictly;
@@ -890,42 +930,35 @@ ror_discriminate <- function(table, session, bits = NULL, program = NULL) {
   found <- Map(function(at, desk) {
     body <- lines[[at + 1]]
     if (body[1] != "margin") return(list(outcome = body[1], margin = NA_character_, marginals = NULL))
-    list(outcome = "margin", margin = paste0(body[2], "/", body[3]), marginals = ror_function_at(run, desk, lines[[at + 2]][-1], body[3]))
+    list(outcome = "margin", margin = paste0(body[2], "/", body[3]), marginals = ror_function_at(run, lines[[at + 2]], body[3]))
   }, starts, desks)
   names(found) <- desks
   found
 }
 
-# The function of a solution over what stands at a desk in the end, by the page of functions. The page is of a report whose last line
-# asks whether the statements are consistent, and whose answer has this solution; so the page's check accepts it, or it isn't shown.
-ror_function_at <- function(run, desk, solution, total) {
-  said <- ror_session_lines(run$session)
-  asks <- vapply(said, function(line) {
-    words <- ror_words(line)
-    if (length(words) > 1 && startsWith(words[1], "@")) words <- words[-1]
-    length(words) > 0 && words[1] == "ask"
-  }, TRUE)
-  said[asks] <- "#"
-  session <- ror_session(sub("\r$", "", said, useBytes = TRUE), ror_ask_consistent(desk))
-  own <- ror_run_of(run$table, session, run$programs)
-  text <- rawToChar(ror_run(own, "replay-json")$output)
-  Encoding(text) <- "UTF-8"
-  blocks <- jsonlite::fromJSON(text, simplifyVector = FALSE)$blocks
-  number <- length(said) + 1
-  answer <- list(question = "consistent", verdict = "yes", base = list(solution = as.list(solution)), parts = list())
-  blocks[[length(blocks)]] <- list(line = number, answers = list(answer))
-  rows <- ror_shown_functions(own, number, ror_plain_of(blocks))
-  if (!all(rows$total == total)) ror_stop("program", "the page of functions shows another function than the one that was found")
+# The function of a solution, by the page of functions. The page is of a session that withdraws what the table's file brings, and asks
+# whether the statements are consistent: the answer has this solution.
+ror_function_at <- function(run, solution, total) {
+  brought <- seq_along(ror_opening(run))
+  last <- length(brought) + 1
+  own <- ror_run_of(run$table, ror_session(sprintf("withdraw %d", brought), "ask consistent"), run$programs)
+  text <- c("ror-report 1", rbind(sprintf("line %d", brought), sprintf("withdrawn %d", brought)), paste("line", last),
+            "answer consistent yes", paste(c("base", solution), collapse = " "), paste("end", last))
+  rows <- ror_shown_functions(own, last, ror_bytes(text))
+  if (nrow(rows) == 0 || any(rows$total != total)) {
+    ror_stop("program", "the page of functions shows another function than the one that was found")
+  }
   rows$label <- "most discriminating"
   rows[, c("label", "criterion", "level", "marginal", "total", "share")]
 }
 
 # What `generate` counts: makes a table and a session of a number, answers it, and checks the answers.
 ror_generate <- function(number, program = NULL) {
-  done <- ror_call(ror_programs(program)[["ror"]], c("generate", format(number, scientific = FALSE)), list())
+  done <- ror_call(ror_programs(program)[["ror"]], c("generate", ror_count(number, "usage")), list())
   if (!done$status %in% c(0L, 9L)) ror_stop_by_status(done$status, done$errors, "")
   text <- rawToChar(done$output)
   counts <- as.numeric(regmatches(text, gregexpr("[0-9]+", text))[[1]])
+  if (length(counts) != 8) ror_stop("program", "generate printed something else than its counts")
   data.frame(number = counts[1], lines = counts[2], yes = counts[3], no = counts[4], contradiction = counts[5], wide = counts[6],
              accepted = counts[7])
 }

@@ -43,6 +43,22 @@ replayed <- function(name, table = "table.txt", ...) {
   ror_replay(it$table, it$session, ...)
 }
 
+# the report of an example as `replay-json` writes it
+in_json <- function(name, table = "table.txt") {
+  it <- example(name, table)
+  ror_run(ror_run_of(it$table, it$session, NULL), "replay-json")$output
+}
+
+# the report with what a warning about refused lines says, or ""
+warned <- function(expression) {
+  told <- ""
+  value <- withCallingHandlers(expression, ror_refused_warning = function(warning) {
+    told <<- conditionMessage(warning)
+    invokeRestart("muffleWarning")
+  })
+  list(value = value, told = told)
+}
+
 csv <- function(...) utils::read.csv(file.path(top, "examples", ...), colClasses = "character", na.strings = character())
 
 # ---- examples
@@ -54,8 +70,12 @@ for (folder in list.dirs(file.path(top, "examples"), recursive = FALSE)) for (ta
   line <- grep("^accepted [0-9]+ wide [0-9]+$", readLines(file.path(folder, "README.md")), value = TRUE)[1]
   test(paste(basename(folder), table, "report"), identical(report$plain, stored))
   test(paste(basename(folder), table, "counts"), identical(line, paste("accepted", report$accepted, "wide", report$wide)))
-  checked <- ror_check(it$table, it$session, stored)
-  test(paste(basename(folder), table, "check"), identical(checked$json, report$json) && identical(checked$answers, report$answers))
+  test(paste(basename(folder), table, "check"), identical(ror_check(it$table, it$session, stored)$answers, report$answers))
+  test(paste(basename(folder), table, "JSON"), identical(ror_check(it$table, it$session, in_json(basename(folder), table))$plain, stored))
+  page <- readLines(file.path(folder, "standing.txt"), encoding = "UTF-8")
+  wanted <- grep("^ +[0-9]+  .*  (line [0-9]+|the table's file)( [(].*[)])?$", page, value = TRUE)
+  found <- do.call(rbind, lapply(unique(report$lines$desk), function(desk) ror_standing(report, desk = desk)))
+  test(paste(basename(folder), table, "standing"), identical(as.integer(sub("^ +([0-9]+) .*", "\\1", wanted)), as.integer(found$number)))
 }
 
 report <- replayed("one-relation")
@@ -84,6 +104,22 @@ found <- ror_reasons(report, 6)
 test("reasons", identical(found$number, c(1, 4)) && identical(found$said_in, c(1L, 5L)) &&
   identical(found$statement, c("prefer c10 c14", "stronger c01 c09 c10 c14")))
 test("no reasons", nrow(ror_reasons(report, 4)) == 0)
+weights <- ror_weights(ror_functions(report, 4))
+test("weights", identical(weights$weight[weights$label == "necessary c01 c09 no"], c("6", "6", "0")) && identical(weights$total[4], "12"))
+values <- ror_values(ror_functions(report, 4), example("five-cars")$table)
+values <- values[values$label == "necessary c01 c09 no", ]
+test("values", identical(values$alternative, c("c01", "c05", "c09", "c10", "c14")) && identical(values$value[c(1, 3)], c("6", "7")) &&
+  identical(values$share[1], 0.5) && raises("table", ror_values(ror_functions(report, 4), example("six-vans")$table)) &&
+  raises("table", ror_values(ror_functions(report, 4), ror_table(data.frame(price = 9900, row.names = "a"), c(price = "min")))))
+long <- matrix(c("1", strrep("9", 39), "0", strrep("9", 39), "999", "0"), 2)
+test("sums are exact", identical(ror_sums(long), c("1000", paste0("1", strrep("9", 38), "8"))))
+table <- ror_table(data.frame(q = c("0.50", "1/3", "+02"), p = c("2", "3", "4"), row.names = letters[1:3]), c(q = "max", p = "min"), "q")
+found <- ror_functions(ror_replay(table, ror_session("prefer c a", "ask consistent")), 2)
+test("values of ratios", identical(nrow(ror_values(found, table)), 3L) && "17/29" %in% ror_performances(example("six-vans")$table, NULL))
+test("no values over XMCDA", raises("table", ror_values(found, example("twelve-firms-in-xmcda", "table.xml")$table)))
+table <- ror_table(data.frame(q = 1:2, row.names = c("a", "b")), c(q = "max"))
+found <- ror_reasons(ror_replay(table, ror_session("prefer b a", "ask necessary b a", "undo", "prefer a b", "ask consistent")))
+test("a reason without statements", identical(found$line, c(2L, 5L)) && identical(found$statement, c(NA, "prefer a b")))
 test("certificates", identical(ror_text_lines(ror_certificates(report, 6))[2], "reduct 6 1 1 4"))
 
 report <- replayed("six-flats")
@@ -194,8 +230,28 @@ report <- ror_replay(table, session)
 test("hostile names in a relation", same(unique(ror_relation(report)$first), names) && nrow(ror_refused(report)) == 0)
 test("hostile names in functions", same(unique(ror_functions(report, 2)$criterion), criteria))
 test("hostile names on the sheet", same(ror_sheet(table)$alternatives, names))
-test("hostile names in both forms", identical(ror_check(table, session, report$plain)$json, report$json))
+test("hostile names in both forms", identical(ror_check(table, session, report$plain)$answers, report$answers) &&
+  identical(ror_check(table, session, ror_run(report$run, "replay-json")$output)$plain, report$plain))
+test("hostile names in values", same(unique(ror_values(ror_functions(report, 2), table)$alternative), names))
 test("hostile names at desks", same(ror_standing(report, desk = "a,b\"c")$text, c("class NA 1 2", "asstrong on undo on undo on on")))
+
+options(OutDec = ",")
+test("doubles in a German session", identical(ror_decimal(c(0.1, 2.5, 1e-7)), c("0.1", "2.5", "0.0000001")))
+options(OutDec = ".")
+frame <- data.frame(name = c("a", "b"), q = 1:2)
+test("no names are guessed", raises("table", ror_table(frame, c(q = "max")), word = "BadLine"))
+table <- ror_table(frame, c(q = "max"), id = "name")
+session <- function(text) structure(list(bytes = text), class = "ror_session")
+crlf <- session(c(charToRaw("# \u00e9 a"), as.raw(0), charToRaw("b\rc\r\nprefer b a\r\nask relation")))
+test("lines of a CRLF session", identical(ror_session_lines(crlf), c("# \u00e9 a?b\rc", "prefer b a", "ask relation")) &&
+  same(ror_session_lines(ror_session(ror_session_lines(session(charToRaw("# \u00e9\r\n"))), "undo")), c("# \u00e9", "undo")))
+test("a session with odd comments", identical(ror_discriminate(table, crlf)[[1]]$margin, "1/1") &&
+  identical(ror_relation(ror_replay(table, crlf))$necessary, c("no", "yes")))
+long <- session(charToRaw(paste0(strrep("#\n", 99998), "prefer b a\nask relation")))
+test("a session of 100,000 lines", identical(ror_discriminate(table, long)[[1]]$margin, "1/1") &&
+  identical(ror_check(table, long, ror_run(ror_run_of(table, long, NULL), "replay-json")$output)$lines$number, c(99999L, 100000L)))
+table <- ror_table(data.frame(q = 1:2, row.names = c("\u00e9", "b")), c(q = "max"))
+test("a name with an accent", identical(ror_discriminate(table, ror_session(ror_prefer("b", "\u00e9")))[[1]]$margin, "1/1"))
 
 # ---- faults
 
@@ -218,17 +274,21 @@ test("an unsuited session", raises("unsuited", ror_group(flats$table, flats$sess
 it <- example("three-levels")
 test("bad levels", raises("levels", ror_levels(it$table, it$session, 2, c("9" = 1)), status = 11L, word = "UnknownStatement") &&
   raises("levels", ror_levels(it$table, it$session, 2.5)) && raises("levels", ror_levels(it$table, it$session, 2, 1)))
-test("other calls", raises("usage", ror_replay(cars$table, cars$session, bits = 16), status = 2L) && raises("usage", ror_generate(-1)) &&
+bad <- raised("usage", ror_replay(cars$table, cars$session, bits = 16))
+test("a width", grepl("15, 31, 63 or 127: 16", conditionMessage(bad), fixed = TRUE))
+test("other calls", raises("usage", ror_generate(-1)) && raises("file", ror_table_read(tempdir())) &&
+  raises("file", ror_check(cars$table, cars$session, "none")) &&
   raises("table", ror_replay("table.txt", cars$session)) && raises("session", ror_replay(cars$table, "prefer a b")) &&
   raises("file", ror_table_read("none")) && raises("program", ror_replay(cars$table, cars$session, program = file.path(top, "README.md"))))
-warned <- NULL
-report <- withCallingHandlers(
-  ror_replay(cars$table, ror_session("prefer c01 c99", "ask relation", "ask classes c01", "undo")),
-  ror_refused_warning = function(warning) {
-    warned <<- conditionMessage(warning)
-    invokeRestart("muffleWarning")
-  })
-test("refused lines are a warning", grepl("1 (UnknownAlternative), 3 (UnknownClass), 4 (NothingToUndo)", warned, fixed = TRUE))
+found <- warned(ror_replay(cars$table, ror_session("prefer c01 c99", "ask relation", "ask classes c01", "undo")))
+test("refused lines are a warning", grepl("1 (UnknownAlternative), 3 (UnknownClass), 4 (NothingToUndo)", found$told, fixed = TRUE))
+report <- found$value
+test("a report shows how many", identical(capture.output(print(report)), "ror report, accepted 40 wide 0 refused 3"))
+session <- ror_session("prefer c01 c05", "prefer c01 c99", "ask classes c99", "prefer c05 c09")
+for (call in list(ror_group, ror_discriminate, function(...) ror_levels(..., count = 2))) {
+  test("other commands tell of refused lines", grepl(": 2 [(]UnknownAlternative[)]$", warned(call(cars$table, session))$told))
+  test("and of no others", identical(warned(call(cars$table, ror_session("prefer c01 c05", "ask classes c99")))$told, ""))
+}
 test("refused lines", identical(ror_refused(report)$refusal, c("UnknownAlternative", "UnknownClass", "NothingToUndo")) &&
   raises("no_answer", ror_classes(report, 3), word = "UnknownClass", line = 3L))
 report <- replayed("one-relation")
@@ -245,21 +305,35 @@ refuse <- function(command) {
     Sys.chmod(path, "755")
   }
 }
-refuse("none")
+refuse("*-json")
 report <- ror_replay(cars$table, cars$session, program = folder)
+test("no JSON is needed", identical(ror_check(cars$table, cars$session, report$plain, program = folder)$answers, report$answers))
+json <- in_json("five-cars")
 judges <- example("two-judges")
 one <- example("one-function")
 sure <- example("three-levels")
 refuse("check-json")
-test("a replay that is rejected", raises("report", ror_replay(cars$table, cars$session, program = folder)))
+test("JSON that is rejected", raises("report", ror_check(cars$table, cars$session, json, program = folder)))
 refuse("check")
-test("a check that is rejected", raises("report", ror_check(cars$table, cars$session, report$plain, program = folder)))
+test("a replay that is rejected", raises("report", ror_replay(cars$table, cars$session, program = folder)))
+test("a check that is rejected", raises("report", ror_check(cars$table, cars$session, report$plain, program = folder)) &&
+  raises("report", ror_check(cars$table, cars$session, json, program = folder)))
+twice <- charToRaw(gsub('"verdict":"no"', '"verdict":"yes","verdict":"no"', rawToChar(json), fixed = TRUE))
+test("of two equal keys the last one counts", !identical(twice, json) &&
+  identical(ror_check(cars$table, cars$session, twice)$answers, ror_replay(cars$table, cars$session)$answers))
 refuse("check-why")
 test("reasons that are rejected", raises("report", ror_reasons(report, 6)))
 refuse("check-*")
 test("others that are rejected", raises("report", ror_group(judges$table, judges$session, program = folder)) &&
   raises("report", ror_discriminate(one$table, one$session, program = folder)) &&
   raises("report", ror_levels(sure$table, sure$session, 3, program = folder)))
+for (script in c("kill -9 $$", "echo nonsense", "exec sleep 60")) {
+  writeLines(c("#!/bin/sh", script), file.path(folder, "ror"))
+  options(ror.timeout = if (script == "exec sleep 60") 1)
+  test(paste("a program that does", script), raises("program", ror_generate(7, program = folder)) &&
+    (script == "echo nonsense" || raises("program", ror_replay(cars$table, cars$session, program = folder))))
+}
+options(ror.timeout = NULL)
 report <- ror_replay(cars$table, ror_session("prefer c01 c05", "prefer c05 c01", "ask relation"))
 test("a contradiction", all(ror_relation(report)$necessary == "contradiction") && raises("contradiction", ror_necessary(report)))
 folder <- file.path(top, "cases", "check-json-of-each-body-and-verdict")
