@@ -836,7 +836,7 @@ def _raise(status: int, errors: str, advice: str) -> NoReturn:
     found = _FAULT.fullmatch(said)
     kind, place, word, line = found.groups() if found else (None, None, "", None)
     where = {kind: int(place)} if kind and place else {}
-    word = "Unsuited" if status == 10 else word
+    word = "Unsuited" if status == 10 else word or ""
     raise _KINDS[status](
         said or f"status {status}", status=status, said=said, word=word, line=int(line) if line else None, advice=advice, **where
     )

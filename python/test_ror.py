@@ -7,6 +7,7 @@ import io
 import os
 import pathlib
 import re
+import shutil
 import stat
 import subprocess
 import sys
@@ -730,6 +731,14 @@ class Package(unittest.TestCase):
             wheel = next(pathlib.Path(folder).glob("*.whl"))
             with tempfile.TemporaryDirectory() as other:
                 self.assertEqual(wheel.read_bytes(), pathlib.Path(other, build_backend.build_wheel(other)).read_bytes())
+
+
+    @unittest.skipUnless(shutil.which("mypy"), "mypy isn't here")
+    def test_types(self):
+        with tempfile.TemporaryDirectory() as folder:
+            words = ["mypy", "--strict", "--cache-dir", folder, str(HERE / "ror.py")]
+            done = subprocess.run(words, capture_output=True, text=True)
+            self.assertEqual(done.returncode, 0, done.stdout + done.stderr)
 
 
 class Pages(unittest.TestCase):
