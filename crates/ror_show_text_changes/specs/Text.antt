@@ -74,7 +74,7 @@ both_levels t before now = codes "\n  before" ++ levels_text t before ++ codes "
 -- ---- the section of two lines
 
 abbrev pub brought_head : List ℕ
-brought_head = codes "\n  statements that carry what is turned round or new now (none of them can be spared, and others may carry it too)\n"
+brought_head = codes "\n  statements that carry what is turned round or new now\n  (of these alone none can be spared; others may carry it too)\n"
 
 -- what carries what is turned round or new
 abbrev pub brought_text : DecisionTable → ChangeFound → List ℕ

@@ -10,7 +10,8 @@
 //!
 //! ```text
 //!
-//!   statements that carry what is turned round or new now (none of them can be spared, and others may carry it too)
+//!   statements that carry what is turned round or new now
+//!   (of these alone none can be spared; others may carry it too)
 //!      bridge -> mill   4
 //! ```
 //!

@@ -140,5 +140,5 @@ fn write_brought(
 fn brought_head() -> &'static [u8]
     ensures { result.now ≡ spec.brought_head }
 {
-    b"\n  statements that carry what is turned round or new now (none of them can be spared, and others may carry it too)\n"
+    b"\n  statements that carry what is turned round or new now\n  (of these alone none can be spared; others may carry it too)\n"
 }

@@ -36,7 +36,7 @@ abbrev pub bounds_lines : DecisionTable → List ClassLine → List Bounds → L
 bounds_lines t rows bounds = flat_map (bounds_at t rows bounds) (range_with_len 0 (length rows))
 
 abbrev pub bounds_head : List ℕ
-bounds_head = codes "\n  statements that settle each bound (none of them can be spared, and others may settle it too)\n"
+bounds_head = codes "\n  statements that settle each bound (of these alone none can be spared; others may settle it too)\n"
 
 -- nothing where there are no lines
 abbrev pub headed : List ℕ → List ℕ

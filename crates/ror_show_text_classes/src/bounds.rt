@@ -39,7 +39,7 @@ fn write_headed(text: &mut Vec<u8>, lines: &[u8]) -> Result<(), AllocError>
 fn bounds_head() -> &'static [u8]
     ensures { result.now ≡ spec.bounds_head }
 {
-    b"\n  statements that settle each bound (none of them can be spared, and others may settle it too)\n"
+    b"\n  statements that settle each bound (of these alone none can be spared; others may settle it too)\n"
 }
 
 fn write_lines(

@@ -7,7 +7,7 @@
 //!            1   2
 //!   alder    .  *#
 //!
-//!   statements that settle each bound (none of them can be spared, and others may settle it too)
+//!   statements that settle each bound (of these alone none can be spared; others may settle it too)
 //!      alder  not below 2: 2
 //! ```
 #![tactic(auto)]

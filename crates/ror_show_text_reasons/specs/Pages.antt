@@ -17,12 +17,12 @@ use Rattle.ror_show_find_reasons.specs.declared.lines.Meant.TheVariants as meant
 use Rattle.ror_show_find_reasons.specs.declared.lines.Told.{Told}
 use Rattle.ror_show_find_reasons.specs.declared.lines.DropFound.{DropFound}
 use Rattle.ror_show_find_reasons.specs.declared.lines.LineFound.{LineFound}
-use Rattle.ror_show_text_reasons.specs.Reasons.{wide_text}
-use Rattle.ror_show_text_reasons.specs.Scenes.{Scene, reason_text, conflict_text}
+use Rattle.ror_show_text_reasons.specs.Reasons.{not_answered}
+use Rattle.ror_show_text_reasons.specs.Scenes.{Scene, of_drop, reason_text, conflict_text}
 
 -- what the reasons of a line are read against
 abbrev pub scene_for : Ground → KeptLine → LineFound → Scene
-scene_for g x f = record { table = g.table; list = stood x; lines = f.said }
+scene_for g x f = record { table = g.table; list = stood x; lines = f.said; dropped = None }
 
 -- the line, and its desk
 abbrev pub place_text : Ground → KeptLine → List ℕ
@@ -33,7 +33,7 @@ place_text g x = line_text x.block.line (desk_at g.session x)
 -- the reason, or that the answer is too wide
 abbrev pub told_words : Scene → Option Reason → List ℕ
 told_words sc (Some reason) = reason_text sc reason
-told_words sc None = wide_text
+told_words sc None = not_answered
 
 -- the line, its desk, and what was asked and answered
 abbrev pub head_text : Ground → KeptLine → Answer → List ℕ
@@ -57,7 +57,7 @@ drop_head g x number = (place_text g x ++ counted (codes "  repair drops ") numb
 
 -- below it its conflict, and an empty line
 abbrev pub drop_in : Ground → KeptLine → Scene → DropFound → List ℕ
-drop_in g x sc drop = (drop_head g x drop.number ++ conflict_text sc drop.conflict) ++ 10 ∷ []
+drop_in g x sc drop = (drop_head g x drop.number ++ conflict_text (of_drop sc drop.number) drop.conflict) ++ 10 ∷ []
 
 abbrev pub drop_text : Ground → KeptLine → LineFound → DropFound → List ℕ
 drop_text g x f drop = drop_in g x (scene_for g x f) drop

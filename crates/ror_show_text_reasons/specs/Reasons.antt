@@ -1,5 +1,5 @@
 -- The text of one reason.
-use Rattle.std.specs.Prelude.{ℕ, Bool, true, false, not, ◌==◌, List, [], ◌++◌, codes, decimal, length, slice_get, Option, if◌then◌else◌}
+use Rattle.std.specs.Prelude.{ℕ, nat_le, Bool, true, false, not, ◌==◌, List, [], ◌++◌, codes, decimal, length, slice_get, Option, Some, None, if◌then◌else◌}
 use Rattle.std.specs.List.{flat_map, list_any, range_with_len}
 use Rattle.std.specs.Option.{option_map_or}
 use Rattle.ror_statement.specs.declared.statement.Numbered.{Numbered}
@@ -43,7 +43,7 @@ is_any_wide others = list_any (λ x. is_wide x.verdict) others
 -- all of them are needed, or of some it isn't known
 abbrev pub needed : Bool → List ℕ
 needed true = codes "  without one of them, as far as it is known:\n"
-needed false = codes "  none of them can be spared:\n"
+needed false = codes "  of these alone none can be spared:\n"
 
 -- what one function says against the answer, and by how much
 abbrev pub counter_text : DecisionTable → Question → Verdict → List ℕ
@@ -54,14 +54,14 @@ some_counter t q v = codes "by some value function " ++ counter_text t q v
 
 -- where the function rises that agrees with the others
 abbrev pub agreeing_words : DecisionTable → Verdict → List ℕ
-agreeing_words t v = codes "some value function agrees with the others" ++ rises_text t v
+agreeing_words t v = codes "some value function agrees with the others of these" ++ rises_text t v
 
 abbrev pub spared_words : DecisionTable → Question → Bool → Verdict → List ℕ
 spared_words t q true v = agreeing_words t v
 spared_words t q false v = some_counter t q v
 
 abbrev pub unknown : List ℕ
-unknown = codes "not known, a number on the way passes the bits (--bits 127 may tell)"
+unknown = codes "not known: a number on the way passes 127 bits"
 
 abbrev pub other_words : DecisionTable → Question → Bool → Verdict → List ℕ
 other_words t q clashes v = if is_wide v then unknown else spared_words t q clashes v
@@ -85,32 +85,48 @@ withouts_text t q clashes ns others = flat_map (without_at t q clashes ns others
 abbrev pub needed_text : DecisionTable → Question → Bool → List ℕ → List Answer → List ℕ
 needed_text t q clashes ns others = needed (is_any_wide others) ++ withouts_text t q clashes ns others
 
--- what the analyst may do
+-- what the analyst may do where they stand
 abbrev pub advice : List ℕ → List ℕ
 advice ns = codes "at least one of them has to go: withdraw N, or replace N by what was meant, where N is one of" ++ flat_map number ns
+
+-- where a repair dropped this one of them, it stands no more, and another may be the one that wasn't meant
+abbrev pub another : List ℕ → List ℕ
+another ns = if nat_le (length ns) 1 then [] else codes " If another of them was not meant: undo the repair, and replace that one."
+
+abbrev pub dropped_words : ℕ → List ℕ → List ℕ
+dropped_words n ns = decimal n ++ codes " is dropped." ++ another ns
+
+abbrev pub way_out : Option ℕ → List ℕ → List ℕ
+way_out None ns = advice ns
+way_out (Some n) ns = dropped_words n ns
 
 abbrev pub one_part : List ℕ
 one_part = codes "  this is one part of the statements that carries the answer, and there may be others\n"
 
-abbrev pub one_clash : List ℕ
-one_clash = codes "  there may be other contradictions among the statements\n"
+-- what a repair kept doesn't contradict itself
+abbrev pub one_clash : Option ℕ → List ℕ
+one_clash None = codes "  there may be other contradictions among the statements\n"
+one_clash (Some n) = codes "  there may have been other contradictions among the statements\n"
 
-abbrev pub advice_text : List ℕ → List ℕ
-advice_text ns = line_text 1 (advice ns)
+abbrev pub advice_text : Option ℕ → List ℕ → List ℕ
+advice_text dropped ns = line_text 1 (way_out dropped ns)
 
-abbrev pub clash_text : List ℕ → List ℕ
-clash_text ns = advice_text ns ++ one_clash
+abbrev pub clash_text : Option ℕ → List ℕ → List ℕ
+clash_text dropped ns = advice_text dropped ns ++ one_clash dropped
 
-abbrev pub tail_text : Bool → List ℕ → List ℕ
-tail_text true ns = clash_text ns
-tail_text false ns = one_part
+abbrev pub tail_text : Option ℕ → Bool → List ℕ → List ℕ
+tail_text dropped true ns = clash_text dropped ns
+tail_text dropped false ns = one_part
 
-abbrev pub carried_by : DecisionTable → List Numbered → List (Option ℕ) → Question → List ℕ → Verdict → List Answer → Bool → List ℕ
-carried_by t list lines q ns v others clashes = head_text t q clashes ++ rows_text t list lines ns q v
-    ++ part_sum t list ns q v ++ needed_text t q clashes ns others ++ tail_text clashes ns
+abbrev pub carried_by : DecisionTable → List Numbered → List (Option ℕ) → Option ℕ → Question → List ℕ → Verdict → List Answer
+    → Bool → List ℕ
+carried_by t list lines dropped q ns v others clashes = head_text t q clashes ++ rows_text t list lines ns q v
+    ++ part_sum t list ns q v ++ needed_text t q clashes ns others ++ tail_text dropped clashes ns
 
-abbrev pub carried_text : DecisionTable → List Numbered → List (Option ℕ) → Question → List ℕ → Verdict → List Answer → List ℕ
-carried_text t list lines q ns v others = carried_by t list lines q ns v others (is_contradiction v)
+-- a repair dropped this one of the statements, or none
+abbrev pub carried_text : DecisionTable → List Numbered → List (Option ℕ) → Option ℕ → Question → List ℕ → Verdict → List Answer
+    → List ℕ
+carried_text t list lines dropped q ns v others = carried_by t list lines dropped q ns v others (is_contradiction v)
 
 -- ---- where the answer needs no statement
 
@@ -137,9 +153,9 @@ alone_text t q clashes = line_text 1 (alone_words t q clashes)
 
 -- ---- the text of a part that carries an answer
 
-unfoldable pub reduct_text : DecisionTable → List Numbered → List (Option ℕ) → List ℕ → Answer → List Answer → List ℕ
-reduct_text t list lines ns x others = if length ns == 0 then alone_text t x.question (is_contradiction x.verdict)
-    else carried_text t list lines x.question ns x.verdict others
+unfoldable pub reduct_text : DecisionTable → List Numbered → List (Option ℕ) → Option ℕ → List ℕ → Answer → List Answer → List ℕ
+reduct_text t list lines dropped ns x others = if length ns == 0 then alone_text t x.question (is_contradiction x.verdict)
+    else carried_text t list lines dropped x.question ns x.verdict others
 
 -- ---- where one function decides
 
@@ -184,5 +200,10 @@ bounded_text t q = bounded_line t q ++ bounds
 
 -- ---- where nothing is found
 
+-- over the statements a number passes the greatest width, so more bits can't help
 abbrev pub wide_text : List ℕ
-wide_text = codes "  no reason is found, since over the statements a number on the way passes the bits\n  more bits may do (--bits 127), or fewer statements\n"
+wide_text = codes "  no reason is found: over the statements a number on the way passes 127 bits\n  fewer statements may do\n"
+
+-- the report's answer is too wide
+abbrev pub not_answered : List ℕ
+not_answered = codes "  the answer isn't concluded, so it has no reason: a number on the way passes the bits of the report\n  more bits may do where it has fewer than 127 (--bits 127), or fewer statements\n"

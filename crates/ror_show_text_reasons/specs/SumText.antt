@@ -50,7 +50,7 @@ said false = codes "summed up they say so"
 -- where no step is used
 abbrev pub no_step : Bool → List ℕ
 no_step true = codes ", as some criterion counts"
-no_step false = codes ", and nothing else is used"
+no_step false = codes ", and no other statement is used"
 
 -- where these are
 abbrev pub some_step : Bool → List ℕ

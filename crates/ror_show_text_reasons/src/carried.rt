@@ -32,8 +32,8 @@ pub(crate) fn write_carried(
     requires lawful { IsLawfulIn scene.now.table.now (statements_in scene.now.list.now) }
     requires asked { IsAskedIn scene.now.table.now case.now.answer.now.question }
     ensures { OnOk result (text.new.items ≡ text.old.items
-        ++ spec.carried_text scene.now.table.now scene.now.list.now scene.now.lines.now case.now.answer.now.question
-        case.now.numbers.now case.now.answer.now.verdict case.now.others.now) }
+        ++ spec.carried_text scene.now.table.now scene.now.list.now scene.now.lines.now scene.now.dropped
+        case.now.answer.now.question case.now.numbers.now case.now.answer.now.verdict case.now.others.now) }
 {
     let clashes = is_contradiction(&case.answer.verdict);
     write_all(alloc, text, scene, case, clashes)
@@ -50,14 +50,14 @@ fn write_all(
     requires lawful { IsLawfulIn scene.now.table.now (statements_in scene.now.list.now) }
     requires asked { IsAskedIn scene.now.table.now case.now.answer.now.question }
     ensures { OnOk result (text.new.items ≡ text.old.items
-        ++ spec.carried_by scene.now.table.now scene.now.list.now scene.now.lines.now case.now.answer.now.question
-        case.now.numbers.now case.now.answer.now.verdict case.now.others.now clashes) }
+        ++ spec.carried_by scene.now.table.now scene.now.list.now scene.now.lines.now scene.now.dropped
+        case.now.answer.now.question case.now.numbers.now case.now.answer.now.verdict case.now.others.now clashes) }
 {
     write_head(alloc, text, scene.table, &case.answer.question, clashes)?;
     write_rows(alloc, text, scene, case)?;
     write_part_sum(alloc, text, scene, case)?;
     write_needed(alloc, text, scene.table, case, clashes)?;
-    write_tail(alloc, text, clashes, case.numbers)
+    write_tail(alloc, text, scene.dropped, clashes, case.numbers)
 }
 
 fn write_head(
@@ -115,7 +115,7 @@ fn needed(any_wide: bool) -> &'static [u8]
     if any_wide {
         b"  without one of them, as far as it is known:\n"
     } else {
-        b"  none of them can be spared:\n"
+        b"  of these alone none can be spared:\n"
     }
 }
 
@@ -200,7 +200,7 @@ fn write_other(
 {
     if is_wide(verdict) {
         text.extend_from_slice(
-            b"not known, a number on the way passes the bits (--bits 127 may tell)",
+            b"not known: a number on the way passes 127 bits",
         )
     } else {
         write_spared(alloc, text, table, question, clashes, verdict)
@@ -235,7 +235,7 @@ fn write_agreeing(
 ) -> Result<(), AllocError>
     ensures { OnOk result (text.new.items ≡ text.old.items ++ spec.agreeing_words table.now verdict.now) }
 {
-    text.extend_from_slice(b"some value function agrees with the others")?;
+    text.extend_from_slice(b"some value function agrees with the others of these")?;
     write_rises(alloc, text, table, verdict)
 }
 
@@ -281,13 +281,14 @@ pub(crate) fn write_against(
 fn write_tail(
     alloc: Global,
     text: &mut Vec<u8>,
+    dropped: Option<u32>,
     clashes: bool,
     numbers: &[u32],
 ) -> Result<(), AllocError>
-    ensures { OnOk result (text.new.items ≡ text.old.items ++ spec.tail_text clashes numbers.now) }
+    ensures { OnOk result (text.new.items ≡ text.old.items ++ spec.tail_text dropped clashes numbers.now) }
 {
     if clashes {
-        write_clash(alloc, text, numbers)
+        write_clash(alloc, text, dropped, numbers)
     } else {
         text.extend_from_slice(
             b"  this is one part of the statements that carries the answer, and there may be others\n",
@@ -295,21 +296,71 @@ fn write_tail(
     }
 }
 
-fn write_clash(alloc: Global, text: &mut Vec<u8>, numbers: &[u32]) -> Result<(), AllocError>
-    ensures { OnOk result (text.new.items ≡ text.old.items ++ spec.clash_text numbers.now) }
+fn write_clash(
+    alloc: Global,
+    text: &mut Vec<u8>,
+    dropped: Option<u32>,
+    numbers: &[u32],
+) -> Result<(), AllocError>
+    ensures { OnOk result (text.new.items ≡ text.old.items ++ spec.clash_text dropped numbers.now) }
 {
-    write_advice(alloc, text, numbers)?;
-    write_text(
-        text,
-        b"  there may be other contradictions among the statements\n",
-    )
+    write_advice(alloc, text, dropped, numbers)?;
+    write_text(text, one_clash(dropped))
 }
 
-fn write_advice(alloc: Global, text: &mut Vec<u8>, numbers: &[u32]) -> Result<(), AllocError>
-    ensures { OnOk result (text.new.items ≡ text.old.items ++ spec.advice_text numbers.now) }
+fn one_clash(dropped: Option<u32>) -> &'static [u8]
+    ensures { result.now ≡ spec.one_clash dropped }
 {
-    let words = advice(alloc, numbers)?;
+    match dropped {
+        None => b"  there may be other contradictions among the statements\n",
+        Some(_) => b"  there may have been other contradictions among the statements\n",
+    }
+}
+
+fn write_advice(
+    alloc: Global,
+    text: &mut Vec<u8>,
+    dropped: Option<u32>,
+    numbers: &[u32],
+) -> Result<(), AllocError>
+    ensures { OnOk result (text.new.items ≡ text.old.items ++ spec.advice_text dropped numbers.now) }
+{
+    let words = way_out(alloc, dropped, numbers)?;
     write_line(text, 1, words.as_slice())
+}
+
+fn way_out(
+    alloc: Global,
+    dropped: Option<u32>,
+    numbers: &[u32],
+) -> Result<Vec<u8>, AllocError>
+    ensures { IfOk result (λ words. words.items ≡ spec.way_out dropped numbers.now) }
+{
+    match dropped {
+        Some(number) => dropped_words(alloc, number, numbers),
+        None => advice(alloc, numbers),
+    }
+}
+
+fn dropped_words(alloc: Global, number: u32, numbers: &[u32]) -> Result<Vec<u8>, AllocError>
+    ensures { IfOk result (λ words. words.items ≡ spec.dropped_words number numbers.now) }
+{
+    let mut words = Vec::new(alloc);
+    words.extend_from_slice(Buffer::new().format(number).as_bytes())?;
+    words.extend_from_slice(b" is dropped.")?;
+    words.extend_from_slice(another(numbers))?;
+    Ok(words)
+}
+
+/// What the analyst may do where another of these statements wasn't meant, if there is one.
+fn another(numbers: &[u32]) -> &'static [u8]
+    ensures { result.now ≡ spec.another numbers.now }
+{
+    if numbers.len() <= 1 {
+        b""
+    } else {
+        b" If another of them was not meant: undo the repair, and replace that one."
+    }
 }
 
 fn advice(alloc: Global, numbers: &[u32]) -> Result<Vec<u8>, AllocError>

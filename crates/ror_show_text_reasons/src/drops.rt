@@ -33,7 +33,13 @@ pub(crate) fn write_drop(
         ++ spec.drop_in (ground_of ground.now) line.now (scene_of scene.now) dropped.now) }
 {
     write_head(text, ground, line, dropped.number)?;
-    write_conflict(alloc, text, scene, &dropped.conflict)?;
+    let scene = Scene {
+        table: scene.table,
+        list: scene.list,
+        lines: scene.lines,
+        dropped: Some(dropped.number),
+    };
+    write_conflict(alloc, text, &scene, &dropped.conflict)?;
     text.push(b'\n')?;
     Ok(())
 }

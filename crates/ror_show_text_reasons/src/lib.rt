@@ -7,8 +7,8 @@
 //!   c01 is at least as good as c09, whatever value function agrees with these statements:
 //!      1  prefer c10 c14                              line 1, counts once
 //!      4  stronger c01 c09 c10 c14                    line 5, counts once
-//!   summed up they say so, and nothing else is used
-//!   none of them can be spared:
+//!   summed up they say so, and no other statement is used
+//!   of these alone none can be spared:
 //!      without 1: by some value function c09 is better than c01 (2 to 1 of 3)
 //!      without 4: by some value function c09 is better than c01 (3 to 2 of 3)
 //!   this is one part of the statements that carries the answer, and there may be others

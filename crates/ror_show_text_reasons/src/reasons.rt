@@ -217,11 +217,20 @@ fn bounded_words(alloc: Global, table: &Table, question: &Question) -> Result<Ve
     Ok(words)
 }
 
-/// Adds that no reason is found, since over the statements a number passes the width.
+/// Adds that no reason is found, since over the statements a number passes the greatest width.
 pub(crate) fn write_wide(text: &mut Vec<u8>) -> Result<(), AllocError>
     ensures { OnOk result (text.new.items ≡ text.old.items ++ spec.wide_text) }
 {
     text.extend_from_slice(
-        b"  no reason is found, since over the statements a number on the way passes the bits\n  more bits may do (--bits 127), or fewer statements\n",
+        b"  no reason is found: over the statements a number on the way passes 127 bits\n  fewer statements may do\n",
+    )
+}
+
+/// Adds that there is no reason, since the report's answer is too wide.
+pub(crate) fn write_not_answered(text: &mut Vec<u8>) -> Result<(), AllocError>
+    ensures { OnOk result (text.new.items ≡ text.old.items ++ spec.not_answered) }
+{
+    text.extend_from_slice(
+        b"  the answer isn't concluded, so it has no reason: a number on the way passes the bits of the report\n  more bits may do where it has fewer than 127 (--bits 127), or fewer statements\n",
     )
 }

@@ -13,12 +13,13 @@ use ror_show_ground::Ground;
 use ror_statement::Numbered;
 use ror_table::Table;
 
-/// A table, what stood at a line, and the line that said each statement of it.
+/// A table, what stood at a line, the line that said each statement of it, and which of them the reason is of where a repair dropped one.
 #[derive(Clone, Copy)]
 pub(crate) struct Scene<'a> {
     pub(crate) table: &'a Table,
     pub(crate) list: &'a [Numbered],
     pub(crate) lines: &'a [Option<u32>],
+    pub(crate) dropped: Option<u32>,
 }
 
 /// A part of the statements that carries an answer: the numbers of the part, the answer over it, and at each number's place the answer
@@ -42,6 +43,7 @@ pub(crate) fn scene_for<'a>(
         table: ground.table,
         list: stood(line),
         lines: found.said.as_slice(),
+        dropped: None,
     }
 }
 

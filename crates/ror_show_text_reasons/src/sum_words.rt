@@ -45,7 +45,7 @@ fn no_step(is_positive_used: bool) -> &'static [u8]
     if is_positive_used {
         b", as some criterion counts"
     } else {
-        b", and nothing else is used"
+        b", and no other statement is used"
     }
 }
 

@@ -8,7 +8,7 @@ ghost use Rattle.ror_show_find_reasons.specs.Lines.{AsksIn, AsksOf};
 ghost use Rattle.ror_show_text_reasons.specs.Pages as spec;
 ghost use Rattle.ror_show_text_reasons.specs.Scenes.{scene_of, reason_text};
 
-use crate::reasons::{write_bounded, write_decided, write_reduct, write_wide};
+use crate::reasons::{write_bounded, write_decided, write_not_answered, write_reduct, write_wide};
 use crate::scene::{Case, Scene};
 use ror_bench::KeptLine;
 use ror_proof::Answer;
@@ -72,7 +72,7 @@ fn write_words(
 {
     match reason {
         Some(reason) => write_reason(alloc, text, scene, reason),
-        None => write_wide(text),
+        None => write_not_answered(text),
     }
 }
 

@@ -24,7 +24,7 @@ abbrev pub carried_text : DecisionTable → List ℕ → List CarriedPair → Li
 carried_text t head fs = if length fs == 0 then [] else head ++ flat_map (pair_line t) fs
 
 abbrev pub carried_head : List ℕ
-carried_head = codes "\n  statements that carry each arrow (none of them can be spared, and others may carry it too)\n"
+carried_head = codes "\n  statements that carry each arrow (of these alone none can be spared; others may carry it too)\n"
 
 -- ---- the relation at a kept line
 

@@ -10,7 +10,7 @@
 //!
 //! ```text
 //!
-//!   statements that carry each arrow (none of them can be spared, and others may carry it too)
+//!   statements that carry each arrow (of these alone none can be spared; others may carry it too)
 //!      c01 -> c09   1 4
 //!      c09 -> c10   none is needed
 //!      c10 -> c14   1

@@ -104,7 +104,7 @@ fn heading_with<'a>(line: &KeptLine, desk: &'a str, numbers: &'a [u32]) -> Headi
 fn carried_head() -> &'static [u8]
     ensures { result.now ≡ spec.carried_head }
 {
-    b"\n  statements that carry each arrow (none of them can be spared, and others may carry it too)\n"
+    b"\n  statements that carry each arrow (of these alone none can be spared; others may carry it too)\n"
 }
 
 /// Adds pairs below a head, each with the numbers of statements that carry it and of which none can be spared; nothing where there are no

@@ -19,5 +19,5 @@ returns c =
     let needed = needed_text t q c.args.clashes ns x.others.now in
     let so_far = four_more head rows sum needed c.args.text.now.items c.write_head.new.text.items c.write_rows.new.text.items c.write_part_sum.new.text.items c.write_needed.new.text.items c.in_ok-write_head.ensures c.in_ok-write_rows.ensures c.in_ok-write_part_sum.ensures c.in_ok-write_needed.ensures in
     on_ok_weaker c.write_tail.result
-    (λ last. two_more (head ++ rows ++ sum ++ needed) (tail_text c.args.clashes ns) c.args.text.now.items c.write_needed.new.text.items c.write_tail.new.text.items so_far last)
+    (λ last. two_more (head ++ rows ++ sum ++ needed) (tail_text sc.dropped c.args.clashes ns) c.args.text.now.items c.write_needed.new.text.items c.write_tail.new.text.items so_far last)
     c.write_tail.ensures
