@@ -29,7 +29,7 @@ found_text t (Some f) = block_text t f
 -- ---- what it is for
 
 abbrev pub base_title : List ℕ
-base_title = codes "\n  a function that agrees with the statements\n"
+base_title = codes "\n  one of the functions that agree with the statements, not a representative one\n"
 
 -- the question and the verdict
 unfoldable pub asked_text : DecisionTable → Answer → List ℕ
