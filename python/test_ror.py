@@ -118,7 +118,8 @@ class Examples(unittest.TestCase):
         found = {}
         for it in report.classes():
             for number in range(1, 5):
-                sign = "#" if number in it.necessary else "+" if number in it.possible else "."
+                only = it.lowest == it.highest
+                sign = ("#" if only else "&") if number in it.necessary else "+" if number in it.possible else "."
                 found[it.line, it.alternative, number] = sign
         self.assertEqual(found, signs)
         self.assertEqual([(it.lowest, it.highest) for it in report.classes(14)], [(2, 4)])

@@ -90,7 +90,8 @@ test("a possible pair", nrow(ror_possible(report, 7)) == 12)
 report <- replayed("twelve-firms")
 wanted <- csv("twelve-firms", "classes.csv")
 found <- ror_classes(report)
-sign <- ifelse(found$necessary == "yes", "#", ifelse(found$possible == "yes", "+", "."))
+only <- ave(as.integer(found$possible == "yes"), found$line, found$alternative, FUN = sum) == 1
+sign <- ifelse(found$necessary == "yes", ifelse(only, "#", "&"), ifelse(found$possible == "yes", "+", "."))
 test("classes", identical(paste(found$line, found$alternative, found$class, sign),
                           paste(wanted$line, wanted$alternative, wanted$class, wanted$sign)))
 test("ranges", identical(unlist(ror_class_ranges(report, 14)[1, c("lowest", "highest")], use.names = FALSE), c(2L, 4L)))

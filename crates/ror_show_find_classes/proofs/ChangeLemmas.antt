@@ -1,7 +1,7 @@
 -- What is said of a change follows from the ends that are shown, where they are known.
-use Rattle.std.proofs.Common.{◌≡◌, ◌≢◌, ℕ, ◌≤◌, Bool, true, false, ◌||◌, List, refl, sym, subst, ◌∙◌, arith}
-use Rattle.std.specs.Prelude.{◌==◌, nat_le, if◌then◌else◌}
-use Rattle.std.proofs.lemmas.Bool.{leb-true, le-leb, eqb-true, eq-eqb, ne_eqb, and_from, or_from}
+use Rattle.std.proofs.Common.{◌≡◌, ◌≢◌, ℕ, zero, suc, ◌≤◌, Bool, true, false, ◌&&◌, List, refl, sym, ap, subst, ◌∙◌, arith}
+use Rattle.std.specs.Prelude.{not, ◌==◌, nat_le, if◌then◌else◌}
+use Rattle.std.proofs.lemmas.Bool.{leb-true, le-leb, eqb-true, eq-eqb, ne_eqb, and_from}
 use Rattle.ror_statement.specs.declared.statement.Statement.{Statement}
 use Rattle.ror_table.specs.Table.{DecisionTable}
 use Rattle.ror_report.specs.Text.{answers_of}
@@ -11,14 +11,15 @@ use Rattle.ror_show_find_classes.specs.declared.sign.Sign.{Sign}
 use Rattle.ror_show_find_classes.specs.declared.sign.Sign.TheVariants as signs
 use Rattle.ror_show_find_classes.specs.declared.value.ClassRow.{ClassRow}
 use Rattle.ror_show_find_classes.specs.Signs.{alternative_of, sign_of_class, is_left, may_be}
-use Rattle.ror_show_find_classes.specs.Intervals.{lowest, highest}
+use Rattle.ror_show_find_classes.specs.Intervals.{lowest, highest, is_whole}
 use Rattle.ror_show_find_classes.specs.Meaning.{MayBelong, SignSays}
 use Rattle.ror_show_find_classes.specs.Values.{interval_of}
 use Rattle.ror_show_find_classes.proofs.SignLemmas.{signs-true, both}
 use Rattle.ror_show_find_classes.proofs.IntervalLemmas.{between, by_some, still_left, lowest_most, highest_most, lowest_left, highest_left}
-use Rattle.ror_show_find_classes.specs.declared.change.Change.TheVariants.{Stayed, Narrowed, Widened, Moved}
-use Rattle.ror_show_find_classes.specs.Changes.{is_none, is_same_interval, is_within, change_of}
-use Rattle.ror_show_find_classes.specs.ChangeLaws.{IsPossible, AreAmong, ChangeSays, IsKnown, ChangesAreTrue}
+use Rattle.ror_show_find_classes.specs.declared.change.Change.TheVariants.{Stayed, Narrowed, Widened, Moved, NotConcluded}
+use Rattle.ror_show_find_classes.specs.Changes.{is_same_interval, is_comparable, is_within, change_of}
+use Rattle.ror_show_find_classes.specs.ChangeLaws.{IsPossible, AreAmong, ChangeSays, IsTrueOf, IsKnown, ChangesAreTrue}
+use Rattle.ror_show_find_classes.proofs.KnownLemmas.{whole_known, known_whole}
 
 -- the classes that are possible lie between two of them
 record Ends (t : DecisionTable) (list : List Statement) (a low high : ℕ) : Type 0 where
@@ -33,11 +34,15 @@ known_possible t list signs.Impossible a h says known may = absurd cc
 known_possible t list signs.Contradiction a h says known may = absurd cc
 known_possible t list signs.Unknown a h says known may = absurd (known refl)
 
-possible_left : (t : DecisionTable) (list : List Statement) (a h : ℕ) (x : KeptLine) → IsKnown t list a x → 1 ≤ h → h ≤ t.classes → is_left (answers_of x.block.body) h ≡ true → IsPossible t list a h
-possible_left t list a h x is from to left =
+-- a class that is left, and of which that is concluded
+left_known : (t : DecisionTable) (list : List Statement) (a h : ℕ) (x : KeptLine) → IsTrueOf t list a x → 1 ≤ h → h ≤ t.classes → sign_of_class (answers_of x.block.body) h ≢ signs.Unknown → is_left (answers_of x.block.body) h ≡ true → IsPossible t list a h
+left_known t list a h x is from to known left =
     let xs = answers_of x.block.body in
-    let here = known_possible t list (sign_of_class xs h) (alternative_of xs) h (signs-true t list xs (alternative_of xs) h is.truth) (is.each h from to) left in
+    let here = known_possible t list (sign_of_class xs h) (alternative_of xs) h (signs-true t list xs (alternative_of xs) h is.truth) known left in
     record { from = from; to = to; some = subst (λ (b : ℕ). BySome t list (MayBelong t list b h)) is.of here }
+
+possible_left : (t : DecisionTable) (list : List Statement) (a h : ℕ) (x : KeptLine) → IsKnown t list a x → 1 ≤ h → h ≤ t.classes → is_left (answers_of x.block.body) h ≡ true → IsPossible t list a h
+possible_left t list a h x is from to left = left_known t list a h x (record { truth = is.truth; of = is.of }) from to (is.each h from to) left
 
 left_possible : (t : DecisionTable) (list : List Statement) (a h : ℕ) (x : KeptLine) → IsKnown t list a x → IsPossible t list a h → is_left (answers_of x.block.body) h ≡ true
 left_possible t list a h x is possible =
@@ -113,25 +118,67 @@ same_back x y same =
     and_from (y.lowest == x.lowest) (y.highest == x.highest) (eq-eqb y.lowest x.lowest (sym (eqb-true x.lowest y.lowest parts.0))) (eq-eqb y.highest x.highest (sym (eqb-true x.highest y.highest parts.1)))
 
 module _ (t : DecisionTable) (before now : List Statement) (a : ℕ) (x y : ClassRow) (was : Ends t before a x.lowest x.highest) (is : Ends t now a y.lowest y.highest) where
-  some_class : (is_none x || is_none y) ≡ false
-  some_class =
-      let low = was.least.from in
-      let low_high = (was.all x.lowest was.least).1 in
-      let least = is.least.from in
-      let least_most = (is.all y.lowest is.least).1 in
-      or_from (x.highest == 0) (y.highest == 0) (ne_eqb x.highest 0 (λ none. omega (arith, none, low, low_high))) (ne_eqb y.highest 0 (λ none. omega (arith, none, least, least_most)))
+  ends_say : (same inner outer : Bool) → is_same_interval x y ≡ same → is_within y x ≡ inner → is_within x y ≡ outer → ChangeSays t before now a (if same then Stayed else (if inner then Narrowed else (if outer then Widened else Moved)))
+  ends_say true inner outer same in_it out = (are_among t now before a y x is was (within_same y x (same_back x y same)), are_among t before now a x y was is (within_same x y same))
+  ends_say false true true same in_it out = absurd (let both_ways = sym same ∙ same_ends x y out in_it in cc)
+  ends_say false true false same in_it out = (are_among t now before a y x is was in_it, not_among t before now a x y was is out)
+  ends_say false false true same in_it out = (not_among t now before a y x is was in_it, are_among t before now a x y was is out)
+  ends_say false false false same in_it out = (not_among t now before a y x is was in_it, not_among t before now a x y was is out)
 
-  change_says : ChangeSays t before now a (change_of x y)
-  change_says = by (is_same_interval x y) (is_none x || is_none y) (is_within y x) (is_within x y) refl some_class refl refl
-    where
-      by : (same none inner outer : Bool) → is_same_interval x y ≡ same → none ≡ false → is_within y x ≡ inner → is_within x y ≡ outer → ChangeSays t before now a (if same then Stayed else (if none then Moved else (if inner then Narrowed else (if outer then Widened else Moved))))
-      by true none inner outer same some in_it out = (are_among t now before a y x is was (within_same y x (same_back x y same)), are_among t before now a x y was is (within_same x y same))
-      by false true inner outer same some in_it out = absurd cc
-      by false false true true same some in_it out = absurd (let both_ways = sym same ∙ same_ends x y out in_it in cc)
-      by false false true false same some in_it out = (are_among t now before a y x is was in_it, not_among t before now a x y was is out)
-      by false false false true same some in_it out = (not_among t now before a y x is was in_it, are_among t before now a x y was is out)
-      by false false false false same some in_it out = (not_among t now before a y x is was in_it, not_among t before now a x y was is out)
+-- where both rows are comparable, their ends say it
+change_says : (t : DecisionTable) (before now : List Statement) (a : ℕ) (x y : ClassRow) → (is_comparable x ≡ true → Ends t before a x.lowest x.highest) → (is_comparable y ≡ true → Ends t now a y.lowest y.highest) → ChangeSays t before now a (change_of x y)
+change_says t before now a x y was is = by (is_comparable x && is_comparable y) refl
+  where
+    by : (so : Bool) → (is_comparable x && is_comparable y) ≡ so → ChangeSays t before now a (if not so then NotConcluded else (if is_same_interval x y then Stayed else (if is_within y x then Narrowed else (if is_within x y then Widened else Moved))))
+    by false so = tt
+    by true so =
+        let parts = both (is_comparable x) (is_comparable y) so in
+        ends_say t before now a x y (was parts.0) (is parts.1) (is_same_interval x y) (is_within y x) (is_within x y) refl refl refl
+
+-- ---- a row that is comparable is known, and the other way round
+
+some_class : (k : ℕ) → not (k == 0) ≡ true → 1 ≤ k
+some_class zero some = absurd cc
+some_class (suc k) some = omega arith
+
+comparable_known : (t : DecisionTable) (list : List Statement) (a : ℕ) (x : KeptLine) → IsTrueOf t list a x → is_comparable (interval_of t.classes x) ≡ true → IsKnown t list a x
+unfolding interval_of
+comparable_known t list a x is comparable =
+    let xs = answers_of x.block.body in
+    let parts = both (is_whole xs t.classes) (not (highest xs t.classes == 0)) comparable in
+    let high = some_class (highest xs t.classes) parts.1 in
+    let most = highest_most xs t.classes in
+    record {
+      truth = is.truth;
+      of = is.of;
+      each = λ h from to. whole_known xs t.classes h parts.0 from to;
+      one = (highest xs t.classes, left_known t list a (highest xs t.classes) x is high most (whole_known xs t.classes (highest xs t.classes) parts.0 high most) (highest_left xs t.classes high));
+    }
+
+known_comparable : (t : DecisionTable) (list : List Statement) (a : ℕ) (x : KeptLine) → IsKnown t list a x → is_comparable (interval_of t.classes x) ≡ true
+unfolding interval_of
+known_comparable t list a x is =
+    let xs = answers_of x.block.body in
+    let ends = ends_known t list a x is in
+    let low = ends.least.from in
+    let below = (ends.all (lowest xs t.classes) ends.least).1 in
+    and_from (is_whole xs t.classes) (not (highest xs t.classes == 0)) (known_whole xs t.classes is.each) (ap not (ne_eqb (highest xs t.classes) 0 (λ none. omega (arith, none, low, below))))
+
+ends_of : (t : DecisionTable) (list : List Statement) (a : ℕ) (x : KeptLine) → IsTrueOf t list a x → is_comparable (interval_of t.classes x) ≡ true → Ends t list a (interval_of t.classes x).lowest (interval_of t.classes x).highest
+unfolding interval_of
+ends_of t list a x is comparable = ends_known t list a x (comparable_known t list a x is comparable)
+
+is_concluded : (so same inner outer : Bool) → so ≡ true → (if not so then NotConcluded else (if same then Stayed else (if inner then Narrowed else (if outer then Widened else Moved)))) ≢ NotConcluded
+is_concluded false same inner outer so = absurd cc
+is_concluded true true inner outer so = λ e. absurd cc
+is_concluded true false true outer so = λ e. absurd cc
+is_concluded true false false true so = λ e. absurd cc
+is_concluded true false false false so = λ e. absurd cc
 
 pub changes-true : ChangesAreTrue
-unfolding interval_of
-changes-true t before now a x y was is = change_says t before now a (interval_of t.classes x) (interval_of t.classes y) (ends_known t before a x was) (ends_known t now a y is)
+changes-true = record {
+  says = λ t before now a x y was is. change_says t before now a (interval_of t.classes x) (interval_of t.classes y) (ends_of t before a x was) (ends_of t now a y is);
+  compared = λ t before now a x y was is. (let one = interval_of t.classes x in let other = interval_of t.classes y in
+      is_concluded (is_comparable one && is_comparable other) (is_same_interval one other) (is_within other one) (is_within one other)
+      (and_from (is_comparable one) (is_comparable other) (known_comparable t before a x was) (known_comparable t now a y is)));
+}

@@ -8,9 +8,11 @@ use Rattle.ror_proof.specs.declared.answer.Answer.{Answer}
 use Rattle.ror_show_ground.specs.Meaning.{BySome}
 use Rattle.ror_show_find_classes.specs.declared.sign.Sign.{Sign}
 use Rattle.ror_show_find_classes.specs.declared.sign.Sign.TheVariants as signs
-use Rattle.ror_show_find_classes.specs.Signs.{alternative_of, sign_of_class, is_left, is_possible, may_be}
-use Rattle.ror_show_find_classes.specs.Intervals.{lowest, highest}
+use Rattle.ror_show_find_classes.specs.Signs.{alternative_of, sign_of_class, is_left, is_possible, is_contradiction, may_be}
+use Rattle.ror_show_find_classes.specs.Intervals.{lowest, highest, is_contradictory}
 use Rattle.ror_show_find_classes.specs.Meaning.{MayBelong, SignSays}
+use Rattle.ror_show_find_relation.specs.CellLaws.{AreTrueAnswers}
+use Rattle.ror_value.specs.Meaning.{IsContradictory}
 use Rattle.ror_show_find_classes.specs.Laws.{IntervalsAreTrue}
 use Rattle.ror_show_find_classes.proofs.SignLemmas.{signs-true, both}
 
@@ -61,7 +63,7 @@ before xs n g within is =
     most true below = omega (arith, within)
     most false below = below
 
-below_last : (g n : ℕ) → g ≤ suc n → (g ≡ suc n → ⊥) → g ≤ n
+pub below_last : (g n : ℕ) → g ≤ suc n → (g ≡ suc n → ⊥) → g ≤ n
 below_last g n to no_last = by (g == suc n) refl
   where
     by : (b : Bool) → (g == suc n) ≡ b → g ≤ n
@@ -125,6 +127,22 @@ by_some t list signs.Impossible a h says possible = absurd cc
 by_some t list signs.Contradiction a h says possible = absurd cc
 by_some t list signs.Unknown a h says possible = absurd cc
 
+-- where it is said of a class that no function agrees, none does
+says_contradiction : (t : DecisionTable) (list : List Statement) (s : Sign) (a h : ℕ) → SignSays t list s a h → is_contradiction s ≡ true → IsContradictory t list
+says_contradiction t list signs.Necessary a h says is = absurd cc
+says_contradiction t list signs.Possible a h says is = absurd cc
+says_contradiction t list signs.Impossible a h says is = absurd cc
+says_contradiction t list signs.Contradiction a h says is = says
+says_contradiction t list signs.Unknown a h says is = absurd cc
+
+contradiction_true : (t : DecisionTable) (list : List Statement) (xs : List Answer) (n : ℕ) → AreTrueAnswers t list xs → is_contradictory xs n ≡ true → IsContradictory t list
+contradiction_true t list xs zero all is = absurd cc
+contradiction_true t list xs (suc n) all is = by (contradiction_true t list xs n all) (is_contradiction (sign_of_class xs (n + 1))) refl is
+  where
+    by : (is_contradictory xs n ≡ true → IsContradictory t list) → (b : Bool) → is_contradiction (sign_of_class xs (n + 1)) ≡ b → (if b then true else is_contradictory xs n) ≡ true → IsContradictory t list
+    by so_far true here all_of = says_contradiction t list (sign_of_class xs (n + 1)) (alternative_of xs) (n + 1) (signs-true t list xs (alternative_of xs) (n + 1) all) here
+    by so_far false here all_of = so_far all_of
+
 pub intervals_true : IntervalsAreTrue
 intervals_true t list xs true_answers = record {
   between = λ h from to some.
@@ -133,4 +151,5 @@ intervals_true t list xs true_answers = record {
   settled = λ settled.
       let parts = both (lowest xs t.classes == highest xs t.classes) (is_possible (sign_of_class xs (lowest xs t.classes))) settled in
       (eqb-true _ _ parts.0, by_some t list (sign_of_class xs (lowest xs t.classes)) (alternative_of xs) (lowest xs t.classes) (signs-true t list xs (alternative_of xs) (lowest xs t.classes) true_answers) parts.1);
+  contradictory = contradiction_true t list xs t.classes true_answers;
 }

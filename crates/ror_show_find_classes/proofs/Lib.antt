@@ -1,5 +1,7 @@
 pub mod SignLemmas
 pub mod IntervalLemmas
+pub mod KnownLemmas
+pub mod ByteLemmas
 pub mod ChangeLemmas
 pub mod RunLaws
 pub mod RunLemmas

@@ -12,7 +12,7 @@ use Rattle.ror_show_find_classes.specs.Signs.{alternative_of, sign_of_class}
 use Rattle.ror_show_find_classes.specs.Meaning.{MayBelong}
 use Rattle.ror_show_find_classes.specs.Values.{interval_of}
 use Rattle.ror_show_find_classes.specs.declared.change.Change.{Change}
-use Rattle.ror_show_find_classes.specs.declared.change.Change.TheVariants.{Stayed, Narrowed, Widened, Moved}
+use Rattle.ror_show_find_classes.specs.declared.change.Change.TheVariants.{Stayed, Narrowed, Widened, Moved, NotConcluded}
 use Rattle.ror_show_find_classes.specs.Changes.{change_of}
 use Rattle.ror_show_find_classes.specs.TimeTurns.{is_at, turns}
 
@@ -55,17 +55,26 @@ ChangeSays t before now a Stayed = AreAmong t now before a × AreAmong t before 
 ChangeSays t before now a Narrowed = AreAmong t now before a × (AreAmong t before now a → ⊥)
 ChangeSays t before now a Widened = (AreAmong t now before a → ⊥) × AreAmong t before now a
 ChangeSays t before now a Moved = (AreAmong t now before a → ⊥) × (AreAmong t before now a → ⊥)
+ChangeSays t before now a NotConcluded = Unit {0}
 
--- The answers are true, they say of each class of the table whether it is possible for the alternative, and one is. So neither is
--- anything unknown, nor is there no function that agrees.
+-- the answers are true, and they are on this alternative
+pub record IsTrueOf (t : DecisionTable) (list : List Statement) (a : ℕ) (x : KeptLine) : Type 0 where
+  pub truth : AreTrueAnswers t list (answers_of x.block.body)
+  pub of : alternative_of (answers_of x.block.body) ≡ a
+
+-- The same, they say of each class of the table whether it is possible for the alternative, and one is. So neither is anything unknown,
+-- nor is there no function that agrees.
 pub record IsKnown (t : DecisionTable) (list : List Statement) (a : ℕ) (x : KeptLine) : Type 0 where
   pub truth : AreTrueAnswers t list (answers_of x.block.body)
   pub of : alternative_of (answers_of x.block.body) ≡ a
   pub each : (h : ℕ) → 1 ≤ h → h ≤ t.classes → sign_of_class (answers_of x.block.body) h ≢ signs.Unknown
   pub one : (h : ℕ) × IsPossible t list a h
 
--- then what is said of the change is so
-abbrev pub ChangesAreTrue : Type 0
-ChangesAreTrue = (t : DecisionTable) (before now : List Statement) (a : ℕ) (x y : KeptLine)
-    → IsKnown t before a x → IsKnown t now a y
-    → ChangeSays t before now a (change_of (interval_of t.classes x) (interval_of t.classes y))
+-- What is said of a change is so, and where the classes are known before and now something is said. So one that is called narrowed has a
+-- class that was possible and isn't any more.
+pub record ChangesAreTrue : Type 0 where
+  pub says : (t : DecisionTable) (before now : List Statement) (a : ℕ) (x y : KeptLine)
+      → IsTrueOf t before a x → IsTrueOf t now a y
+      → ChangeSays t before now a (change_of (interval_of t.classes x) (interval_of t.classes y))
+  pub compared : (t : DecisionTable) (before now : List Statement) (a : ℕ) (x y : KeptLine)
+      → IsKnown t before a x → IsKnown t now a y → change_of (interval_of t.classes x) (interval_of t.classes y) ≢ NotConcluded

@@ -23,9 +23,10 @@ use Rattle.ror_show_find_classes.specs.declared.sign.Sign.{Sign}
 use Rattle.ror_show_find_classes.specs.declared.sign.Sign.TheVariants as signs
 use Rattle.ror_show_ground.specs.Lines.{desk_of}
 use Rattle.ror_show_find_classes.specs.Times.{keep_for, answers_at, revises_at, times, rows}
-use Rattle.ror_show_find_classes.specs.Signs.{alternative_of, sign_at}
-use Rattle.ror_show_find_classes.specs.Intervals.{lowest, highest, is_settled}
-use Rattle.ror_show_find_classes.specs.Meaning.{MayBelong, SignSays}
+use Rattle.ror_show_find_classes.specs.Signs.{byte_of, alternative_of, sign_at, sign_of_class, is_left}
+use Rattle.ror_show_find_classes.specs.Intervals.{lowest, highest, is_settled, is_contradictory}
+use Rattle.ror_show_find_classes.specs.Meaning.{MayBelong, IsNecessaryClass, SignSays}
+use Rattle.ror_value.specs.Meaning.{IsContradictory}
 
 -- by answers that are true of all compatible functions each sign says what is true of them
 abbrev pub SignsAreTrue : Type 0
@@ -45,16 +46,34 @@ SignsAreWhole = (classes a : ℕ) (xs : List Answer) (h : ℕ) → map (λ x. x.
     → (alternative_of xs ≡ a) × (sign_at xs a h ≢ signs.Unknown)
 
 -- Of the classes of the table, those to which some compatible function lets the alternative belong lie between the two ends that are
--- shown of it. One that is settled has one end for both, and some function lets it belong there.
+-- shown of it. One that is settled has one end for both, and some function lets it belong there. Where it is said that no function agrees,
+-- none does.
 pub record IntervalIsTrue (t : DecisionTable) (list : List Statement) (xs : List Answer) : Type 0 where
   pub between : (h : ℕ) → 1 ≤ h → h ≤ t.classes → BySome t list (MayBelong t list (alternative_of xs) h)
       → (lowest xs t.classes ≤ h) × (h ≤ highest xs t.classes)
   pub settled : is_settled t.classes xs ≡ true → (lowest xs t.classes ≡ highest xs t.classes)
       × BySome t list (MayBelong t list (alternative_of xs) (lowest xs t.classes))
+  pub contradictory : is_contradictory xs t.classes ≡ true → IsContradictory t list
 
 abbrev pub IntervalsAreTrue : Type 0
 IntervalsAreTrue = (t : DecisionTable) (list : List Statement) (xs : List Answer)
     → AreTrueAnswers t list xs → IntervalIsTrue t list xs
+
+-- the byte that stands for the sign of a class
+abbrev pub byte_at : ℕ → List Answer → ℕ → ℕ
+byte_at classes xs h = byte_of (is_settled classes xs) (sign_of_class xs h)
+
+-- A class with `#` is one that every compatible function leaves the alternative, and none leaves it another of the table. One with `&` is
+-- left by every function too, and another one isn't excluded.
+pub record BytesAreTrue : Type 0 where
+  pub only : (t : DecisionTable) (list : List Statement) (xs : List Answer) (h : ℕ) → AreTrueAnswers t list xs
+      → 1 ≤ h → h ≤ t.classes → byte_at t.classes xs h ≡ 35
+      → IsNecessaryClass t list (alternative_of xs) h × ((g : ℕ) → 1 ≤ g → g ≤ t.classes
+      → BySome t list (MayBelong t list (alternative_of xs) g) → g ≡ h)
+  pub beside : (t : DecisionTable) (list : List Statement) (xs : List Answer) (h : ℕ) → AreTrueAnswers t list xs
+      → 1 ≤ h → h ≤ t.classes → byte_at t.classes xs h ≡ 38
+      → IsNecessaryClass t list (alternative_of xs) h
+      × ((g : ℕ) × (1 ≤ g) × (g ≤ t.classes) × (g ≢ h) × (is_left xs g ≡ true))
 
 -- ---- times
 

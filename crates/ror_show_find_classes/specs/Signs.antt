@@ -14,13 +14,14 @@ use Rattle.ror_show_ground.specs.Said.{said_by}
 use Rattle.ror_show_find_classes.specs.declared.sign.Sign.{Sign}
 use Rattle.ror_show_find_classes.specs.declared.sign.Sign.TheVariants as signs
 
--- the byte that stands for a sign
-abbrev pub byte_of : Sign → ℕ
-byte_of signs.Necessary = 35
-byte_of signs.Possible = 43
-byte_of signs.Impossible = 46
-byte_of signs.Unknown = 63
-byte_of signs.Contradiction = 33
+-- the byte that stands for a sign, where the alternative's class is settled or isn't: a class that every function leaves is the only one
+-- there, and else one beside others
+abbrev pub byte_of : Bool → Sign → ℕ
+byte_of settled signs.Necessary = if settled then 35 else 38
+byte_of settled signs.Possible = 43
+byte_of settled signs.Impossible = 46
+byte_of settled signs.Unknown = 63
+byte_of settled signs.Contradiction = 33
 
 -- the alternative that a question is on, where it is on a class
 abbrev pub alternative_in : Question → ℕ
@@ -77,6 +78,15 @@ may_be _ = true
 
 abbrev pub is_left : List Answer → ℕ → Bool
 is_left xs h = may_be (sign_of_class xs h)
+
+-- it is concluded whether the class is possible, or that no function agrees
+abbrev pub is_known : Sign → Bool
+is_known signs.Unknown = false
+is_known _ = true
+
+abbrev pub is_contradiction : Sign → Bool
+is_contradiction signs.Contradiction = true
+is_contradiction _ = false
 
 -- some compatible function lets the alternative belong to the class
 abbrev pub is_possible : Sign → Bool

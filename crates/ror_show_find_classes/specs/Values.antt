@@ -12,15 +12,17 @@ use Rattle.ror_show_ground.specs.Lines.{desk_of}
 use Rattle.ror_show_find_classes.specs.Times.{times, rows}
 use Rattle.ror_show_find_classes.specs.Rows.{in_order}
 use Rattle.ror_show_find_classes.specs.Signs.{alternative_of}
-use Rattle.ror_show_find_classes.specs.Intervals.{lowest, highest, is_settled, last_line}
+use Rattle.ror_show_find_classes.specs.Intervals.{lowest, highest, is_settled, is_whole, is_contradictory, last_line}
 
--- the alternative that a line asks for, and the least and the greatest class that its answers don't exclude
+-- the alternative that a line asks for, the least and the greatest class that its answers don't exclude, and what is concluded of all classes
 unfoldable pub interval_of : ℕ → KeptLine → ClassRow
 interval_of classes x = record {
   alternative = alternative_of (answers_of x.block.body);
   lowest = lowest (answers_of x.block.body) classes;
   highest = highest (answers_of x.block.body) classes;
   settled = is_settled classes (answers_of x.block.body);
+  whole = is_whole (answers_of x.block.body) classes;
+  contradictory = is_contradictory (answers_of x.block.body) classes;
 }
 
 abbrev pub interval_of_line : ℕ → KeptLine → List ClassRow

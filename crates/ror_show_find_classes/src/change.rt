@@ -15,18 +15,20 @@ pub enum Change {
     Narrowed,
     /// They are more, those before among them.
     Widened,
-    /// They are others, or there are none now or before.
+    /// They are others.
     Moved,
+    /// Of some class it isn't concluded, before or now, whether it is possible; or none is left.
+    NotConcluded,
 }
 
 /// What became of an alternative's classes.
 pub fn change_of(before: ClassRow, now: ClassRow) -> Change
     ensures { result ≡ spec.change_of before now }
 {
-    if before.lowest == now.lowest && before.highest == now.highest {
+    if !(is_comparable(before) && is_comparable(now)) {
+        Change::NotConcluded
+    } else if before.lowest == now.lowest && before.highest == now.highest {
         Change::Stayed
-    } else if before.highest == 0 || now.highest == 0 {
-        Change::Moved
     } else if is_within(now, before) {
         Change::Narrowed
     } else if is_within(before, now) {
@@ -34,6 +36,13 @@ pub fn change_of(before: ClassRow, now: ClassRow) -> Change
     } else {
         Change::Moved
     }
+}
+
+/// Whether it is concluded of each class whether it is possible, and some one is left.
+fn is_comparable(row: ClassRow) -> bool
+    ensures { result ≡ spec.is_comparable row }
+{
+    row.whole && row.highest != 0
 }
 
 /// Whether the classes of the one are among those of the other.
@@ -51,6 +60,7 @@ pub fn is_same(one: Change, other: Change) -> bool
         (Change::Narrowed, Change::Narrowed) => true,
         (Change::Widened, Change::Widened) => true,
         (Change::Moved, Change::Moved) => true,
+        (Change::NotConcluded, Change::NotConcluded) => true,
         _ => false,
     }
 }

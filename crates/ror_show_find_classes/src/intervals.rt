@@ -41,6 +41,32 @@ pub fn highest(answers: &[Answer], classes: u32) -> u32
     found
 }
 
+/// Whether of each of the first `classes` classes these answers conclude whether it is possible, or that no function agrees.
+pub fn is_whole(answers: &[Answer], classes: u32) -> bool
+    ensures { result ≡ spec.is_whole answers.now classes }
+{
+    let mut whole = true;
+    for h in 0..classes {
+        if !sign_of_class(answers, h + 1).is_known() {
+            whole = false;
+        }
+    }
+    whole
+}
+
+/// Whether of one of the first `classes` classes these answers conclude that no function agrees.
+pub fn is_contradictory(answers: &[Answer], classes: u32) -> bool
+    ensures { result ≡ spec.is_contradictory answers.now classes }
+{
+    let mut found = false;
+    for h in 0..classes {
+        if sign_of_class(answers, h + 1).is_contradiction() {
+            found = true;
+        }
+    }
+    found
+}
+
 /// The number of the line at the last of these places.
 pub fn last_line(kept: &[KeptLine], places: &[usize]) -> u32
     ensures { result ≡ spec.last_line kept.now places.now }

@@ -1,7 +1,7 @@
 //! Each function here states one law, and does nothing.
 
 ghost use Rattle.ror_show_find_classes.specs.ChangeLaws.{ChangesAreTrue, TurnsAreThose};
-ghost use Rattle.ror_show_find_classes.specs.Laws.{SignsAreTrue, OneSign, SignsAreWhole, IntervalsAreTrue, RowsAreThose, TimesAreThose, EachIsInOneTime, OneListInATime};
+ghost use Rattle.ror_show_find_classes.specs.Laws.{SignsAreTrue, OneSign, SignsAreWhole, IntervalsAreTrue, BytesAreTrue, RowsAreThose, TimesAreThose, EachIsInOneTime, OneListInATime};
 
 /// By answers that are true of all compatible functions each sign says what is true of them.
 pub fn signs_are_true()
@@ -22,6 +22,12 @@ pub fn signs_are_whole()
 /// of it, and a settled one has one class, to which some function lets it belong.
 pub fn intervals_are_true()
     ensures { IntervalsAreTrue }
+{}
+
+/// By answers that are true a class with `#` is the only one that compatible functions leave the alternative, and every one leaves it;
+/// one with `&` is left by every one, beside another that isn't excluded.
+pub fn bytes_are_true()
+    ensures { BytesAreTrue }
 {}
 
 /// The rows of a time are the answered lines of its desk from its first one on, up to the next change of what stands there.
@@ -49,8 +55,8 @@ pub fn turns_are_those()
     ensures { TurnsAreThose }
 {}
 
-/// Where it is known of each class whether it is possible, and some one is, what is said of an alternative's change is true of all
-/// functions that agree with what stood before, and of all that agree with what stands now.
+/// By answers that are true what is said of an alternative's change is true of all functions that agree with what stood before, and of
+/// all that agree with what stands now. Something is said where it is known of each class whether it is possible, and some one is.
 pub fn changes_are_true()
     ensures { ChangesAreTrue }
 {}

@@ -25,7 +25,7 @@ mod value;
 pub use change::{Change, change_of, is_same, row_of};
 pub use changes::{ClassChangeFound, RowChange, find_class_changes};
 pub use findings::{ClassLine, TimeFound, class_line, class_lines, find_time};
-pub use intervals::{highest, is_settled, last_line, lowest};
+pub use intervals::{highest, is_contradictory, is_settled, is_whole, last_line, lowest};
 pub use keep::keep_for;
 pub use order::in_order;
 pub use sign::{Sign, alternative_of, is_assigned, sign_of_class};

@@ -26,12 +26,13 @@ pub enum Sign {
 }
 
 impl Sign {
-    /// The byte of ASCII that stands for it.
-    pub fn byte(self) -> u8
-        ensures { result ≡ spec.byte_of self }
+    /// The byte of ASCII that stands for it, where the alternative's class is settled or isn't: a class that every function leaves is
+    /// the only one there, and else one beside others.
+    pub fn byte(self, settled: bool) -> u8
+        ensures { result ≡ spec.byte_of settled self }
     {
         match self {
-            Sign::Necessary => b'#',
+            Sign::Necessary => { if settled { b'#' } else { b'&' } }
             Sign::Possible => b'+',
             Sign::Impossible => b'.',
             Sign::Unknown => b'?',
@@ -45,6 +46,26 @@ impl Sign {
     {
         match self {
             Sign::Necessary | Sign::Possible => true,
+            _ => false,
+        }
+    }
+
+    /// Whether it is concluded whether the class is possible, or that no function agrees.
+    pub fn is_known(self) -> bool
+        ensures { result ≡ spec.is_known self }
+    {
+        match self {
+            Sign::Unknown => false,
+            _ => true,
+        }
+    }
+
+    /// Whether no function agrees with the statements.
+    pub fn is_contradiction(self) -> bool
+        ensures { result ≡ spec.is_contradiction self }
+    {
+        match self {
+            Sign::Contradiction => true,
             _ => false,
         }
     }

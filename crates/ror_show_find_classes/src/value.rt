@@ -3,7 +3,9 @@
 ghost use Rattle.std.specs.Prelude.{◌≡◌, ◌++◌, IfOk, OnOk};
 ghost use Rattle.ror_show_find_classes.specs.Values as spec;
 
-use crate::intervals::{highest, is_settled, last_line, lowest};
+use crate::intervals::{
+    highest, is_contradictory, is_settled, is_whole, last_line, lowest,
+};
 use crate::order::in_order;
 use crate::sign::alternative_of;
 use crate::times::{all_times, rows};
@@ -22,6 +24,10 @@ pub struct ClassRow {
     pub highest: u32,
     /// Whether one class alone isn't excluded, and some value function lets the alternative belong there.
     pub settled: bool,
+    /// Whether it is concluded of each class whether it is possible, or that no value function agrees with the statements.
+    pub whole: bool,
+    /// Whether it is concluded that no value function agrees with the statements.
+    pub contradictory: bool,
 }
 
 /// A time at which classes were asked for.
@@ -178,5 +184,7 @@ pub fn interval_of(classes: u32, line: &KeptLine) -> ClassRow
         lowest: lowest(answers, classes),
         highest: highest(answers, classes),
         settled: is_settled(classes, answers),
+        whole: is_whole(answers, classes),
+        contradictory: is_contradictory(answers, classes),
     }
 }

@@ -20,7 +20,7 @@ use Rattle.ror_show_find_classes.specs.declared.changes.ClassChangeFound.{ClassC
 use Rattle.ror_show_find_classes.specs.declared.value.ClassRow.{ClassRow}
 use Rattle.ror_show_find_classes.specs.declared.value.ClassTime.{ClassTime}
 use Rattle.ror_show_find_classes.specs.Changes.{change_of, is_of, is_row_of, row_of}
-use Rattle.ror_show_find_classes.specs.ChangeLaws.{ChangeSays, IsKnown}
+use Rattle.ror_show_find_classes.specs.ChangeLaws.{ChangeSays, IsTrueOf}
 use Rattle.ror_show_find_classes.specs.ClassChanges.{row_change_from, row_change, IsClassChange, AreClassChanges}
 use Rattle.ror_show_find_classes.specs.Signs.{alternative_of}
 use Rattle.ror_show_find_classes.specs.Rows.{in_order}
@@ -28,7 +28,7 @@ use Rattle.ror_show_find_classes.specs.Times.{times, rows}
 use Rattle.ror_show_find_classes.specs.TimeTurns.{turns}
 use Rattle.ror_show_find_classes.specs.Values.{interval_of, interval_of_line, interval_at, intervals_at, time_from, time_of_line, time_at, class_times}
 use Rattle.ror_show_find_classes.proofs.ChangeLemmas.{changes-true}
-use Rattle.ror_show_find_reasons.specs.Meaning.{AreKnown, MeansRowChange}
+use Rattle.ror_show_find_reasons.specs.Meaning.{MeansRowChange}
 use Rattle.ror_show_find_reasons.proofs.Finding.{made_for, true_answers}
 
 -- what holds of each element holds of one of them
@@ -130,14 +130,12 @@ alternative_is : (classes : ℕ) (x : KeptLine) → (interval_of classes x).alte
 unfolding interval_of
 alternative_is classes x = refl
 
-known_by : (g : Ground) (row : ClassRow) (a : ℕ) (of : IsOfLine g row) (list : List Numbered) → IsJudged g → row.alternative ≡ a → of.line.standing ≡ Some list → AreKnown g.table (statements_in list) a of.line → IsKnown g.table (statements_in list) a of.line
-known_by g row a of list judged same stood known =
+true_of : (g : Ground) (row : ClassRow) (a : ℕ) (of : IsOfLine g row) (list : List Numbered) → IsJudged g → row.alternative ≡ a → of.line.standing ≡ Some list → IsTrueOf g.table (statements_in list) a of.line
+true_of g row a of list judged same stood =
     let ready = all_at (IsReady g.table) g.kept of.at of.line judged.ready of.there in
     record {
       truth = true_answers g.table of.line list (ready list stood);
       of = sym (alternative_is g.table.classes of.line) ∙ sym (ap (λ (r : ClassRow). r.alternative) of.is) ∙ same;
-      each = known.each;
-      one = known.one;
     }
 
 row_means : (g : Ground) (f : RowChange) → IsJudged g → IsRowChange g f → MeansRowChange g f
@@ -152,15 +150,15 @@ row_means g f judged is = record {
   says = says;
 }
   where
-    says : (before now : List Numbered) → is.before.line.standing ≡ Some before → is.now.line.standing ≡ Some now → AreKnown g.table (statements_in before) f.now.alternative is.before.line → AreKnown g.table (statements_in now) f.now.alternative is.now.line → ChangeSays g.table (statements_in before) (statements_in now) f.now.alternative f.change
-    says before now stood_before stood_now known_before known_now =
+    says : (before now : List Numbered) → is.before.line.standing ≡ Some before → is.now.line.standing ≡ Some now → ChangeSays g.table (statements_in before) (statements_in now) f.now.alternative f.change
+    says before now stood_before stood_now =
         let a = f.now.alternative in
-        let was = known_by g f.before a is.before before judged is.same stood_before known_before in
-        let now_so = known_by g f.now a is.now now judged refl stood_now known_now in
+        let was = true_of g f.before a is.before before judged is.same stood_before in
+        let now_so = true_of g f.now a is.now now judged refl stood_now in
         let change : f.change ≡ change_of (interval_of g.table.classes is.before.line) (interval_of g.table.classes is.now.line) =
         (is.change ∙ ap (λ (r : ClassRow). change_of r f.now) is.before.is ∙ ap (change_of (interval_of g.table.classes is.before.line)) is.now.is) in
         subst (ChangeSays g.table (statements_in before) (statements_in now) a) (sym change)
-        (changes-true g.table (statements_in before) (statements_in now) a is.before.line is.now.line was now_so)
+        (changes-true.says g.table (statements_in before) (statements_in now) a is.before.line is.now.line was now_so)
 
 pub class_changes_mean : (g : Ground) (fs : List ClassChangeFound) (f : ClassChangeFound) (row : RowChange) → IsJudged g → AreClassChanges (class_times g.table g.session g.kept) (turns (class_times g.table g.session g.kept)) fs → Contains fs f → Contains f.rows row → MeansRowChange g row
 class_changes_mean g fs f row judged are there row_there =

@@ -20,7 +20,7 @@ use Rattle.ror_show_find_classes.specs.Values.{interval_of}
 use Rattle.ror_show_find_classes.proofs.IntervalLemmas.{by_some, highest_left, highest_most, intervals_true, lowest_left, lowest_most}
 use Rattle.ror_show_find_classes.specs.Intervals.{lowest, highest}
 use Rattle.ror_statement.specs.declared.statement.Statement.{Statement}
-use Rattle.ror_value.specs.Meaning.{IsConsistent}
+use Rattle.ror_value.specs.Meaning.{IsConsistent, IsContradictory}
 use Rattle.ror_show_ground.specs.Meaning.{BySome}
 use Rattle.ror_proof.specs.declared.answer.Answer.{Answer}
 use Rattle.std.proofs.lemmas.Bool.{false≢true}
@@ -124,6 +124,10 @@ settled_so : (t : DecisionTable) (x : KeptLine) (list : List Numbered) → IsRea
 unfolding interval_of
 settled_so t x list over settled = (intervals_true t (statements_in list) (answers_of x.block.body) (true_answers t x list over)).settled settled
 
+contradictory_so : (t : DecisionTable) (x : KeptLine) (list : List Numbered) → IsReadyOver t x list → (interval_of t.classes x).contradictory ≡ true → IsContradictory t (statements_in list)
+unfolding interval_of
+contradictory_so t x list over contradictory = (intervals_true t (statements_in list) (answers_of x.block.body) (true_answers t x list over)).contradictory contradictory
+
 line_means : (sought : Bool) (t : DecisionTable) (x : KeptLine) (list : List Numbered) (b : Bounds) (n : ℕ) → IsReadyOver t x list → x.standing ≡ Some list → AreBoundsWhere sought t x b → MeansRow sought t list (class_line t.classes n x) b
 unfolding class_line
 line_means sought t x list b n over stood are = record {
@@ -131,6 +135,7 @@ line_means sought t x list b n over stood are = record {
   between = between_ends t x list over;
   tight = tight_so t x list over;
   settled = settled_so t x list over;
+  contradictory = contradictory_so t x list over;
   bounds = bounds_mean sought t x list b over stood are;
   each = none_missing sought t x list b stood are;
 }

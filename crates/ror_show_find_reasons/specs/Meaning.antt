@@ -33,10 +33,9 @@ use Rattle.ror_show_find_classes.specs.declared.sign.Sign.TheVariants.{Impossibl
 use Rattle.ror_show_find_classes.specs.declared.value.ClassRow.{ClassRow}
 use Rattle.ror_show_find_classes.specs.declared.changes.ClassChangeFound.{ClassChangeFound}
 use Rattle.ror_show_find_classes.specs.declared.changes.RowChange.{RowChange}
-use Rattle.ror_show_find_classes.specs.ChangeLaws.{IsPossible, ChangeSays}
+use Rattle.ror_show_find_classes.specs.ChangeLaws.{ChangeSays}
 use Rattle.ror_show_find_classes.specs.ClassChanges.{AreClassChanges}
 use Rattle.ror_show_find_classes.specs.Meaning.{MayBelong, SignSays}
-use Rattle.ror_show_find_classes.specs.Signs.{sign_of_class}
 use Rattle.ror_show_find_classes.specs.TimeTurns.{turns}
 use Rattle.ror_show_find_classes.specs.Values.{interval_of, class_times}
 use Rattle.ror_reason.specs.declared.reducts.Reason.{Reason}
@@ -172,7 +171,8 @@ abbrev pub IsBoundOf : Side → DecisionTable → List Numbered → ClassRow →
 IsBoundOf side t list r f = (f.class ≡ end_on side r) × MeansSettled side t list r.alternative f
 
 -- Each sign says what is true. The classes that some function leaves lie between both ends, and some function leaves an end, where its sign
--- says something and some function agrees at all; where it is settled they are one, which some function leaves. A bound means what it says, and where bounds are sought there is one wherever the next class is excluded.
+-- says something and some function agrees at all; where it is settled they are one, which some function leaves. Where it is said that no
+-- function agrees, none does. A bound means what it says, and where bounds are sought there is one wherever the next class is excluded.
 pub record MeansRow (sought : Bool) (t : DecisionTable) (list : List Numbered) (row : ClassLine) (b : Bounds) : Type 0 where
   pub signs : (h : ℕ) (sign : Sign) → slice_get row.signs h ≡ Some sign → SignSays t (statements_in list) sign row.row.alternative (h + 1)
   pub between : (h : ℕ) → 1 ≤ h → h ≤ t.classes
@@ -182,18 +182,14 @@ pub record MeansRow (sought : Bool) (t : DecisionTable) (list : List Numbered) (
       → BySome t (statements_in list) (MayBelong t (statements_in list) row.row.alternative (k + 1))
   pub settled : row.row.settled ≡ true → (row.row.lowest ≡ row.row.highest)
       × BySome t (statements_in list) (MayBelong t (statements_in list) row.row.alternative row.row.lowest)
+  pub contradictory : row.row.contradictory ≡ true → IsContradictory t (statements_in list)
   pub bounds : (side : Side) → IfSome (bound_on side b) (IsBoundOf side t list row.row)
   pub each : sought ≡ true → (side : Side) (k : ℕ) → end_on side row.row ≢ 0 → slice_get row.signs k ≡ Some Impossible
       → IsNextTo side (end_on side row.row) (k + 1) → bound_on side b ≡ None → ⊥
 
 -- ---- what became of the classes of an alternative
 
--- of each class it is known, by the answers to a line, whether some function lets the alternative belong there, and of one some does
-pub record AreKnown (t : DecisionTable) (list : List Statement) (a : ℕ) (x : KeptLine) : Type 0 where
-  pub each : (h : ℕ) → 1 ≤ h → h ≤ t.classes → sign_of_class (answers_of x.block.body) h ≢ Unknown
-  pub one : (h : ℕ) × IsPossible t list a h
-
--- both rows are those of kept lines, and of one alternative; where its classes are known before and now, what is said of the change is so
+-- both rows are those of kept lines, and of one alternative; what is said of the change is so
 pub record MeansRowChange (g : Ground) (f : RowChange) : Type 0 where
   pub earlier : KeptLine
   pub later : KeptLine
@@ -203,7 +199,6 @@ pub record MeansRowChange (g : Ground) (f : RowChange) : Type 0 where
   pub now : f.now ≡ interval_of g.table.classes later
   pub same : f.before.alternative ≡ f.now.alternative
   pub says : (before now : List Numbered) → earlier.standing ≡ Some before → later.standing ≡ Some now
-      → AreKnown g.table (statements_in before) f.now.alternative earlier → AreKnown g.table (statements_in now) f.now.alternative later
       → ChangeSays g.table (statements_in before) (statements_in now) f.now.alternative f.change
 
 -- ---- an answer

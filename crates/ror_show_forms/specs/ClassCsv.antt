@@ -23,7 +23,7 @@ class_front g x f = line_front g.session x ++ 44 ∷ field (id_of g.table f.row.
 
 -- behind these bytes a class, its sign, and whether a statement assigns the alternative to it
 abbrev pub class_value : List ℕ → ClassLine → ℕ → List ℕ
-class_value front f h = front ++ 44 ∷ decimal (h + 1) ++ 44 ∷ byte_of (slice_index_or f.signs h signs.Unknown)
+class_value front f h = front ++ 44 ∷ decimal (h + 1) ++ 44 ∷ byte_of f.row.settled (slice_index_or f.signs h signs.Unknown)
     ∷ assigned_word (slice_index_or f.assigned h false)
 
 -- those of a kept line

@@ -116,7 +116,7 @@ fn write_class(
     text.push(b',')?;
     text.extend_from_slice(Buffer::new().format(h + 1).as_bytes())?;
     text.push(b',')?;
-    text.push(sign_at(found, h).byte())?;
+    text.push(sign_at(found, h).byte(found.row.settled))?;
     text.extend_from_slice(assigned_word(is_assigned_at(found, h)))
 }
 

@@ -1,6 +1,6 @@
 -- What changed in the classes of alternatives from one time of a desk to the next, as plain text.
-use Rattle.std.specs.Prelude.{ℕ, List, [], ◌∷◌, ◌++◌, length, map, count_by, codes, slice_get, if◌then◌else◌}
-use Rattle.std.specs.List.{flat_map}
+use Rattle.std.specs.Prelude.{ℕ, Bool, ◌||◌, List, [], ◌∷◌, ◌++◌, length, map, count_by, codes, slice_get, if◌then◌else◌}
+use Rattle.std.specs.List.{flat_map, list_any}
 use Rattle.std.specs.Option.{option_map_or}
 use Rattle.ror_table.specs.Table.{DecisionTable, id_of}
 use Rattle.ror_session.specs.declared.session.Session.{Session}
@@ -12,11 +12,12 @@ use Rattle.ror_show_ground.specs.Lines.{desk_at}
 use Rattle.ror_show_find_classes.specs.declared.value.ClassRow.{ClassRow}
 use Rattle.ror_show_find_classes.specs.declared.value.ClassTime.{ClassTime}
 use Rattle.ror_show_find_classes.specs.declared.change.Change.{Change}
-use Rattle.ror_show_find_classes.specs.declared.change.Change.TheVariants.{Stayed, Narrowed, Widened, Moved}
+use Rattle.ror_show_find_classes.specs.declared.change.Change.TheVariants.{Stayed, Narrowed, Widened, Moved, NotConcluded}
 use Rattle.ror_show_find_classes.specs.declared.changes.RowChange.{RowChange}
 use Rattle.ror_show_find_classes.specs.declared.changes.ClassChangeFound.{ClassChangeFound}
 use Rattle.ror_show_find_classes.specs.Changes.{is_none, is_same}
 use Rattle.ror_show_text_classes.specs.Text.{stood_text, to_text, interval, list_text}
+use Rattle.ror_show_text_changes.specs.Nothing.{nothing_text}
 
 -- ---- the heading
 
@@ -32,7 +33,7 @@ abbrev pub legend : List ℕ
 legend = codes "\n  of each alternative the lowest and the highest class that isn't excluded\n"
 
 abbrev pub head_text : Ground → ClassTime → ClassTime → List ℕ
-head_text g before now = side_text g (codes "  before\n") before ++ side_text g (codes "  now\n") now ++ legend
+head_text g before now = side_text g (codes "  before\n") before ++ side_text g (codes "  now\n") now
 
 -- ---- how many are settled
 
@@ -75,12 +76,16 @@ change_name Stayed = codes "  stayed:"
 change_name Narrowed = codes "  narrowed:"
 change_name Widened = codes "  widened:"
 change_name Moved = codes "  moved:"
+change_name NotConcluded = codes "  not concluded:"
 
 abbrev pub change_list : DecisionTable → List RowChange → Change → List ℕ
 change_list t fs change = listed (change_name change) (flat_map (word_if t change) fs)
 
+abbrev pub concluded_lists : DecisionTable → List RowChange → List ℕ
+concluded_lists t fs = change_list t fs Narrowed ++ change_list t fs Widened ++ change_list t fs Moved ++ change_list t fs Stayed
+
 abbrev pub change_lists : DecisionTable → List RowChange → List ℕ
-change_lists t fs = change_list t fs Narrowed ++ change_list t fs Widened ++ change_list t fs Moved ++ change_list t fs Stayed
+change_lists t fs = concluded_lists t fs ++ change_list t fs NotConcluded
 
 -- ---- those that were asked for at one time alone
 
@@ -93,8 +98,22 @@ abbrev pub found_text : DecisionTable → ClassChangeFound → List ℕ
 found_text t f = change_lists t f.rows ++ alone_list t (codes "  asked now alone:") f.now_alone
     ++ alone_list t (codes "  asked before alone:") f.before_alone
 
+abbrev pub compared_text : DecisionTable → ClassChangeFound → List ClassRow → List ClassRow → List ℕ
+compared_text t f before now = legend ++ settled_text before now ++ found_text t f
+
+-- no function agrees with what stands at the time
+abbrev pub is_contradictory : List ClassRow → Bool
+is_contradictory rows = list_any (λ row. row.contradictory) rows
+
+-- where some function agrees at both times
+abbrev pub compared_where : Bool → Bool → DecisionTable → ClassChangeFound → List ClassRow → List ClassRow → List ℕ
+compared_where was is t f before now = if was || is then nothing_text was is else compared_text t f before now
+
+abbrev pub compared : DecisionTable → ClassChangeFound → List ClassRow → List ClassRow → List ℕ
+compared t f before now = compared_where (is_contradictory before) (is_contradictory now) t f before now
+
 abbrev pub change_over : Ground → ClassChangeFound → ClassTime → ClassTime → List ℕ
-change_over g f before now = head_text g before now ++ settled_text before.intervals now.intervals ++ found_text g.table f
+change_over g f before now = head_text g before now ++ compared g.table f before.intervals now.intervals
 
 abbrev pub change_from : Ground → List ClassTime → ClassChangeFound → ClassTime → List ℕ
 change_from g times f before = option_map_or (change_over g f before) (slice_get times f.now) []

@@ -1,3 +1,4 @@
+pub mod Nothing
 pub mod Text
 pub mod ClassText
 pub mod Pages

@@ -35,6 +35,18 @@ fn write_changes(
 ) -> Result<(), AllocError>
     ensures { OnOk result (text.new.items ≡ text.old.items ++ spec.change_lists table.now rows.now) }
 {
+    write_concluded(alloc, text, table, rows)?;
+    write_change(alloc, text, table, rows, Change::NotConcluded)
+}
+
+fn write_concluded(
+    alloc: Global,
+    text: &mut Vec<u8>,
+    table: &Table,
+    rows: &[RowChange],
+) -> Result<(), AllocError>
+    ensures { OnOk result (text.new.items ≡ text.old.items ++ spec.concluded_lists table.now rows.now) }
+{
     write_change(alloc, text, table, rows, Change::Narrowed)?;
     write_change(alloc, text, table, rows, Change::Widened)?;
     write_change(alloc, text, table, rows, Change::Moved)?;
@@ -64,6 +76,7 @@ fn change_name(change: Change) -> &'static [u8]
         Change::Narrowed => b"  narrowed:",
         Change::Widened => b"  widened:",
         Change::Moved => b"  moved:",
+        Change::NotConcluded => b"  not concluded:",
     }
 }
 

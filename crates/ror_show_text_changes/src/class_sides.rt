@@ -11,7 +11,7 @@ use ror_show_kit::{write_count, write_line};
 use ror_show_text_classes::{write_stood, write_to};
 use std::alloc::{AllocError, Global};
 
-/// Both times, and what the lists say.
+/// Both times.
 pub(crate) fn write_head(
     alloc: Global,
     text: &mut Vec<u8>,
@@ -23,11 +23,11 @@ pub(crate) fn write_head(
         ≡ text.old.items ++ spec.head_text (ground_of ground.now) before.now now.now) }
 {
     write_side(alloc, text, ground, b"  before\n", before)?;
-    write_side(alloc, text, ground, b"  now\n", now)?;
-    text.extend_from_slice(legend())
+    write_side(alloc, text, ground, b"  now\n", now)
 }
 
-fn legend() -> &'static [u8]
+/// What the lists say.
+pub(crate) fn legend() -> &'static [u8]
     ensures { result.now ≡ spec.legend }
 {
     b"\n  of each alternative the lowest and the highest class that isn't excluded\n"

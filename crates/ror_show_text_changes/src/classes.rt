@@ -6,10 +6,12 @@ ghost use Rattle.ror_show_text_changes.specs.ClassText as spec;
 ghost use Rattle.ror_show_text_changes.specs.Pages as pages;
 
 use crate::class_lists::write_found;
-use crate::class_sides::{write_head, write_settled};
-use ror_show_find_classes::{ClassChangeFound, ClassTime};
+use crate::class_sides::{legend, write_head, write_settled};
+use crate::nothing::nothing;
+use ror_show_find_classes::{ClassChangeFound, ClassRow, ClassTime};
 use ror_show_ground::Ground;
 use ror_show_text_classes::write_gap;
+use ror_table::Table;
 use std::alloc::{AllocError, Global};
 
 /// Adds what changed in classes, in order, with an empty line between two.
@@ -109,6 +111,50 @@ fn write_change_over(
     let earlier = before.intervals.as_slice();
     let later = now.intervals.as_slice();
     write_head(alloc, text, ground, before, now)?;
-    write_settled(text, earlier, later)?;
-    write_found(alloc, text, ground.table, change)
+    write_compared(alloc, text, ground.table, change, earlier, later)
+}
+
+/// What changed, where some function agrees at both times.
+fn write_compared(
+    alloc: Global,
+    text: &mut Vec<u8>,
+    table: &Table,
+    change: &ClassChangeFound,
+    before: &[ClassRow],
+    now: &[ClassRow],
+) -> Result<(), AllocError>
+    ensures { OnOk result (text.new.items
+        ≡ text.old.items ++ spec.compared table.now change.entry.now before.now now.now) }
+{
+    let none_before = is_contradictory(before);
+    let none_now = is_contradictory(now);
+    if none_before || none_now {
+        text.extend_from_slice(nothing(none_before, none_now))
+    } else {
+        write_rows(alloc, text, table, change, before, now)
+    }
+}
+
+/// Whether no function agrees with what stands at the time of these rows.
+fn is_contradictory(rows: &[ClassRow]) -> bool
+    ensures { result ≡ spec.is_contradictory rows.now }
+{
+    rows.iter().any(|row| row.contradictory)
+}
+
+/// What the lists say, how many alternatives are settled, and the lists.
+fn write_rows(
+    alloc: Global,
+    text: &mut Vec<u8>,
+    table: &Table,
+    change: &ClassChangeFound,
+    before: &[ClassRow],
+    now: &[ClassRow],
+) -> Result<(), AllocError>
+    ensures { OnOk result (text.new.items
+        ≡ text.old.items ++ spec.compared_text table.now change.entry.now before.now now.now) }
+{
+    text.extend_from_slice(legend())?;
+    write_settled(text, before, now)?;
+    write_found(alloc, text, table, change)
 }

@@ -22,6 +22,7 @@
 mod class_lists;
 mod class_sides;
 mod classes;
+mod nothing;
 mod page;
 mod relation_lists;
 mod relation_sides;

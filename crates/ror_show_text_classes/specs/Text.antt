@@ -1,6 +1,6 @@
 -- The classes at a time, as plain text.
 use Rattle.std.specs.Prelude.{ℕ, Bool, false, not, ◌&&◌, ◌==◌, nat_lt, List, [], ◌∷◌, ◌++◌, length, codes, decimal, count_by, Option, Some, None, slice_get, unwrap_or, if◌then◌else◌}
-use Rattle.std.specs.List.{flat_map, range_with_len}
+use Rattle.std.specs.List.{flat_map, list_any, range_with_len}
 use Rattle.std.specs.Option.{option_map_or}
 use Rattle.ror_statement.specs.declared.statement.Numbered.{Numbered}
 use Rattle.ror_statement.specs.declared.statement.Statement.{Statement}
@@ -34,7 +34,7 @@ abbrev pub to_text : ℕ → ℕ → List ℕ
 to_text first last = if first == last then [] else counted (codes ", up to line ") last
 
 abbrev pub legend_end : List ℕ
-legend_end = codes " (best), by the value functions that agree with the statements\n     #  possible and necessary     +  possible, not necessary     .  not possible\n     ?  not concluded              !  no function agrees          *  before it: a statement assigns it so\n"
+legend_end = codes " (best), by the value functions that agree with the statements\n     #  the only class possible                  &  by every function; others aren't excluded\n     +  by some function, not by every one       .  by no function\n     ?  not concluded                            !  no function agrees\n     *  before it: a statement assigns it so\n"
 
 -- how many classes there are, and what the signs mean
 abbrev pub legend : ℕ → List ℕ
@@ -66,7 +66,7 @@ sign_at row h = unwrap_or (slice_get row.signs h) Unknown
 
 -- the sign behind a star where it does
 abbrev pub cell_text : ClassLine → Part → ℕ → List ℕ
-cell_text row part h = if is_in part h then 32 ∷ 32 ∷ star (is_assigned row h) ∷ byte_of (sign_at row h) ∷ [] else []
+cell_text row part h = if is_in part h then 32 ∷ 32 ∷ star (is_assigned row h) ∷ byte_of row.row.settled (sign_at row h) ∷ [] else []
 
 abbrev pub row_text : DecisionTable → Part → ClassLine → List ℕ
 row_text t part row = codes "  " ++ set_left part.width (id_of t row.row.alternative)
@@ -117,8 +117,18 @@ list_text name words = name ++ or_none words ++ codes "\n"
 abbrev pub open_text : DecisionTable → List ClassLine → List ℕ
 open_text t rows = list_text (codes "  open:") (wrapped 7 (room_behind 7) (flat_map (open_word t) rows))
 
+abbrev pub some_foot : DecisionTable → List ClassLine → List ℕ
+some_foot t rows = settled_text (settled_among rows) (length rows) ++ open_text t rows
+
+-- what stands at a time contradicts itself, so no answer there says anything of classes
+abbrev pub is_contradictory : List ClassLine → Bool
+is_contradictory rows = list_any (λ row. row.row.contradictory) rows
+
+abbrev pub nothing_said : List ℕ
+nothing_said = codes "\n  no function agrees with the statements: nothing is said of classes\n"
+
 abbrev pub foot_text : DecisionTable → List ClassLine → List ℕ
-foot_text t rows = settled_text (settled_among rows) (length rows) ++ open_text t rows
+foot_text t rows = if is_contradictory rows then nothing_said else some_foot t rows
 
 -- ---- assigned
 

@@ -15,7 +15,7 @@ use std::alloc::{AllocError, Global};
 /// The margin of lines that go on.
 const MARGIN: usize = 7;
 
-/// How many of the rows' alternatives are settled, and which ones are open.
+/// How many of the rows' alternatives are settled, and which ones are open; or, where no function agrees, that nothing is said.
 pub(crate) fn write_foot(
     alloc: Global,
     text: &mut Vec<u8>,
@@ -23,6 +23,29 @@ pub(crate) fn write_foot(
     rows: &[ClassLine],
 ) -> Result<(), AllocError>
     ensures { OnOk result (text.new.items ≡ text.old.items ++ spec.foot_text table.now rows.now) }
+{
+    if is_contradictory(rows) {
+        text.extend_from_slice(
+            b"\n  no function agrees with the statements: nothing is said of classes\n",
+        )
+    } else {
+        write_some_foot(alloc, text, table, rows)
+    }
+}
+
+fn is_contradictory(rows: &[ClassLine]) -> bool
+    ensures { result ≡ spec.is_contradictory rows.now }
+{
+    rows.iter().any(|row| row.row.contradictory)
+}
+
+fn write_some_foot(
+    alloc: Global,
+    text: &mut Vec<u8>,
+    table: &Table,
+    rows: &[ClassLine],
+) -> Result<(), AllocError>
+    ensures { OnOk result (text.new.items ≡ text.old.items ++ spec.some_foot table.now rows.now) }
 {
     write_settled(text, settled_among(rows), rows.len())?;
     write_open(alloc, text, table, rows)

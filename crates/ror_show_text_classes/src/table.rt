@@ -128,7 +128,7 @@ fn write_cell(text: &mut Vec<u8>, row: &ClassLine, part: Part, h: usize) -> Resu
     if part.has(h) {
         text.extend_from_slice(b"  ")?;
         text.push(star(is_assigned(row, h)))?;
-        text.push(sign_at(row, h).byte())?;
+        text.push(sign_at(row, h).byte(row.row.settled))?;
     }
     Ok(())
 }

@@ -125,5 +125,5 @@ fn write_legend(text: &mut Vec<u8>, classes: u32) -> Result<(), AllocError>
 fn legend_end() -> &'static [u8]
     ensures { result.now ≡ spec.legend_end }
 {
-    b" (best), by the value functions that agree with the statements\n     #  possible and necessary     +  possible, not necessary     .  not possible\n     ?  not concluded              !  no function agrees          *  before it: a statement assigns it so\n"
+    b" (best), by the value functions that agree with the statements\n     #  the only class possible                  &  by every function; others aren't excluded\n     +  by some function, not by every one       .  by no function\n     ?  not concluded                            !  no function agrees\n     *  before it: a statement assigns it so\n"
 }

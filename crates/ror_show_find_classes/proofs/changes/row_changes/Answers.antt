@@ -7,7 +7,7 @@ use Rattle.ror_show_find_classes.specs.ClassChanges.{row_change}
 use Rattle.ror_show_find_classes.proofs.changes.row_changes.Goals as goal
 
 abbrev no_row : ClassRow
-no_row = record { alternative = 0; lowest = 0; highest = 0; settled = false }
+no_row = record { alternative = 0; lowest = 0; highest = 0; settled = false; whole = false; contradictory = false }
 
 pub rows-preserved : goal.rows-preserved
 rows-preserved c =

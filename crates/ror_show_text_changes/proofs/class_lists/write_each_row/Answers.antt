@@ -8,7 +8,7 @@ use Rattle.ror_show_text_changes.specs.ClassText.{row_text}
 use Rattle.ror_show_text_changes.proofs.class_lists.write_each_row.Goals as goal
 
 abbrev no_row : ClassRow
-no_row = record { alternative = 0; lowest = 0; highest = 0; settled = false }
+no_row = record { alternative = 0; lowest = 0; highest = 0; settled = false; whole = false; contradictory = false }
 
 pub rows-preserved : goal.rows-preserved
 rows-preserved c =

@@ -10,7 +10,7 @@ use Rattle.ror_show_text_changes.specs.ClassText.{change_name, word_if}
 use Rattle.ror_show_text_changes.proofs.class_lists.write_words.Goals as goal
 
 abbrev no_row : ClassRow
-no_row = record { alternative = 0; lowest = 0; highest = 0; settled = false }
+no_row = record { alternative = 0; lowest = 0; highest = 0; settled = false; whole = false; contradictory = false }
 
 abbrev no_change : RowChange
 no_change = record { before = no_row; now = no_row; change = Stayed }

@@ -2,7 +2,7 @@ use Rattle.std.proofs.lemmas.Result.{on_ok_weaker}
 use Rattle.std.proofs.Common.{◌≡◌, ◌++◌, length, rules}
 use Rattle.ror_show_kit.proofs.Pieces.{two_more}
 use Rattle.ror_show_text_classes.specs.Text.{settled_among, settled_text, open_text}
-use Rattle.ror_show_text_classes.proofs.foot.write_foot.Goals as goal
+use Rattle.ror_show_text_classes.proofs.foot.write_some_foot.Goals as goal
 
 pub returns : goal.returns
 returns c =
