@@ -1,5 +1,5 @@
 -- Cells by their places, and how many of them say something.
-use Rattle.std.specs.Prelude.{ℕ, ◌-◌, ◌*◌, ◌/◌, zero, suc, ◌+◌, ◌==◌, Bool, List, [], slice_index_or}
+use Rattle.std.specs.Prelude.{ℕ, ◌-◌, ◌*◌, ◌/◌, zero, suc, ◌+◌, ◌==◌, Bool, not, List, [], slice_index_or}
 use Rattle.ror_show_find_relation.specs.Relations.{count_below}
 use Rattle.ror_show_find_relation.specs.declared.cell.Cell.{Cell}
 use Rattle.ror_show_find_relation.specs.declared.cell.Cell.TheVariants as cells
@@ -41,3 +41,7 @@ unknown_pairs = pairs_like cells.Unknown
 
 abbrev pub contradictory_pairs : List (List Cell) → ℕ → ℕ
 contradictory_pairs = pairs_like cells.Contradiction
+
+-- of some pair of the first n alternatives it is concluded that no function agrees with the statements
+abbrev pub is_contradictory : List (List Cell) → ℕ → Bool
+is_contradictory rows n = not (contradictory_pairs rows n == 0)

@@ -40,5 +40,7 @@ pub use level::levels;
 pub use list::changed_pairs;
 pub use page::{Counts, RelationPage, known_relation, relation_page};
 pub use pair::PairSaid;
-pub use places::{cell_in, contradictory_pairs, over_count, under_count, unknown_pairs};
+pub use places::{
+    cell_in, contradictory_pairs, is_contradictory, over_count, under_count, unknown_pairs,
+};
 pub use relation::Relation;

@@ -62,6 +62,14 @@ pub fn contradictory_pairs(rows: &[Items<Cell>], size: usize) -> usize
     pairs_like(Cell::Contradiction, rows, size)
 }
 
+/// Whether of some pair of so many alternatives it is concluded that no function agrees with the statements.
+pub fn is_contradictory(rows: &[Items<Cell>], size: usize) -> bool
+    requires { size ≤ 200 }
+    ensures { result ≡ spec.is_contradictory rows.now size }
+{
+    contradictory_pairs(rows, size) != 0
+}
+
 /// Of how many the cell is like this one.
 fn pairs_like(cell: Cell, rows: &[Items<Cell>], size: usize) -> usize
     requires { size ≤ 200 }

@@ -1,11 +1,12 @@
 -- What changed from one relation of a desk to the next, as comma-separated values.
-use Rattle.std.specs.Prelude.{ℕ, List, [], ◌∷◌, ◌++◌, codes, decimal, slice_get}
+use Rattle.std.specs.Prelude.{ℕ, Bool, ◌||◌, List, [], ◌∷◌, ◌++◌, length, codes, decimal, slice_get, if◌then◌else◌}
 use Rattle.std.specs.List.{flat_map}
 use Rattle.std.specs.Option.{option_map_or}
 use Rattle.ror_table.specs.Table.{DecisionTable, id_of}
 use Rattle.ror_session.specs.declared.session.Session.{Session}
 use Rattle.ror_bench.specs.declared.kept.KeptLine.{KeptLine}
 use Rattle.ror_show_ground.specs.Grounds.{Ground}
+use Rattle.ror_show_find_relation.specs.Rows.{is_contradictory}
 use Rattle.ror_show_find_relation.specs.declared.change.Change.{Change}
 use Rattle.ror_show_find_relation.specs.declared.change.Change.TheVariants.{TurnedRound, NoLonger, Stayed, New}
 use Rattle.ror_show_find_relation.specs.declared.differences.Differences.{Differences}
@@ -45,8 +46,15 @@ differences_values t front f = csv_change t front TurnedRound f.turned ++ csv_ch
 abbrev pub values_between : Ground → Differences → KeptLine → KeptLine → List ℕ
 values_between g f x y = differences_values g.table (csv_lines g.session x y) f
 
--- those of a change that was found
-abbrev pub change_values : Ground → ChangeFound → List ℕ
-change_values g f = option_map_or
+abbrev pub compared_values : Ground → ChangeFound → List ℕ
+compared_values g f = option_map_or
     (λ x. option_map_or (values_between g f.pairs x) (slice_get g.kept f.now) [])
     (slice_get g.kept f.before) []
+
+-- at one of both lines no function agrees, so there is nothing to compare
+abbrev pub has_nothing : ℕ → ChangeFound → Bool
+has_nothing n f = is_contradictory f.first.rows n || is_contradictory f.second.rows n
+
+-- those of a change that was found
+abbrev pub change_values : Ground → ChangeFound → List ℕ
+change_values g f = if has_nothing (length g.table.alternatives) f then [] else compared_values g f

@@ -1,6 +1,6 @@
 //! What changed, as comma-separated values.
 
-ghost use Rattle.std.specs.Prelude.{◌≡◌, ◌++◌, IfOk, OnOk};
+ghost use Rattle.std.specs.Prelude.{◌≡◌, ◌≤◌, ◌++◌, IfOk, OnOk};
 ghost use Rattle.std.specs.List.{flat_map};
 ghost use Rattle.ror_show_ground.specs.Grounds.{ground_of};
 ghost use Rattle.ror_show_forms.specs.ChangeCsv as spec;
@@ -8,7 +8,7 @@ ghost use Rattle.ror_show_forms.specs.ChangeCsv as spec;
 use itoa::Buffer;
 use ror_bench::KeptLine;
 use ror_show_find_reasons::ChangeFound;
-use ror_show_find_relation::{Change, Differences};
+use ror_show_find_relation::{Change, Differences, is_contradictory};
 use ror_show_ground::Ground;
 use ror_show_kit::{id_bytes, write_next_field};
 use ror_table::Table;
@@ -22,8 +22,9 @@ pub fn changes_head() -> &'static [u8]
 }
 
 /// Adds for each change of a relation a line for each pair that was turned round, is no longer so, stayed or is new: the numbers of both
-/// lines of the session, the desk, the change, and both ids, those of a pair that was turned round as they were before. A value with a
-/// comma, a quotation mark or an end of a line stands between quotation marks, with those within it doubled.
+/// lines of the session, the desk, the change, and both ids, those of a pair that was turned round as they were before. Where no function
+/// agrees at one of both lines there is nothing to compare, and so no line. A value with a comma, a quotation mark or an end of a line
+/// stands between quotation marks, with those within it doubled.
 ///
 /// # Errors
 ///
@@ -43,7 +44,7 @@ pub fn write_changes_csv(
     Ok(())
 }
 
-/// The values of a change, if both its lines are kept ones.
+/// The values of a change, where some function agrees at both its lines.
 fn write_change(
     alloc: Global,
     text: &mut Vec<u8>,
@@ -52,6 +53,31 @@ fn write_change(
 ) -> Result<(), AllocError>
     ensures { OnOk result (text.new.items
         ≡ text.old.items ++ spec.change_values (ground_of ground.now) found.entry.now) }
+{
+    if has_nothing(ground.table.alternatives(), found) {
+        return Ok(());
+    }
+    write_compared(alloc, text, ground, found)
+}
+
+/// Whether no function agrees at one of both lines.
+fn has_nothing(size: usize, found: &ChangeFound) -> bool
+    requires { size ≤ 200 }
+    ensures { result ≡ spec.has_nothing size found.entry.now }
+{
+    is_contradictory(found.first.rows.as_slice(), size)
+        || is_contradictory(found.second.rows.as_slice(), size)
+}
+
+/// The values of a change, if both its lines are kept ones.
+fn write_compared(
+    alloc: Global,
+    text: &mut Vec<u8>,
+    ground: &Ground<'_>,
+    found: &ChangeFound,
+) -> Result<(), AllocError>
+    ensures { OnOk result (text.new.items
+        ≡ text.old.items ++ spec.compared_values (ground_of ground.now) found.entry.now) }
 {
     let Some(before) = ground.kept.get(found.before) else {
         return Ok(());

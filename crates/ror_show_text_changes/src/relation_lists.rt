@@ -4,7 +4,7 @@ ghost use Rattle.std.specs.Prelude.{◌≡◌, ◌++◌, OnOk};
 ghost use Rattle.ror_show_text_relation.specs.Text.{pairs_below};
 ghost use Rattle.ror_show_text_changes.specs.Text as spec;
 
-use ror_show_find_relation::{Change, Differences};
+use ror_show_find_relation::{Change, Differences, RelationPage};
 use ror_show_text_relation::{write_levels, write_pairs};
 use ror_table::Table;
 use std::alloc::AllocError;
@@ -52,8 +52,8 @@ fn change_head(change: Change) -> &'static [u8]
 pub(crate) fn write_both_levels(
     text: &mut Vec<u8>,
     table: &Table,
-    before: &[Option<usize>],
-    now: &[Option<usize>],
+    before: &RelationPage,
+    now: &RelationPage,
 ) -> Result<(), AllocError>
     ensures { OnOk result (text.new.items ≡ text.old.items ++ spec.both_levels table.now before.now now.now) }
 {

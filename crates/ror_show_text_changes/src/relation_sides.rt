@@ -1,19 +1,18 @@
 //! What stands above the lists: both lines, and of how many pairs something is known.
 
-ghost use Rattle.std.specs.Prelude.{◌≡◌, ◌≤◌, ◌++◌, OnOk};
+ghost use Rattle.std.specs.Prelude.{◌≡◌, ◌++◌, OnOk};
 ghost use Rattle.ror_show_text_changes.specs.Text as spec;
 
 use ror_bench::KeptLine;
-use ror_show_find_relation::{Cell, RelationPage, contradictory_pairs, unknown_pairs};
+use ror_show_find_relation::{RelationPage, unknown_pairs};
 use ror_show_ground::Ground;
 use ror_show_kit::{write_count, write_line};
 use ror_show_text_classes::write_stood;
 use ror_show_text_relation::pairs_among;
 use ror_table::Table;
-use ror_text::Items;
 use std::alloc::{AllocError, Global};
 
-/// Both lines, what stood there, and what the lists mean.
+/// Both lines, and what stood there.
 pub(crate) fn write_head(
     alloc: Global,
     text: &mut Vec<u8>,
@@ -25,11 +24,11 @@ pub(crate) fn write_head(
         ≡ text.old.items ++ spec.head_text ground.now.session.now before.now now.now) }
 {
     write_side(alloc, text, ground, b"  before\n", before)?;
-    write_side(alloc, text, ground, b"  now\n", now)?;
-    text.extend_from_slice(legend())
+    write_side(alloc, text, ground, b"  now\n", now)
 }
 
-fn legend() -> &'static [u8]
+/// What the lists mean.
+pub(crate) fn legend() -> &'static [u8]
     ensures { result.now ≡ spec.legend }
 {
     b"\n  x -> y: by every value function that agrees with the statements x is at least as good as y\n"
@@ -67,7 +66,9 @@ pub(crate) fn write_counts(
         before.counts.decided,
         now.counts.decided,
     )?;
-    write_missing_pairs(text, before.rows.as_slice(), now.rows.as_slice(), size)
+    let unknown_before = unknown_pairs(before.rows.as_slice(), size);
+    let unknown_now = unknown_pairs(now.rows.as_slice(), size);
+    write_missing(text, unknown_before, unknown_now)
 }
 
 fn write_decided(
@@ -84,41 +85,13 @@ fn write_decided(
 }
 
 /// How many pairs the lists don't have, though they may be so.
-fn write_missing_pairs(
-    text: &mut Vec<u8>,
-    before: &[Items<Cell>],
-    now: &[Items<Cell>],
-    size: usize,
-) -> Result<(), AllocError>
-    requires { size ≤ 200 }
-    ensures { OnOk result (text.new.items ≡ text.old.items ++ spec.missing_pairs before.now now.now size) }
-{
-    write_missing(
-        text,
-        b"  not concluded: ",
-        unknown_pairs(before, size),
-        unknown_pairs(now, size),
-    )?;
-    write_missing(
-        text,
-        b"  no function agrees: ",
-        contradictory_pairs(before, size),
-        contradictory_pairs(now, size),
-    )
-}
-
-fn write_missing(
-    text: &mut Vec<u8>,
-    words: &[u8],
-    before: usize,
-    now: usize,
-) -> Result<(), AllocError>
-    ensures { OnOk result (text.new.items ≡ text.old.items ++ spec.missing_text words.now before now) }
+fn write_missing(text: &mut Vec<u8>, before: usize, now: usize) -> Result<(), AllocError>
+    ensures { OnOk result (text.new.items ≡ text.old.items ++ spec.missing_text before now) }
 {
     if before == 0 && now == 0 {
         return Ok(());
     }
-    write_both(text, words, before, now)?;
+    write_both(text, b"  not concluded: ", before, now)?;
     text.extend_from_slice(b"; the lists take them as not so\n")
 }
 

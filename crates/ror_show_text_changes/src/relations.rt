@@ -5,10 +5,12 @@ ghost use Rattle.ror_show_ground.specs.Grounds.{ground_of};
 ghost use Rattle.ror_show_text_changes.specs.Pages as pages;
 ghost use Rattle.ror_show_text_changes.specs.Text as spec;
 
+use crate::nothing::nothing;
 use crate::relation_lists::{write_both_levels, write_differences};
-use crate::relation_sides::{write_counts, write_head};
+use crate::relation_sides::{legend, write_counts, write_head};
 use ror_bench::KeptLine;
 use ror_show_find_reasons::ChangeFound;
+use ror_show_find_relation::is_contradictory;
 use ror_show_ground::Ground;
 use ror_show_text_classes::write_gap;
 use ror_show_text_relation::write_carried;
@@ -105,7 +107,39 @@ fn write_change_over(
         ≡ text.old.items ++ spec.change_over (ground_of ground.now) change.entry.now before.now now.now) }
 {
     write_head(alloc, text, ground, before, now)?;
-    write_found(alloc, text, ground.table, change)
+    write_compared(alloc, text, ground.table, change)
+}
+
+/// What changed, where some function agrees at both lines.
+fn write_compared(
+    alloc: Global,
+    text: &mut Vec<u8>,
+    table: &Table,
+    change: &ChangeFound,
+) -> Result<(), AllocError>
+    ensures { OnOk result (text.new.items ≡ text.old.items ++ spec.compared table.now change.entry.now) }
+{
+    let size = table.alternatives();
+    let none_before = is_contradictory(change.first.rows.as_slice(), size);
+    let none_now = is_contradictory(change.second.rows.as_slice(), size);
+    if none_before || none_now {
+        text.extend_from_slice(nothing(none_before, none_now))
+    } else {
+        write_pages(alloc, text, table, change)
+    }
+}
+
+/// What the lists mean, and what changed.
+fn write_pages(
+    alloc: Global,
+    text: &mut Vec<u8>,
+    table: &Table,
+    change: &ChangeFound,
+) -> Result<(), AllocError>
+    ensures { OnOk result (text.new.items ≡ text.old.items ++ spec.compared_text table.now change.entry.now) }
+{
+    text.extend_from_slice(legend())?;
+    write_found(alloc, text, table, change)
 }
 
 /// What changed, and what carries what is turned round or new.
@@ -117,11 +151,9 @@ fn write_found(
 ) -> Result<(), AllocError>
     ensures { OnOk result (text.new.items ≡ text.old.items ++ spec.found_text table.now change.entry.now) }
 {
-    let before = change.first.levels.as_slice();
-    let now = change.second.levels.as_slice();
     write_counts(text, table, &change.first, &change.second)?;
     write_differences(text, table, &change.pairs)?;
-    write_both_levels(text, table, before, now)?;
+    write_both_levels(text, table, &change.first, &change.second)?;
     write_brought(alloc, text, table, change)
 }
 

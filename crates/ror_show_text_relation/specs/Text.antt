@@ -1,13 +1,16 @@
 -- The page of a relation as plain text.
-use Rattle.std.specs.Prelude.{ℕ, ◌+◌, ◌-◌, Bool, true, false, ◌==◌, List, [], ◌∷◌, ◌++◌, length, codes, decimal, Option, Some, None, if◌then◌else◌}
+use Rattle.std.specs.Prelude.{ℕ, ◌+◌, ◌-◌, Bool, true, false, not, ◌&&◌, ◌==◌, List, [], ◌∷◌, ◌++◌, length, codes, decimal, Option, Some, None, if◌then◌else◌}
 use Rattle.std.specs.List.{flat_map, list_any, range_with_len}
 use Rattle.ror_show_find_relation.specs.Levels.{level_at}
+use Rattle.ror_show_find_relation.specs.Relations.{some_below}
+use Rattle.ror_show_find_relation.specs.declared.cell.Cell.{Cell}
 use Rattle.ror_table.specs.Table.{DecisionTable, id_of}
 use Rattle.ror_show_ground.specs.Heads.{Head}
 use Rattle.ror_show_find_relation.specs.declared.page.Counts.{Counts}
 use Rattle.ror_show_find_relation.specs.declared.page.RelationPage.{RelationPage}
 use Rattle.ror_show_kit.specs.Layout.{columns, set_right, room_behind, wrapped}
 use Rattle.ror_show_find_relation.specs.Rows.{unknown_pairs, contradictory_pairs, pairs_among}
+use Rattle.ror_show_text_relation.specs.Apart.{is_apart}
 use Rattle.ror_show_text_relation.specs.Matrix.{matrix_text}
 use Rattle.ror_show_kit.specs.Heads.{counted, line_text, statements_text}
 
@@ -44,12 +47,15 @@ is_same (Some k) (Some n) = k == n
 is_same None None = true
 is_same _ _ = false
 
--- the alternative, where it has this level
-abbrev pub member : DecisionTable → List (Option ℕ) → Option ℕ → ℕ → List (List ℕ)
-member t levels level a = if is_same level (level_at levels a) then id_of t a ∷ [] else []
+-- it has this level, and something is known of it
+abbrev pub is_member : RelationPage → Option ℕ → ℕ → Bool
+is_member page level a = is_same level (level_at page.levels a) && not (is_apart page.rows a)
 
-abbrev pub members : DecisionTable → List (Option ℕ) → Option ℕ → List (List ℕ)
-members t levels level = flat_map (member t levels level) (range_with_len 0 (length t.alternatives))
+abbrev pub member : DecisionTable → RelationPage → Option ℕ → ℕ → List (List ℕ)
+member t page level a = if is_member page level a then id_of t a ∷ [] else []
+
+abbrev pub members : DecisionTable → RelationPage → Option ℕ → List (List ℕ)
+members t page level = flat_map (member t page level) (range_with_len 0 (length t.alternatives))
 
 -- a level's number, and a dash for those that have none
 abbrev pub level_mark : Option ℕ → List ℕ
@@ -57,19 +63,30 @@ level_mark (Some k) = set_right 6 (decimal k)
 level_mark None = codes "     -"
 
 -- the line of a level that some have
-abbrev pub level_text : DecisionTable → List (Option ℕ) → Option ℕ → List ℕ
-level_text t levels level = if list_any (is_same level) levels
-    then level_mark level ++ codes "  " ++ wrapped 8 (room_behind 8) (members t levels level) ++ 10 ∷ [] else []
+abbrev pub level_text : DecisionTable → RelationPage → Option ℕ → List ℕ
+level_text t page level = if some_below (is_member page level) (length t.alternatives)
+    then level_mark level ++ codes "  " ++ wrapped 8 (room_behind 8) (members t page level) ++ 10 ∷ [] else []
 
-abbrev pub some_level_text : DecisionTable → List (Option ℕ) → ℕ → List ℕ
-some_level_text t levels k = level_text t levels (Some (k + 1))
+abbrev pub some_level_text : DecisionTable → RelationPage → ℕ → List ℕ
+some_level_text t page k = level_text t page (Some (k + 1))
+
+-- behind them those of which nothing is known, which have no place among the levels
+abbrev pub apart : DecisionTable → List (List Cell) → ℕ → List (List ℕ)
+apart t rows a = if is_apart rows a then id_of t a ∷ [] else []
+
+abbrev pub all_apart : DecisionTable → List (List Cell) → List (List ℕ)
+all_apart t rows = flat_map (apart t rows) (range_with_len 0 (length t.alternatives))
+
+abbrev pub apart_text : DecisionTable → List (List Cell) → List ℕ
+apart_text t rows = if some_below (is_apart rows) (length t.alternatives)
+    then codes "     nothing known:" ++ wrapped 8 (room_behind 19) (all_apart t rows) ++ 10 ∷ [] else []
 
 abbrev pub levels_head : List ℕ
 levels_head = codes "\n  levels (all that is above an alternative is in levels before its own)\n"
 
-abbrev pub levels_text : DecisionTable → List (Option ℕ) → List ℕ
-levels_text t levels = levels_head ++ flat_map (some_level_text t levels) (range_with_len 0 (length t.alternatives))
-    ++ level_text t levels None
+abbrev pub levels_text : DecisionTable → RelationPage → List ℕ
+levels_text t page = levels_head ++ flat_map (some_level_text t page) (range_with_len 0 (length t.alternatives))
+    ++ level_text t page None ++ apart_text t page.rows
 
 -- ---- arrows
 
@@ -116,7 +133,7 @@ above_text h = head_text h ++ statements_text h.numbers ++ legend
 
 -- the lists of ids below it
 abbrev pub lists_text : DecisionTable → RelationPage → List ℕ
-lists_text t page = levels_text t page.levels ++ arrows_text t page.arrows
+lists_text t page = levels_text t page ++ arrows_text t page.arrows
 
 abbrev pub relation_text : DecisionTable → Head → RelationPage → List ℕ
 relation_text t h page = above_text h ++ matrix_text t page.rows ++ counts_text t page ++ lists_text t page

@@ -17,6 +17,8 @@
 //! ```
 #![tactic(auto)]
 
+mod apart;
+pub mod laws;
 mod lists;
 mod matrix;
 mod page;

@@ -3,10 +3,13 @@
 ghost use Rattle.std.specs.Prelude.{◌≡◌, ◌-◌, ◌++◌, length, OnOk, IfOk};
 ghost use Rattle.std.specs.List.{flat_map, list_any, range_with_len};
 ghost use Rattle.ror_show_find_relation.specs.Levels as order;
+ghost use Rattle.ror_show_find_relation.specs.Relations.{some_below};
 ghost use Rattle.ror_table.specs.Table.{id_of};
 ghost use Rattle.ror_show_kit.specs.Layout.{columns, room_behind, room_left, wrapped};
 ghost use Rattle.ror_show_text_relation.specs.Text as spec;
 
+use crate::apart::{is_apart, write_apart};
+use ror_show_find_relation::RelationPage;
 use ror_show_kit::{columns, id_bytes, room_behind, write_number, write_word};
 use ror_table::Table;
 use std::alloc::AllocError;
@@ -14,7 +17,7 @@ use std::alloc::AllocError;
 /// The margin of lines that go on.
 const MARGIN: usize = 8;
 
-/// Adds the alternatives of each level, and then those without one.
+/// Adds the alternatives of each level, then those without one, and behind the levels those of which nothing is known.
 ///
 /// # Errors
 ///
@@ -22,27 +25,28 @@ const MARGIN: usize = 8;
 pub fn write_levels(
     text: &mut Vec<u8>,
     table: &Table,
-    levels: &[Option<usize>],
+    page: &RelationPage,
 ) -> Result<(), AllocError>
-    ensures { OnOk result (text.new.items ≡ text.old.items ++ spec.levels_text table.now levels.now) }
+    ensures { OnOk result (text.new.items ≡ text.old.items ++ spec.levels_text table.now page.now) }
 {
     text.extend_from_slice(
         b"\n  levels (all that is above an alternative is in levels before its own)\n",
     )?;
-    write_all_levels(text, table, levels)?;
-    write_level(text, table, levels, None)
+    write_all_levels(text, table, page)?;
+    write_level(text, table, page, None)?;
+    write_apart(text, table, page.rows.as_slice())
 }
 
 fn write_all_levels(
     text: &mut Vec<u8>,
     table: &Table,
-    levels: &[Option<usize>],
+    page: &RelationPage,
 ) -> Result<(), AllocError>
     ensures { OnOk result (text.new.items ≡ text.old.items
-        ++ flat_map (spec.some_level_text table.now levels.now) (range_with_len 0 (length table.now.alternatives))) }
+        ++ flat_map (spec.some_level_text table.now page.now) (range_with_len 0 (length table.now.alternatives))) }
 {
     for k in 0..table.alternatives() {
-        write_level(text, table, levels, Some(k + 1))?;
+        write_level(text, table, page, Some(k + 1))?;
     }
     Ok(())
 }
@@ -51,25 +55,38 @@ fn write_all_levels(
 fn write_level(
     text: &mut Vec<u8>,
     table: &Table,
-    levels: &[Option<usize>],
+    page: &RelationPage,
     level: Option<usize>,
 ) -> Result<(), AllocError>
-    ensures { OnOk result (text.new.items ≡ text.old.items ++ spec.level_text table.now levels.now level) }
+    ensures { OnOk result (text.new.items ≡ text.old.items ++ spec.level_text table.now page.now level) }
 {
-    if !has_level(levels, level) {
+    if !has_member(page, table.alternatives(), level) {
         return Ok(());
     }
     write_mark(text, level)?;
     text.extend_from_slice(b"  ")?;
-    write_members(text, table, levels, level)?;
+    write_members(text, table, page, level)?;
     text.push(b'\n')?;
     Ok(())
 }
 
-fn has_level(levels: &[Option<usize>], level: Option<usize>) -> bool
-    ensures { result ≡ list_any (spec.is_same level) levels.now }
+fn has_member(page: &RelationPage, size: usize, level: Option<usize>) -> bool
+    ensures { result ≡ some_below (spec.is_member page.now level) size }
 {
-    levels.iter().any(|other| is_same(level, *other))
+    let mut found = false;
+    for a in 0..size {
+        if is_member(page, level, a) {
+            found = true;
+        }
+    }
+    found
+}
+
+/// Whether an alternative has this level, and something is known of it.
+fn is_member(page: &RelationPage, level: Option<usize>, a: usize) -> bool
+    ensures { result ≡ spec.is_member page.now level a }
+{
+    is_same(level, level_at(page.levels.as_slice(), a)) && !is_apart(page.rows.as_slice(), a)
 }
 
 fn is_same(level: Option<usize>, other: Option<usize>) -> bool
@@ -94,33 +111,33 @@ fn write_mark(text: &mut Vec<u8>, level: Option<usize>) -> Result<(), AllocError
 fn write_members(
     text: &mut Vec<u8>,
     table: &Table,
-    levels: &[Option<usize>],
+    page: &RelationPage,
     level: Option<usize>,
 ) -> Result<(), AllocError>
     ensures { OnOk result (text.new.items
-        ≡ text.old.items ++ wrapped 8 (room_behind 8) (spec.members table.now levels.now level)) }
+        ≡ text.old.items ++ wrapped 8 (room_behind 8) (spec.members table.now page.now level)) }
 {
     let mut room = room_behind(MARGIN);
     for a in 0..table.alternatives() {
-        room = write_member(text, room, table, levels, level, a)?;
+        room = write_member(text, room, table, page, level, a)?;
     }
     Ok(())
 }
 
-/// The id of the alternative, where it has this level, and what the line has left then.
+/// The id of the alternative, where it has this level and something is known of it, and what the line has left then.
 fn write_member(
     text: &mut Vec<u8>,
     room: usize,
     table: &Table,
-    levels: &[Option<usize>],
+    page: &RelationPage,
     level: Option<usize>,
     a: usize,
 ) -> Result<usize, AllocError>
     ensures text { OnOk result (text.new.items
-        ≡ text.old.items ++ wrapped 8 room (spec.member table.now levels.now level a)) }
-    ensures room { IfOk result (λ left. left ≡ room_left 8 room (spec.member table.now levels.now level a)) }
+        ≡ text.old.items ++ wrapped 8 room (spec.member table.now page.now level a)) }
+    ensures room { IfOk result (λ left. left ≡ room_left 8 room (spec.member table.now page.now level a)) }
 {
-    if !is_same(level, level_at(levels, a)) {
+    if !is_member(page, level, a) {
         return Ok(room);
     }
     write_word(text, MARGIN, room, id_bytes(table, a))

@@ -48,7 +48,7 @@ fn write_above(text: &mut Vec<u8>, heading: &Heading) -> Result<(), AllocError>
 fn write_lists(text: &mut Vec<u8>, table: &Table, page: &RelationPage) -> Result<(), AllocError>
     ensures { OnOk result (text.new.items ≡ text.old.items ++ spec.lists_text table.now page.now) }
 {
-    write_levels(text, table, page.levels.as_slice())?;
+    write_levels(text, table, page)?;
     write_arrows(text, table, page.arrows.as_slice())
 }
 

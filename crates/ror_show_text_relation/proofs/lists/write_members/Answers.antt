@@ -8,7 +8,7 @@ use Rattle.ror_show_text_relation.proofs.lists.write_members.Goals as goal
 
 pub loop-a-preserved : goal.loop-a-preserved
 loop-a-preserved c =
-    let f = member c.args.table.now c.args.levels.now c.args.level in
+    let f = member c.args.table.now c.args.page.now c.args.level in
     let a = c.loop-a.a in
     let so_far = flat_map f (range_with_len 0 a) in
     let more = flat_map f (range_with_len 0 (a + 1)) in

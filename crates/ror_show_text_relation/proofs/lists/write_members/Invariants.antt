@@ -6,6 +6,6 @@ use Rattle.ror_show_text_relation.proofs.lists.write_members.Given as goal
 
 abbrev pub invariant-loop-a : goal.invariant-loop-a
 invariant-loop-a l = record {
-  printed : l.text.items ≡ l.fn.text.items ++ wrapped 8 (room_behind 8) (flat_map (member l.table l.levels l.fn.level) (range_with_len 0 l.a));
-  room : l.room ≡ room_left 8 (room_behind 8) (flat_map (member l.table l.levels l.fn.level) (range_with_len 0 l.a));
+  printed : l.text.items ≡ l.fn.text.items ++ wrapped 8 (room_behind 8) (flat_map (member l.table l.page l.fn.level) (range_with_len 0 l.a));
+  room : l.room ≡ room_left 8 (room_behind 8) (flat_map (member l.table l.page l.fn.level) (range_with_len 0 l.a));
 }

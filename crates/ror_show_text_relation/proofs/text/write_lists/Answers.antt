@@ -9,8 +9,7 @@ pub returns : goal.returns
 returns c =
     let t = c.args.table.now in
     let page = c.args.page.now in
-    let levels : c.write_levels.new.text.items ≡ c.args.text.now.items ++ levels_text c.args.table.now c.args.page.now.levels = search rules in
     let arrows : OnOk c.write_arrows.result (c.write_arrows.new.text.items ≡ c.write_levels.new.text.items ++ arrows_text c.args.table.now c.args.page.now.arrows) = search rules in
     on_ok_weaker c.write_arrows.result
-    (λ last. two_more (levels_text t page.levels) (arrows_text t page.arrows) c.args.text.now.items c.write_levels.new.text.items c.write_arrows.new.text.items levels last)
+    (λ last. two_more (levels_text t page) (arrows_text t page.arrows) c.args.text.now.items c.write_levels.new.text.items c.write_arrows.new.text.items c.in_ok-write_levels.ensures last)
     arrows
