@@ -3,9 +3,7 @@
 ghost use Rattle.std.specs.Prelude.{◌≡◌, ◌++◌, IfOk, OnOk};
 ghost use Rattle.ror_show_find_classes.specs.Values as spec;
 
-use crate::intervals::{
-    highest, is_contradictory, is_settled, is_whole, last_line, lowest,
-};
+use crate::intervals::{highest, is_contradictory, is_settled, is_whole, last_line, lowest};
 use crate::order::in_order;
 use crate::sign::alternative_of;
 use crate::times::{all_times, rows};

@@ -12,4 +12,6 @@ pub mod Quotients
 pub mod SideProofs
 pub mod SpanLemmas
 pub mod Sufficing
+pub mod LinearLemmas
+pub mod LinearProofs
 pub mod Truth

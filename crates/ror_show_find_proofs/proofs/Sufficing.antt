@@ -168,7 +168,7 @@ first_named : (t : DecisionTable) (css : List (List Comparison)) → AllByRecurs
 first_named t [] named = tt
 first_named t (cs ∷ css) named = named.0.1
 
-besides_named : (t : DecisionTable) (list : List Statement) (q : Question) (v : Verdict) → IsLawfulIn t list → IsAskedIn t q → AreNamed t (asked_besides list q v)
+pub besides_named : (t : DecisionTable) (list : List Statement) (q : Question) (v : Verdict) → IsLawfulIn t list → IsAskedIn t q → AreNamed t (asked_besides list q v)
 besides_named t list q (verdicts.Contradiction proof) lawful asked = tt
 besides_named t list q (verdicts.Yes proof) lawful asked = first_named t (systems_of_question list q) (named_systems t list q lawful asked)
 besides_named t list q (verdicts.No proof) lawful asked = first_named t (systems_of_question list q) (named_systems t list q lawful asked)

@@ -1,7 +1,8 @@
 -- What stands in the proofs of answers, as values: the functions of a line, and what the statements of an answer sum up to.
-use Rattle.std.specs.Prelude.{◌≡◌, ℕ, Bool, List, map, slice_get, Option, Some, None, IfSome, if◌then◌else◌}
+use Rattle.std.specs.Prelude.{◌≡◌, ℕ, ◌<◌, Bool, List, length, map, slice_get, Option, Some, None, IfSome, if◌then◌else◌}
 use Rattle.std.specs.List.{AllByRecursion, AllZip}
 use Rattle.std.specs.Option.{option_and_then}
+use Rattle.ror_statement.specs.declared.comparison.Comparison.{Comparison}
 use Rattle.ror_statement.specs.declared.statement.Statement.{Statement}
 use Rattle.ror_statement.specs.declared.question.Question.{Question}
 use Rattle.ror_table.specs.Table.{DecisionTable}
@@ -22,7 +23,8 @@ use Rattle.ror_show_find_proofs.specs.declared.function_places.Place.{Place}
 use Rattle.ror_show_find_proofs.specs.declared.sums.Sum.{Sum}
 use Rattle.ror_show_find_proofs.specs.Functions.{function_of}
 use Rattle.ror_show_find_proofs.specs.Places.{steps_at, places}
-use Rattle.ror_show_find_proofs.specs.Spans.{spans_of}
+use Rattle.ror_show_find_proofs.specs.Linear.{compared, linear_used}
+use Rattle.ror_show_find_proofs.specs.Spans.{IsSpanIn, spans_of}
 use Rattle.ror_show_find_proofs.specs.Sums.{is_over, is_positive_used, used_columns, refuted, refutation, is_clash}
 
 -- ---- the functions of a line
@@ -58,16 +60,26 @@ AreOfTable t f = AllByRecursion (IsOfTable t) f.functions
 
 -- ---- what the statements of an answer sum up to
 
+-- its criteria and spans are of the table
+pub record IsSumIn (t : DecisionTable) (x : Sum) : Type 0 where
+  pub linear : AllByRecursion (λ i. i < length t.criteria) x.linear
+  pub spans : AllByRecursion (IsSpanIn t) x.spans
+
 -- nothing where there isn't a multiplier for each row
-abbrev pub sum_over : DecisionTable → LinearSystem → Bool → Multipliers → Option Sum
-sum_over t s clashes m = if is_over s m
-    then Some (record { clashes = clashes; positive = is_positive_used m; spans = spans_of t (used_columns s m) })
+abbrev pub sum_over : DecisionTable → List Comparison → LinearSystem → Bool → Multipliers → Option Sum
+sum_over t cs s clashes m = if is_over s m
+    then Some (record {
+      clashes = clashes;
+      positive = is_positive_used m;
+      linear = linear_used t cs m;
+      spans = spans_of t (used_columns s m);
+    })
     else None
 
-abbrev pub sum_for : DecisionTable → LinearSystem → Bool → Option Certificate → Option Sum
-sum_for t s clashes (Some (certificates.Multipliers m)) = sum_over t s clashes m
-sum_for t s clashes _ = None
+abbrev pub sum_for : DecisionTable → List Comparison → LinearSystem → Bool → Option Certificate → Option Sum
+sum_for t cs s clashes (Some (certificates.Multipliers m)) = sum_over t cs s clashes m
+sum_for t cs s clashes _ = None
 
 -- by the multipliers that refute its opposite
 unfoldable pub sum_found : DecisionTable → List Statement → Question → Verdict → Option Sum
-sum_found t list q v = sum_for t (refuted t list q v) (is_clash v) (refutation v)
+sum_found t list q v = sum_for t (compared list q v) (refuted t list q v) (is_clash v) (refutation v)

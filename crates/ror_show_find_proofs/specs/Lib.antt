@@ -10,5 +10,7 @@ pub mod FunctionLaws
 pub mod LineLaws
 pub mod SideLaws
 pub mod Spans
+pub mod Linear
 pub mod SumLaws
+pub mod LinearLaws
 pub mod Findings

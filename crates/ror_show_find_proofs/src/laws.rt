@@ -3,6 +3,7 @@
 ghost use Rattle.ror_show_find_proofs.specs.Counted.{CountsAreMultipliers, OwnRowsGo};
 ghost use Rattle.ror_show_find_proofs.specs.FunctionLaws.{ShownAreValues, RoundedAreNearest, EachLevelStands, EachFunctionIsShown, FunctionsAreMeant};
 ghost use Rattle.ror_show_find_proofs.specs.LineLaws.{FunctionsAreTrue};
+ghost use Rattle.ror_show_find_proofs.specs.LinearLaws.{OthersMayBend};
 ghost use Rattle.ror_show_find_proofs.specs.SideLaws.{SidesAreMeant};
 ghost use Rattle.ror_show_find_proofs.specs.SumLaws.{UsedAreBelow, SpansAreUsed, RefutationsFit, SumsSuffice};
 
@@ -50,6 +51,12 @@ pub fn refutations_fit()
 /// whatever they give to other steps; where it is named that some criterion counts, of those by which the steps sum to more than 0.
 pub fn sums_suffice()
     ensures { SumsSuffice }
+{}
+
+/// On a linear criterion of which it isn't used that it is linear, what the multipliers sum up isn't above 0 by any gains of its steps of
+/// which none is below 0.
+pub fn others_may_bend()
+    ensures { OthersMayBend }
 {}
 
 /// The function whose two quantities are shown of a proved answer agrees with the statements, and lacks what is asked of every

@@ -6,7 +6,9 @@
 //!
 //! The multipliers that refute an answer's opposite sum up the rows of the statements and of what is asked ([`refutation`]). Where the sum of a
 //! step of a criterion is below 0, it is used that the better level is never worth less ([`spans_of`]). Where nothing but the statements is used,
-//! the answer holds of all functions that agree with them, also of those by which better is worth less (`laws::sums_suffice`).
+//! the answer holds of all functions that agree with them, also of those by which better is worth less (`laws::sums_suffice`). A system has one
+//! column for a linear criterion: where the sum of a step is above 0, were it not linear, it is used that it is ([`Sum::linear`],
+//! `laws::others_may_bend`).
 //! [`owners_of`] says of each row whose statement it is, and [`weights_of`] how often a statement's rows are counted.
 //!
 //! Of the kept lines of a report [`find_functions`] has the functions in the answers to each one, and of an answer [`find_sum`] has what its
@@ -14,12 +16,14 @@
 #![tactic(auto)]
 
 mod columns;
+mod compared;
 mod decided;
 mod findings;
 mod function_places;
 mod functions;
 pub mod laws;
 mod levels;
+mod linear;
 mod owners;
 mod refutations;
 mod share;

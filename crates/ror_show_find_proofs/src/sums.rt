@@ -3,15 +3,18 @@
 ghost use Rattle.std.specs.Prelude.{◌≡◌, length, option_copied, IfOk, IfSome};
 ghost use Rattle.std.specs.List.{AllByRecursion};
 ghost use Rattle.ror_value.specs.Over.{IsLawfulIn, IsAskedIn};
+ghost use Rattle.ror_rows.specs.Laws.{AreNamed};
 ghost use Rattle.ror_show_find_proofs.specs.Findings as spec;
 ghost use Rattle.ror_show_find_proofs.specs.Spans.{spans_of, IsSpanIn};
 ghost use Rattle.ror_show_find_proofs.specs.Sums.{used_columns};
 
 use crate::columns::{is_over, is_positive_used, used_columns};
+use crate::compared::compared;
+use crate::linear::linear_used;
 use crate::refutations::{is_clash, refutation, refuted};
 use crate::spans::{Span, spans_of};
 use ror_proof::{Certificate, Verdict};
-use ror_statement::{Question, Statement};
+use ror_statement::{Comparison, Question, Statement};
 use ror_system::{Multipliers, System};
 use ror_table::Table;
 use ror_text::Items;
@@ -24,6 +27,8 @@ pub struct Sum {
     pub clashes: bool,
     /// Whether it is used that some criterion counts.
     pub positive: bool,
+    /// The linear criteria of which it is used that they are linear.
+    pub linear: Items<usize>,
     /// The steps at which it is used that better is never worth less.
     pub spans: Items<Span>,
 }
@@ -47,12 +52,14 @@ pub fn find_sum(
     requires lawful { IsLawfulIn table.now list.now }
     requires asked { IsAskedIn table.now question.now }
     ensures value { IfOk result (λ found. found ≡ spec.sum_found table.now list.now question.now verdict.now) }
-    ensures spans { IfOk result (λ found. IfSome found (λ x. AllByRecursion (IsSpanIn table.now) x.spans)) }
+    ensures there { IfOk result (λ found. IfSome found (spec.IsSumIn table.now)) }
 {
     let system = refuted(alloc, table, list, question, verdict)?;
+    let comparisons = compared(alloc, table, list, question, verdict)?;
     sum_for(
         alloc,
         table,
+        comparisons.as_slice(),
         &system,
         is_clash(verdict),
         refutation(verdict),
@@ -62,17 +69,19 @@ pub fn find_sum(
 fn sum_for(
     alloc: Global,
     table: &Table,
+    comparisons: &[Comparison],
     system: &System,
     clashes: bool,
     certificate: Option<&Certificate>,
 ) -> Result<Option<Sum>, AllocError>
+    requires { AreNamed table.now comparisons.now }
     ensures value { IfOk result (λ found. found
-        ≡ spec.sum_for table.now system.now clashes (option_copied certificate.entry)) }
-    ensures spans { IfOk result (λ found. IfSome found (λ x. AllByRecursion (IsSpanIn table.now) x.spans)) }
+        ≡ spec.sum_for table.now comparisons.now system.now clashes (option_copied certificate.entry)) }
+    ensures there { IfOk result (λ found. IfSome found (spec.IsSumIn table.now)) }
 {
     match certificate {
         Some(Certificate::Multipliers(multipliers)) => {
-            sum_over(alloc, table, system, clashes, multipliers)
+            sum_over(alloc, table, comparisons, system, clashes, multipliers)
         }
         _ => Ok(None),
     }
@@ -81,20 +90,25 @@ fn sum_for(
 fn sum_over(
     alloc: Global,
     table: &Table,
+    comparisons: &[Comparison],
     system: &System,
     clashes: bool,
     multipliers: &Multipliers,
 ) -> Result<Option<Sum>, AllocError>
-    ensures value { IfOk result (λ found. found ≡ spec.sum_over table.now system.now clashes multipliers.now) }
-    ensures spans { IfOk result (λ found. IfSome found (λ x. AllByRecursion (IsSpanIn table.now) x.spans)) }
+    requires { AreNamed table.now comparisons.now }
+    ensures value { IfOk result (λ found. found
+        ≡ spec.sum_over table.now comparisons.now system.now clashes multipliers.now) }
+    ensures there { IfOk result (λ found. IfSome found (spec.IsSumIn table.now)) }
 {
     if !is_over(system, multipliers) {
         return Ok(None);
     }
+    let linear = linear_used(alloc, table, comparisons, multipliers)?;
     let spans = used_spans(alloc, table, system, multipliers)?;
     Ok(Some(Sum {
         clashes,
         positive: is_positive_used(multipliers),
+        linear,
         spans,
     }))
 }

@@ -199,9 +199,7 @@ fn write_other(
         ++ spec.other_words table.now question.now clashes verdict.now) }
 {
     if is_wide(verdict) {
-        text.extend_from_slice(
-            b"not known: a number on the way passes 127 bits",
-        )
+        text.extend_from_slice(b"not known: a number on the way passes 127 bits")
     } else {
         write_spared(alloc, text, table, question, clashes, verdict)
     }
@@ -329,11 +327,7 @@ fn write_advice(
     write_line(text, 1, words.as_slice())
 }
 
-fn way_out(
-    alloc: Global,
-    dropped: Option<u32>,
-    numbers: &[u32],
-) -> Result<Vec<u8>, AllocError>
+fn way_out(alloc: Global, dropped: Option<u32>, numbers: &[u32]) -> Result<Vec<u8>, AllocError>
     ensures { IfOk result (λ words. words.items ≡ spec.way_out dropped numbers.now) }
 {
     match dropped {

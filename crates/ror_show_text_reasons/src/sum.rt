@@ -1,9 +1,8 @@
 //! The line of what statements sum up to.
 
 ghost use Rattle.std.specs.Prelude.{◌≡◌, ◌++◌, IfSome, OnOk};
-ghost use Rattle.std.specs.List.{AllByRecursion};
 ghost use Rattle.ror_value.specs.Over.{IsLawfulIn, IsAskedIn};
-ghost use Rattle.ror_show_find_proofs.specs.Spans.{IsSpanIn};
+ghost use Rattle.ror_show_find_proofs.specs.Findings.{IsSumIn};
 ghost use Rattle.ror_show_text_reasons.specs.SumText as spec;
 
 use crate::sum_words::sum_words;
@@ -40,7 +39,7 @@ fn write_found(
     table: &Table,
     found: &Option<Sum>,
 ) -> Result<(), AllocError>
-    requires { IfSome found.now (λ x. AllByRecursion (IsSpanIn table.now) x.spans) }
+    requires { IfSome found.now (IsSumIn table.now) }
     ensures { OnOk result (text.new.items ≡ text.old.items ++ spec.found_text table.now found.now) }
 {
     match found {
@@ -55,15 +54,9 @@ fn write_words(
     table: &Table,
     sum: &Sum,
 ) -> Result<(), AllocError>
-    requires { AllByRecursion (IsSpanIn table.now) sum.now.spans }
+    requires { IsSumIn table.now sum.now }
     ensures { OnOk result (text.new.items ≡ text.old.items ++ spec.sum_line table.now sum.now) }
 {
-    let words = sum_words(
-        alloc,
-        table,
-        sum.clashes,
-        sum.positive,
-        sum.spans.as_slice(),
-    )?;
+    let words = sum_words(alloc, table, sum)?;
     write_line(text, 1, words.as_slice())
 }

@@ -77,9 +77,11 @@ apart t rows a = if is_apart rows a then id_of t a ∷ [] else []
 abbrev pub all_apart : DecisionTable → List (List Cell) → List (List ℕ)
 all_apart t rows = flat_map (apart t rows) (range_with_len 0 (length t.alternatives))
 
+abbrev pub some_apart : DecisionTable → List (List Cell) → List ℕ
+some_apart t rows = codes "     nothing known:" ++ wrapped 8 (room_behind 19) (all_apart t rows) ++ 10 ∷ []
+
 abbrev pub apart_text : DecisionTable → List (List Cell) → List ℕ
-apart_text t rows = if some_below (is_apart rows) (length t.alternatives)
-    then codes "     nothing known:" ++ wrapped 8 (room_behind 19) (all_apart t rows) ++ 10 ∷ [] else []
+apart_text t rows = if some_below (is_apart rows) (length t.alternatives) then some_apart t rows else []
 
 abbrev pub levels_head : List ℕ
 levels_head = codes "\n  levels (all that is above an alternative is in levels before its own)\n"

@@ -65,6 +65,16 @@ pub(crate) fn write_apart(
     if !has_apart(rows, table.alternatives()) {
         return Ok(());
     }
+    write_some_apart(text, table, rows)
+}
+
+fn write_some_apart(
+    text: &mut Vec<u8>,
+    table: &Table,
+    rows: &[Items<Cell>],
+) -> Result<(), AllocError>
+    ensures { OnOk result (text.new.items ≡ text.old.items ++ texts.some_apart table.now rows.now) }
+{
     text.extend_from_slice(b"     nothing known:")?;
     write_all(text, table, rows)?;
     text.push(b'\n')?;
@@ -83,11 +93,7 @@ fn has_apart(rows: &[Items<Cell>], size: usize) -> bool
     found
 }
 
-fn write_all(
-    text: &mut Vec<u8>,
-    table: &Table,
-    rows: &[Items<Cell>],
-) -> Result<(), AllocError>
+fn write_all(text: &mut Vec<u8>, table: &Table, rows: &[Items<Cell>]) -> Result<(), AllocError>
     ensures { OnOk result (text.new.items
         ≡ text.old.items ++ wrapped 8 (room_behind 19) (texts.all_apart table.now rows.now)) }
 {

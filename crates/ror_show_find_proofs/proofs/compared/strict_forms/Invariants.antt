@@ -1,0 +1,7 @@
+use Rattle.std.proofs.Common.{◌≡◌, take}
+use Rattle.std.specs.List.{flat_map}
+use Rattle.ror_show_find_proofs.specs.Linear.{strict_forms_for}
+use Rattle.ror_show_find_proofs.proofs.compared.strict_forms.Given as goal
+
+abbrev pub invariant-loop-comparison : goal.invariant-loop-comparison
+invariant-loop-comparison l = l.made.items ≡ flat_map (λ c. strict_forms_for c.relation c.form) (take l.comparison-index l.comparisons)
