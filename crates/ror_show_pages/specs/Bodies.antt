@@ -11,6 +11,8 @@ use Rattle.ror_show_find_classes.specs.ClassChanges.{AreClassChanges}
 use Rattle.ror_show_find_classes.specs.Findings.{class_lines}
 use Rattle.ror_show_find_classes.specs.TimeTurns.{turns as time_turns}
 use Rattle.ror_show_find_classes.specs.Values.{class_times}
+use Rattle.ror_show_find_core.specs.declared.outcomes.LineCores.{LineCores}
+use Rattle.ror_show_find_core.specs.Cores.{AreCoresFound}
 use Rattle.ror_show_find_proofs.specs.declared.findings.FunctionsFound.{FunctionsFound}
 use Rattle.ror_show_find_proofs.specs.Findings.{AreFunctionsFound}
 use Rattle.ror_show_find_roll.specs.Findings.{rolls}
@@ -137,9 +139,10 @@ abbrev pub meant_by : Option Pair → Meant
 meant_by None = All
 meant_by (Some pair) = Between pair
 
--- An answer may have several reasons, and the text has one of them.
+-- An answer may have several reasons, and the text has one of them, with what becomes of the answer without each statement of that.
 abbrev pub HasReasons : Meant → Ground → List ℕ → Type 0
-HasReasons m g text = (found : List LineFound) × AreLinesFound m g found × (text ≡ reasons_text m g found)
+HasReasons m g text = (found : List LineFound) × (cores : List LineCores) × AreLinesFound m g found × AreCoresFound g found cores
+    × (text ≡ reasons_text m g found cores)
 
 -- none, where a name is that of no alternative
 abbrev pub HasReasonsOf : Option (Option Pair) → Ground → List ℕ → Type 0

@@ -5,6 +5,7 @@ ghost use Rattle.ror_show_ground.specs.Grounds.{ground_of, IsJudged};
 ghost use Rattle.ror_show_pages.specs.Bodies as spec;
 ghost use Rattle.ror_show_words.specs.Named.{page_words_of, pair_words_of};
 
+use ror_show_find_core::find_cores;
 use ror_show_find_reasons::{Meant, find_lines};
 use ror_show_forms::write_certificates;
 use ror_show_ground::Ground;
@@ -78,8 +79,16 @@ fn reasons_text(alloc: Global, meant: Meant, ground: &Ground<'_>) -> Result<Vec<
     ensures { IfOk result (λ text. spec.HasReasons meant (ground_of ground.now) text.items) }
 {
     let found = find_lines(alloc, ground, meant)?;
+    let cores = find_cores(alloc, ground, found.as_slice())?;
     let mut text = Vec::new(alloc);
-    write_lines(alloc, &mut text, ground, meant, found.as_slice())?;
+    write_lines(
+        alloc,
+        &mut text,
+        ground,
+        meant,
+        found.as_slice(),
+        cores.as_slice(),
+    )?;
     Ok(text)
 }
 

@@ -37,9 +37,11 @@ abbrev pub both_text : List ℕ → ℕ → ℕ → List ℕ
 both_text words before now = counted words before ++ counted (codes " before, ") now ++ codes " now"
 
 -- of those that aren't concluded, which the lists don't have, where there are any
+abbrev pub some_missing : ℕ → ℕ → List ℕ
+some_missing before now = both_text (codes "  not concluded: ") before now ++ codes "; the lists take them as not so\n"
+
 abbrev pub missing_text : ℕ → ℕ → List ℕ
-missing_text before now = if before == 0 && now == 0 then []
-    else both_text (codes "  not concluded: ") before now ++ codes "; the lists take them as not so\n"
+missing_text before now = if before == 0 && now == 0 then [] else some_missing before now
 
 abbrev pub decided_text : ℕ → ℕ → ℕ → List ℕ
 decided_text pairs before now = counted (codes "  of ") pairs ++ both_text (codes " pairs decided: ") before now ++ codes "\n"

@@ -91,6 +91,12 @@ fn write_missing(text: &mut Vec<u8>, before: usize, now: usize) -> Result<(), Al
     if before == 0 && now == 0 {
         return Ok(());
     }
+    write_some_missing(text, before, now)
+}
+
+fn write_some_missing(text: &mut Vec<u8>, before: usize, now: usize) -> Result<(), AllocError>
+    ensures { OnOk result (text.new.items ≡ text.old.items ++ spec.some_missing before now) }
+{
     write_both(text, b"  not concluded: ", before, now)?;
     text.extend_from_slice(b"; the lists take them as not so\n")
 }

@@ -125,7 +125,9 @@ fn write_title(
     ensures { OnOk result (text.new.items ≡ text.old.items ++ spec.title_text table.now answers.now place) }
 {
     match place.part {
-        None => text.extend_from_slice(b"\n  one of the functions that agree with the statements, not a representative one\n"),
+        None => text.extend_from_slice(
+            b"\n  one of the functions that agree with the statements, not a representative one\n",
+        ),
         Some(_) => write_question(alloc, text, table, answers, place.answer),
     }
 }

@@ -4,5 +4,6 @@ pub mod SumText
 pub mod Parts
 pub mod Reasons
 pub mod Scenes
+pub mod Withdrawn
 pub mod Pages
 pub mod Laws

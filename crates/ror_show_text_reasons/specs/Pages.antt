@@ -1,6 +1,6 @@
 -- The page of reasons as plain text: a function of what is found.
 use Rattle.std.specs.Prelude.{ℕ, nat_le, List, [], ◌∷◌, ◌++◌, codes, length, slice_get, Option, Some, None, count_by, if◌then◌else◌}
-use Rattle.std.specs.List.{flat_map}
+use Rattle.std.specs.List.{flat_map, range_with_len}
 use Rattle.std.specs.Option.{option_map_or}
 use Rattle.ror_proof.specs.declared.answer.Answer.{Answer}
 use Rattle.ror_report.specs.Text.{answers_of}
@@ -17,6 +17,11 @@ use Rattle.ror_show_find_reasons.specs.declared.lines.Meant.TheVariants as meant
 use Rattle.ror_show_find_reasons.specs.declared.lines.Told.{Told}
 use Rattle.ror_show_find_reasons.specs.declared.lines.DropFound.{DropFound}
 use Rattle.ror_show_find_reasons.specs.declared.lines.LineFound.{LineFound}
+use Rattle.ror_show_find_core.specs.declared.outcomes.Withdrawal.{Withdrawal}
+use Rattle.ror_show_find_core.specs.declared.outcomes.CoreFound.{CoreFound}
+use Rattle.ror_show_find_core.specs.declared.outcomes.LineCores.{LineCores}
+use Rattle.ror_show_text_functions.specs.Text.{is_contradiction}
+use Rattle.ror_show_text_reasons.specs.Withdrawn.{cores_at, withdrawals_at, withdrawn_text}
 use Rattle.ror_show_text_reasons.specs.Reasons.{not_answered}
 use Rattle.ror_show_text_reasons.specs.Scenes.{Scene, of_drop, reason_text, conflict_text}
 
@@ -39,15 +44,19 @@ told_words sc None = not_answered
 abbrev pub head_text : Ground → KeptLine → Answer → List ℕ
 head_text g x a = ((place_text g x ++ codes "  ") ++ asked_text g.table a.question a.verdict) ++ 10 ∷ []
 
--- below it the reason, and an empty line
-abbrev pub framed : Ground → KeptLine → Scene → Option Reason → Answer → List ℕ
-framed g x sc reason a = (head_text g x a ++ told_words sc reason) ++ 10 ∷ []
+-- below it the reason, what becomes of the answer without each statement of that, and an empty line
+abbrev pub framed : Ground → KeptLine → Scene → List Withdrawal → Option Reason → Answer → List ℕ
+framed g x sc ws reason a = (head_text g x a ++ told_words sc reason ++ withdrawn_text (is_contradiction a.verdict) ws) ++ 10 ∷ []
 
-abbrev pub told_in : Ground → KeptLine → Scene → Told → List ℕ
-told_in g x sc told = option_map_or (framed g x sc told.reason) (slice_get (answers_of x.block.body) told.answer) []
+abbrev pub told_in : Ground → KeptLine → Scene → List Withdrawal → Told → List ℕ
+told_in g x sc ws told = option_map_or (framed g x sc ws told.reason) (slice_get (answers_of x.block.body) told.answer) []
 
-abbrev pub told_text : Ground → KeptLine → LineFound → Told → List ℕ
-told_text g x f told = told_in g x (scene_for g x f) told
+-- the one at a place, with what is found beside it there
+abbrev pub told_at : Ground → KeptLine → Scene → List CoreFound → List Told → ℕ → List ℕ
+told_at g x sc cores told k = option_map_or (told_in g x sc (withdrawals_at cores k)) (slice_get told k) []
+
+abbrev pub each_told : Ground → KeptLine → Scene → List CoreFound → List Told → List ℕ
+each_told g x sc cores told = flat_map (told_at g x sc cores told) (range_with_len 0 (length told))
 
 -- ---- a statement that was dropped
 
@@ -85,11 +94,14 @@ rest_text _ g x = []
 
 -- ---- a line, and all of them
 
-abbrev pub line_over : Meant → Ground → LineFound → KeptLine → List ℕ
-line_over m g f x = flat_map (told_text g x f) f.told ++ rest_text m g x ++ flat_map (drop_text g x f) f.drops
+abbrev pub line_over : Meant → Ground → List CoreFound → LineFound → KeptLine → List ℕ
+line_over m g cores f x = each_told g x (scene_for g x f) cores f.told ++ rest_text m g x ++ flat_map (drop_text g x f) f.drops
 
-abbrev pub line_words : Meant → Ground → LineFound → List ℕ
-line_words m g f = option_map_or (line_over m g f) (slice_get g.kept f.place) []
+abbrev pub line_words : Meant → Ground → List CoreFound → LineFound → List ℕ
+line_words m g cores f = option_map_or (line_over m g cores f) (slice_get g.kept f.place) []
 
-abbrev pub reasons_text : Meant → Ground → List LineFound → List ℕ
-reasons_text m g fs = flat_map (line_words m g) fs
+abbrev pub line_at : Meant → Ground → List LineFound → List LineCores → ℕ → List ℕ
+line_at m g fs cs k = option_map_or (line_words m g (cores_at cs k)) (slice_get fs k) []
+
+abbrev pub reasons_text : Meant → Ground → List LineFound → List LineCores → List ℕ
+reasons_text m g fs cs = flat_map (line_at m g fs cs) (range_with_len 0 (length fs))

@@ -369,7 +369,7 @@ fn advice(alloc: Global, numbers: &[u32]) -> Result<Vec<u8>, AllocError>
 }
 
 /// Adds a space and a number, for each of these.
-fn write_numbers(text: &mut Vec<u8>, numbers: &[u32]) -> Result<(), AllocError>
+pub(crate) fn write_numbers(text: &mut Vec<u8>, numbers: &[u32]) -> Result<(), AllocError>
     ensures { OnOk result (text.new.items ≡ text.old.items ++ flat_map number numbers.now) }
 {
     'numbers: for number in numbers {

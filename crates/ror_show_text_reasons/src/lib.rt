@@ -12,6 +12,9 @@
 //!      without 1: by some value function c09 is better than c01 (2 to 1 of 3)
 //!      without 4: by some value function c09 is better than c01 (3 to 2 of 3)
 //!   this is one part of the statements that carries the answer, and there may be others
+//!   if one of these statements is withdrawn from all that stand:
+//!      1: the answer goes
+//!      4: the answer goes
 //! ```
 #![tactic(auto)]
 
@@ -28,5 +31,6 @@ mod sides;
 mod sum;
 mod sum_words;
 mod told;
+mod withdrawn;
 
 pub use lines::write_lines;

@@ -10,32 +10,36 @@ ghost use Rattle.ror_show_text_reasons.specs.Scenes.{scene_of, reason_text};
 
 use crate::reasons::{write_bounded, write_decided, write_not_answered, write_reduct, write_wide};
 use crate::scene::{Case, Scene};
+use crate::withdrawn::{Beside, write_withdrawn};
 use ror_bench::KeptLine;
 use ror_proof::Answer;
 use ror_reason::Reason;
-use ror_show_find_reasons::Told;
 use ror_show_ground::{Ground, answers_of};
 use ror_show_kit::{write_asked, write_line};
+use ror_show_text_functions::is_contradiction;
 use std::alloc::{AllocError, Global};
 
-/// Adds the line, its desk, what was asked and answered, the reason of the answer, and an empty line.
+/// Adds the line, its desk, what was asked and answered, the reason of the answer, what becomes of it without each statement of that,
+/// and an empty line.
 pub(crate) fn write_told(
     alloc: Global,
     text: &mut Vec<u8>,
     ground: &Ground<'_>,
     line: &KeptLine,
     scene: &Scene<'_>,
-    told: &Told,
+    beside: &Beside<'_>,
 ) -> Result<(), AllocError>
     requires lawful { IsLawfulIn scene.now.table.now (statements_in scene.now.list.now) }
-    requires asked { AsksOf scene.now.table.now told.now.reason }
+    requires asked { AsksOf scene.now.table.now beside.now.told.now.reason }
     ensures { OnOk result (text.new.items ≡ text.old.items
-        ++ spec.told_in (ground_of ground.now) line.now (scene_of scene.now) told.now) }
+        ++ spec.told_in (ground_of ground.now) line.now (scene_of scene.now) beside.now.withdrawals.now beside.now.told.now) }
 {
-    match answers_of(&line.block.body).get(told.answer) {
+    match answers_of(&line.block.body).get(beside.told.answer) {
         Some(answer) => {
             write_head(text, ground, line, answer)?;
-            write_words(alloc, text, scene, &told.reason)?;
+            write_words(alloc, text, scene, &beside.told.reason)?;
+            let clashes = is_contradiction(&answer.verdict);
+            write_withdrawn(alloc, text, clashes, beside.withdrawals)?;
             text.push(b'\n')?;
             Ok(())
         }

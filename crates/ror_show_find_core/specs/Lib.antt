@@ -1,0 +1,3 @@
+pub mod Withdrawals
+pub mod Cores
+pub mod Laws
