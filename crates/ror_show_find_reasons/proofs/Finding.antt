@@ -107,20 +107,24 @@ nothing_said t list cell a b none = subst (λ (c : Cell). Says t list c a b) (sy
 row_there : (n : ℕ) (xs : List Answer) (a : ℕ) → a < n → get_or (cell_rows n xs) a [] ≡ cells_from n xs a
 row_there n xs a before = get_or-map-range_with_len (cells_from n xs) 0 n a a [] before (omega arith)
 
--- each cell says what is true; past the last one it says nothing
-pub says_in : (t : DecisionTable) (list : List Statement) (xs : List Answer) (n a b : ℕ) → AreTrueAnswers t list xs → Says t list (cell_in (cell_rows n xs) a b) a b
-says_in t list xs n a b all = by (less_or a n) (less_or b n)
+-- the cell in the rows is that of the pair; past the last one it says nothing
+pub cell_or_none : (n : ℕ) (xs : List Answer) (a b : ℕ) → (cell_in (cell_rows n xs) a b ≡ cell_at n xs a b) ⊎ (cell_in (cell_rows n xs) a b ≡ cells.Unknown)
+cell_or_none n xs a b = by (less_or a n) (less_or b n)
   where
-    by : (a < n) ⊎ (n ≤ a) → (b < n) ⊎ (n ≤ b) → Says t list (cell_in (cell_rows n xs) a b) a b
+    by : (a < n) ⊎ (n ≤ a) → (b < n) ⊎ (n ≤ b) → (cell_in (cell_rows n xs) a b ≡ cell_at n xs a b) ⊎ (cell_in (cell_rows n xs) a b ≡ cells.Unknown)
     by (inl first) (inl second) =
-        let there : cell_in (cell_rows n xs) a b ≡ cell_at n xs a b = ap (λ (r : List Cell). get_or r b cells.Unknown) (row_there n xs a first) ∙ get_or-map-range_with_len (cell_at n xs a) 0 n b b cells.Unknown second (omega arith) in
-        subst (λ (c : Cell). Says t list c a b) (sym there) (cells-true t list xs n a b all)
+        inl (ap (λ (r : List Cell). get_or r b cells.Unknown) (row_there n xs a first) ∙ get_or-map-range_with_len (cell_at n xs a) 0 n b b cells.Unknown second (omega arith))
     by (inl first) (inr past) =
         let long : length (cells_from n xs a) ≡ n = length-map-range_with_len (cell_at n xs a) 0 n in
-        let none : cell_in (cell_rows n xs) a b ≡ cells.Unknown = ap (λ (r : List Cell). get_or r b cells.Unknown) (row_there n xs a first) ∙ past_end (cells_from n xs a) b cells.Unknown (omega (arith, long, past)) in
-        nothing_said t list (cell_in (cell_rows n xs) a b) a b none
+        inr (ap (λ (r : List Cell). get_or r b cells.Unknown) (row_there n xs a first) ∙ past_end (cells_from n xs a) b cells.Unknown (omega (arith, long, past)))
     by (inr past) beside =
         let long : length (cell_rows n xs) ≡ n = length-map-range_with_len (cells_from n xs) 0 n in
         let no_row : get_or (cell_rows n xs) a [] ≡ [] = past_end (cell_rows n xs) a [] (omega (arith, long, past)) in
-        let none : cell_in (cell_rows n xs) a b ≡ cells.Unknown = ap (λ (r : List Cell). get_or r b cells.Unknown) no_row ∙ past_end [] b cells.Unknown (omega arith) in
-        nothing_said t list (cell_in (cell_rows n xs) a b) a b none
+        inr (ap (λ (r : List Cell). get_or r b cells.Unknown) no_row ∙ past_end [] b cells.Unknown (omega arith))
+
+-- each cell says what is true
+pub says_in : (t : DecisionTable) (list : List Statement) (xs : List Answer) (n a b : ℕ) → AreTrueAnswers t list xs → Says t list (cell_in (cell_rows n xs) a b) a b
+says_in t list xs n a b all = elim (cell_or_none n xs a b) [
+  | inl there ↦ subst (λ (c : Cell). Says t list c a b) (sym there) (cells-true t list xs n a b all)
+  | inr none ↦ nothing_said t list (cell_in (cell_rows n xs) a b) a b none
+]

@@ -7,12 +7,13 @@ pub mod Asking
 pub mod Convex
 pub mod OneSide
 pub mod Within
+pub mod Finding
+pub mod Better
 pub mod PairLaws
 pub mod Brought
 pub mod ReasonMeaning
 pub mod BoundLaws
 pub mod Conflicts
-pub mod Finding
 pub mod PairMeaning
 pub mod Dropped
 pub mod RowLemmas

@@ -40,8 +40,9 @@ use Rattle.ror_reason.specs.Reasons.{IsReasonOf}
 use Rattle.ror_reason.specs.Reducts.{stated, without, IsReduct}
 use Rattle.ror_reason.proofs.Parts.{stated-among, without-among}
 use Rattle.ror_show_find_reasons.specs.declared.pairs.CarriedPair.{CarriedPair}
-use Rattle.ror_show_find_reasons.specs.Pairs.{is_yes_over, says_over, IsCarriedPair, AreNeeded, CarriesPair, MeansCarriedBy, MeansCarried}
+use Rattle.ror_show_find_reasons.specs.Pairs.{is_yes_over, says_over, IsCarriedPair, AreNeeded, CarriesPair, MeansCarriedBy, MeansBetterBy, MeansCarried}
 use Rattle.ror_show_find_reasons.specs.Laws.{ArrowsAreCarried}
+use Rattle.ror_show_find_reasons.proofs.Better.{better_means}
 use Rattle.ror_show_find_reasons.proofs.Found.{found_there, found_reason}
 
 -- ---- an arrow is what an answer says
@@ -161,9 +162,10 @@ of_reason t list arrow (reasons.WhollyWide system note) h = absurd h
 -- where an answer says it, what is found carries the pair
 pub found_means : (t : DecisionTable) (list : List Numbered) (xs : List Answer) (pair : ℕ × ℕ) (f : CarriedPair) → (x : Answer) × (find (says_over pair) xs ≡ Some x) → IsCarriedPair t list xs pair f → MeansCarried t list f
 found_means t list xs pair f said are =
-    let found = found_reason t list xs pair said.0 f.reason said.1 are.1 in
-    subst (λ (p : ℕ × ℕ). MeansCarriedBy t list p f.reason) (sym are.0)
-    (subst (MeansCarriedBy t list pair) (sym found.2) (of_reason t list pair found.0 found.1))
+    let found = found_reason t list xs pair said.0 f.reason said.1 are.1 in (
+      subst (λ (p : ℕ × ℕ). MeansCarriedBy t list p f.reason) (sym are.0) (subst (MeansCarriedBy t list pair) (sym found.2) (of_reason t list pair found.0 found.1)),
+      subst (λ (p : ℕ × ℕ). MeansBetterBy t list p f.better) (sym are.0) (better_means t list xs pair f.better are.2),
+    )
 
 pub arrows_are_carried : ArrowsAreCarried
 arrows_are_carried t list xs page arrow f shows there are = found_means t list xs arrow f (arrow_said t xs page arrow shows there) are

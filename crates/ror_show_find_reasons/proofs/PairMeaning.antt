@@ -6,8 +6,8 @@ use Rattle.std.specs.List.{AllByRecursion, find}
 use Rattle.ror_text.proofs.Everywhere.{all_at, all_by_places}
 use Rattle.ror_statement.specs.declared.statement.Numbered.{Numbered}
 use Rattle.ror_statement.specs.declared.statement.Statement.{Statement}
-use Rattle.ror_statement.specs.declared.question.Conclusion.TheVariants.{Yes}
-use Rattle.ror_statement.specs.declared.question.Question.TheVariants.{Necessary}
+use Rattle.ror_statement.specs.declared.question.Conclusion.TheVariants.{Yes, No}
+use Rattle.ror_statement.specs.declared.question.Question.TheVariants.{Necessary, Possible}
 use Rattle.ror_statement.specs.Statements.{statements_in}
 use Rattle.ror_table.specs.Table.{DecisionTable}
 use Rattle.ror_value.specs.Over.{IsAskedIn}
@@ -47,8 +47,10 @@ use Rattle.ror_show_find_relation.specs.Differences.{AreDifferences}
 use Rattle.ror_show_find_reasons.specs.declared.pairs.CarriedPair.{CarriedPair}
 use Rattle.ror_show_find_reasons.specs.declared.pairs.RelationFound.{RelationFound}
 use Rattle.ror_show_find_reasons.specs.declared.pairs.ChangeFound.{ChangeFound}
-use Rattle.ror_show_find_reasons.specs.Pairs.{says_over, IsCarriedPair, AreCarriedPairs, AreCarriedOver, AreCarriedWhere, IsRelationFound, AreRelationsFound, IsChangeFound, AreChangesFound, MeansCarried}
-use Rattle.ror_show_find_reasons.specs.Meaning.{MeansFound, MeansPair, IsStrictlyPreferred, MeansRelation, AreWholeChanges, MeansChange}
+use Rattle.ror_show_find_reasons.specs.Pairs.{says_over, denies_back, IsBetterBy, IsCarriedPair, AreCarriedPairs, AreCarriedOver, AreCarriedWhere, IsRelationFound, AreRelationsFound, IsChangeFound, AreChangesFound, MeansCarried, IsBetterTold}
+use Rattle.ror_show_find_reasons.specs.Meaning.{MeansFound, MeansFoundWhere, MeansPair, MeansBetter, IsStrictlyPreferred, MeansRelation, AreWholeChanges, MeansChange}
+use Rattle.ror_reason.specs.declared.reducts.Reason.{Reason}
+use Rattle.ror_show_find_reasons.proofs.Better.{asks_back, found_better, each_better_is_told}
 use Rattle.ror_show_find_reasons.proofs.Brought.{brought_said, brought_is_carried}
 use Rattle.ror_show_find_reasons.proofs.Found.{asks_over, found_has, found_passes, found_reason}
 use Rattle.ror_show_find_reasons.proofs.ReasonMeaning.{reason_means}
@@ -72,6 +74,20 @@ pair_told t x list pair f over said are =
     let means = reason_means t list (Necessary pair.0 pair.1) Yes found.0 over.lawful asked found.1 in
     subst (λ (p : ℕ × ℕ). MeansFound t list (Necessary p.0 p.1) Yes f.reason) (sym are.0)
     (subst (MeansFound t list (Necessary pair.0 pair.1) Yes) (sym found.2) means)
+
+-- and why it is always better, where that is said
+better_means_where : (t : DecisionTable) (x : KeptLine) (list : List Numbered) (pair : ℕ × ℕ) (o : Option Reason) → IsReadyOver t x list → IsBetterBy t list (answers_of x.block.body) pair o → MeansFoundWhere t list (Possible pair.1 pair.0) No o
+better_means_where t x list pair (Some reason) over are =
+    let xs = answers_of x.block.body in
+    let found = found_better t list xs pair reason are in
+    let passes = found_passes (denies_back pair) xs found.answer found.there in
+    let asked : IsAskedIn t (Possible pair.1 pair.0) = subst (IsAskedIn t) (asks_back pair found.answer passes) (found_has (IsSoundAnswer t (statements_in list)) (denies_back pair) xs found.answer over.sound found.there).asked in
+    reason_means t list (Possible pair.1 pair.0) No reason over.lawful asked found.of
+better_means_where t x list pair None over are = tt
+
+better_told : (t : DecisionTable) (x : KeptLine) (list : List Numbered) (pair : ℕ × ℕ) (f : CarriedPair) → IsReadyOver t x list → IsCarriedPair t list (answers_of x.block.body) pair f → MeansBetter t list f
+better_told t x list pair f over are =
+    subst (λ (p : ℕ × ℕ). MeansFoundWhere t list (Possible p.1 p.0) No f.better) (sym are.0) (better_means_where t x list pair f.better over are.2)
 
 -- one line is at a place
 pub one_line_at : (kept : List KeptLine) (n : ℕ) (x y : KeptLine) → slice_get kept n ≡ Some x → slice_get kept n ≡ Some y → x ≡ y
@@ -149,6 +165,8 @@ relation_means sought t x list f stood over page carried =
       before = before_means t xs (statements_in list) f.relation page all;
       carried = carried_where (MeansCarried t list) sought t x list f.relation.arrows f.carried stood (λ pair c there is. arrows_are_carried t list xs f.relation pair c page there is) carried;
       why = carried_where (MeansPair t list) sought t x list f.relation.arrows f.carried stood (λ pair c there is. pair_told t x list pair c over (arrow_said t xs f.relation pair page there) is) carried;
+      why_better = carried_where (MeansBetter t list) sought t x list f.relation.arrows f.carried stood (λ pair c there is. better_told t x list pair c over is) carried;
+      each_better = carried_where (IsBetterTold f.relation.rows) sought t x list f.relation.arrows f.carried stood (λ pair c there is. each_better_is_told t list xs f.relation pair c page is) carried;
       each = each_where sought t x list f.relation.arrows f.carried stood carried;
     }
 
@@ -214,6 +232,8 @@ change_means sought t x y before now f stood over_before over_now first second p
   whole = whole_means t x y before now f over_before over_now first second pairs;
   brought = carried_where (MeansCarried t now) sought t y now (brought (known f.first.rows) (known f.second.rows)) f.brought stood (λ pair c there is. brought_is_carried t now (answers_of x.block.body) (answers_of y.block.body) f.first f.second pair c first second there is) carried;
   why = carried_where (MeansPair t now) sought t y now (brought (known f.first.rows) (known f.second.rows)) f.brought stood (λ pair c there is. pair_told t y now pair c over_now (brought_said t (answers_of x.block.body) (answers_of y.block.body) f.first f.second pair first second there) is) carried;
+  why_better = carried_where (MeansBetter t now) sought t y now (brought (known f.first.rows) (known f.second.rows)) f.brought stood (λ pair c there is. better_told t y now pair c over_now is) carried;
+  each_better = carried_where (IsBetterTold f.second.rows) sought t y now (brought (known f.first.rows) (known f.second.rows)) f.brought stood (λ pair c there is. each_better_is_told t now (answers_of y.block.body) f.second pair c second is) carried;
   each = λ yes_. each_where sought t y now (brought (known f.first.rows) (known f.second.rows)) f.brought stood carried yes_ ∙ brought_are (known f.first.rows) (known f.second.rows) f.pairs pairs;
 }
 

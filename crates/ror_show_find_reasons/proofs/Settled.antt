@@ -57,7 +57,7 @@ proved_no t list side end a x is sound = record { question = refl; proof = by x.
 
 -- ---- its reason
 
-for_no : (t : DecisionTable) (list : List Numbered) (q : Question) (v : Verdict) (reason : Reason) → OfProof (λ c proof. c ≡ conclusions.No) v → IsReasonFor t list q v reason → IsReasonOf (most_of B127) t list q conclusions.No reason
+pub for_no : (t : DecisionTable) (list : List Numbered) (q : Question) (v : Verdict) (reason : Reason) → OfProof (λ c proof. c ≡ conclusions.No) v → IsReasonFor t list q v reason → IsReasonOf (most_of B127) t list q conclusions.No reason
 unfolding IsReasonFor
 for_no t list q (verdicts.Yes proof) reason no_ h = absurd (let p = no_ in cc)
 for_no t list q (verdicts.No proof) reason no_ h = h

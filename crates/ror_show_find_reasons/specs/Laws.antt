@@ -21,13 +21,13 @@ use Rattle.ror_show_find_relation.specs.Brought.{brought}
 use Rattle.ror_show_find_reasons.specs.declared.pairs.CarriedPair.{CarriedPair}
 use Rattle.ror_show_find_reasons.specs.declared.bounds.Side.{Side}
 use Rattle.ror_show_find_reasons.specs.declared.bounds.Bound.{Bound}
-use Rattle.ror_show_find_reasons.specs.Pairs.{IsCarriedPair, MeansCarried}
+use Rattle.ror_show_find_reasons.specs.Pairs.{IsCarriedPair, MeansCarried, IsBetterTold}
 use Rattle.ror_show_find_reasons.specs.Bounds.{end_of, IsNextTo, IsBound, MeansBound}
 use Rattle.ror_show_find_reasons.specs.Lines.{clash_list, IsConflict}
 
 -- What is found with an arrow on the page of a relation carries it: some function agrees with the statements that it names, and every one
 -- that does has the first alternative at least as good as the second; of those that agree with all of them but one, not every one has; or of some
--- of them that isn't known. There is a reason for each arrow.
+-- of them that isn't known. There is a reason for each arrow. So it is with that the first is always better, where that is said.
 abbrev pub ArrowsAreCarried : Type 0
 ArrowsAreCarried = (t : DecisionTable) (list : List Numbered) (xs : List Answer) (page : RelationPage) (arrow : ℕ × ℕ)
     (f : CarriedPair) → IsRelationPage t xs page → Contains {X = ℕ × ℕ} page.arrows arrow
@@ -39,6 +39,11 @@ BroughtIsCarried = (t : DecisionTable) (list : List Numbered) (xs ys : List Answ
     (f : CarriedPair) → IsRelationPage t xs before → IsRelationPage t ys now
     → Contains {X = ℕ × ℕ} (brought (known before.rows) (known now.rows)) pair
     → IsCarriedPair t list ys pair f → MeansCarried t list f
+
+-- Where the cell of a pair has the first always better, there is a reason why.
+abbrev pub EachBetterIsTold : Type 0
+EachBetterIsTold = (t : DecisionTable) (list : List Numbered) (xs : List Answer) (page : RelationPage) (pair : ℕ × ℕ)
+    (f : CarriedPair) → IsRelationPage t xs page → IsCarriedPair t list xs pair f → IsBetterTold page.rows f
 
 -- A bound that is found means what it says, and one is found wherever the class beyond the end has the sign of one that is excluded.
 pub record BoundsAreSettled : Type 0 where

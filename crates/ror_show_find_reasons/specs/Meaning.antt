@@ -6,7 +6,7 @@ use Rattle.ror_statement.specs.declared.statement.Statement.{Statement}
 use Rattle.ror_statement.specs.declared.question.Conclusion.{Conclusion}
 use Rattle.ror_statement.specs.declared.question.Conclusion.TheVariants.{Yes, No, Contradiction}
 use Rattle.ror_statement.specs.declared.question.Question.{Question}
-use Rattle.ror_statement.specs.declared.question.Question.TheVariants.{Consistent, Necessary, PossibleClass}
+use Rattle.ror_statement.specs.declared.question.Question.TheVariants.{Consistent, Necessary, Possible, PossibleClass}
 use Rattle.ror_statement.specs.Questions.{kind_of, property_of}
 use Rattle.ror_statement.specs.Statements.{statements_in}
 use Rattle.ror_table.specs.Table.{DecisionTable}
@@ -59,7 +59,7 @@ use Rattle.ror_show_find_reasons.specs.declared.lines.Meant.TheVariants.{All}
 use Rattle.ror_show_find_reasons.specs.declared.lines.Told.{Told}
 use Rattle.ror_show_find_reasons.specs.declared.lines.DropFound.{DropFound}
 use Rattle.ror_show_find_reasons.specs.declared.lines.LineFound.{LineFound}
-use Rattle.ror_show_find_reasons.specs.Pairs.{MeansCarried, AreRelationsFound, AreChangesFound}
+use Rattle.ror_show_find_reasons.specs.Pairs.{MeansCarried, IsBetterTold, AreRelationsFound, AreChangesFound}
 use Rattle.ror_show_find_reasons.specs.Bounds.{IsNextTo, MeansBound, AreClassesFound}
 use Rattle.ror_show_find_reasons.specs.Lines.{clash_list, dropped_by, AreLinesFound}
 
@@ -107,6 +107,14 @@ MeansFound t list q c None = ⊥
 abbrev pub MeansPair : DecisionTable → List Numbered → CarriedPair → Type 0
 MeansPair t list f = MeansFound t list (Necessary f.pair.0 f.pair.1) Yes f.reason
 
+-- and why it is always better, where that is said
+abbrev pub MeansFoundWhere : DecisionTable → List Numbered → Question → Conclusion → Option Reason → Type 0
+MeansFoundWhere t list q c (Some reason) = MeansReason t list q c reason
+MeansFoundWhere t list q c None = Unit {0}
+
+abbrev pub MeansBetter : DecisionTable → List Numbered → CarriedPair → Type 0
+MeansBetter t list f = MeansFoundWhere t list (Possible f.pair.1 f.pair.0) No f.better
+
 -- ---- a relation
 
 -- by every function that agrees the one is at least as good as the other, and not the other as the one
@@ -127,6 +135,8 @@ pub record MeansRelation (sought : Bool) (t : DecisionTable) (xs : List Answer) 
       → IsBefore f.relation.levels k a
   pub carried : AllByRecursion (MeansCarried t list) f.carried
   pub why : AllByRecursion (MeansPair t list) f.carried
+  pub why_better : AllByRecursion (MeansBetter t list) f.carried
+  pub each_better : AllByRecursion (IsBetterTold f.relation.rows) f.carried
   pub each : sought ≡ true → map (λ c. c.pair) f.carried ≡ f.relation.arrows
 
 -- ---- a change
@@ -150,6 +160,8 @@ pub record MeansChange (sought : Bool) (t : DecisionTable) (xs ys : List Answer)
       → AreWholeChanges t (statements_in before) (statements_in now) f.pairs
   pub brought : AllByRecursion (MeansCarried t now) f.brought
   pub why : AllByRecursion (MeansPair t now) f.brought
+  pub why_better : AllByRecursion (MeansBetter t now) f.brought
+  pub each_better : AllByRecursion (IsBetterTold f.second.rows) f.brought
   pub each : sought ≡ true → map (λ c. c.pair) f.brought ≡ turned_pairs f.pairs.turned ++ f.pairs.new
 
 -- ---- the classes of an alternative

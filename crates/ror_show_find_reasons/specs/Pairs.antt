@@ -5,7 +5,7 @@ use Rattle.std.specs.Option.{option_and_then}
 use Rattle.ror_statement.specs.declared.statement.Numbered.{Numbered}
 use Rattle.ror_statement.specs.declared.question.Conclusion.TheVariants as conclusions
 use Rattle.ror_statement.specs.declared.question.Question.{Question}
-use Rattle.ror_statement.specs.declared.question.Question.TheVariants.{Necessary}
+use Rattle.ror_statement.specs.declared.question.Question.TheVariants.{Necessary, Possible}
 use Rattle.ror_table.specs.Table.{DecisionTable}
 use Rattle.ror_value.specs.Laws.{IsNecessarilyPreferred}
 use Rattle.ror_value.specs.Meaning.{IsConsistent}
@@ -17,6 +17,10 @@ use Rattle.ror_pivot.specs.declared.note.Bits.TheVariants.{B127}
 use Rattle.ror_pivot.specs.Answers.{most_of}
 use Rattle.ror_report.specs.Text.{answers_of}
 use Rattle.ror_bench.specs.declared.kept.KeptLine.{KeptLine}
+use Rattle.ror_show_find_relation.specs.declared.cell.Cell.{Cell}
+use Rattle.ror_show_find_relation.specs.declared.cell.Cell.TheVariants.{AlwaysBetter}
+use Rattle.ror_show_find_relation.specs.Meaning.{IsAlwaysBetter}
+use Rattle.ror_show_find_relation.specs.Rows.{cell_in}
 use Rattle.ror_show_find_relation.specs.Relations.{Square}
 use Rattle.ror_show_find_relation.specs.declared.page.RelationPage.{RelationPage}
 use Rattle.ror_show_find_relation.specs.Pages.{IsRelationPage, known}
@@ -56,15 +60,27 @@ CarriesWhere t list None told = told ≡ None
 abbrev pub IsCarriedBy : DecisionTable → List Numbered → List Answer → ℕ × ℕ → Option Reason → Type 0
 IsCarriedBy t list xs arrow told = CarriesWhere t list (find (says_over arrow) xs) told
 
+-- the answer is no, to whether by some function the second is at least as good as the first
+abbrev pub is_no_back : ℕ × ℕ → Question → Verdict → Bool
+is_no_back arrow (Possible b a) (verdicts.No proof) = b == arrow.1 && a == arrow.0
+is_no_back arrow _ _ = false
+
+abbrev pub denies_back : ℕ × ℕ → Answer → Bool
+denies_back arrow x = is_no_back arrow x.question x.verdict
+
+-- why the first is better by every function, by what some answers say
+abbrev pub IsBetterBy : DecisionTable → List Numbered → List Answer → ℕ × ℕ → Option Reason → Type 0
+IsBetterBy t list xs arrow told = CarriesWhere t list (find (denies_back arrow) xs) told
+
 -- ---- what is found
 
 -- the numbers of what carries a pair; none where it isn't known which statements can be spared
 abbrev pub carrying_numbers : CarriedPair → Option (List ℕ)
 carrying_numbers f = option_and_then numbers_of f.reason
 
--- a pair, with the reason that carries it, which may be one of several that do
+-- a pair, with the reason that carries it, and the one that carries that the first is always better; each may be one of several that do
 abbrev pub IsCarriedPair : DecisionTable → List Numbered → List Answer → ℕ × ℕ → CarriedPair → Type 0
-IsCarriedPair t list xs pair f = (f.pair ≡ pair) × IsCarriedBy t list xs pair f.reason
+IsCarriedPair t list xs pair f = (f.pair ≡ pair) × IsCarriedBy t list xs pair f.reason × IsBetterBy t list xs pair f.better
 
 -- one for each pair, in order
 abbrev pub AreCarriedPairs : DecisionTable → List Numbered → List Answer → List (ℕ × ℕ) → List CarriedPair → Type 0
@@ -158,5 +174,27 @@ abbrev pub MeansCarriedBy : DecisionTable → List Numbered → ℕ × ℕ → O
 MeansCarriedBy t list arrow (Some reason) = CarriesPair t list arrow reason
 MeansCarriedBy t list arrow None = ⊥
 
+-- The numbers name statements of the list. Some function agrees with these, and by every one that does the first alternative is worth more
+-- than the second; of those that agree with all of them but one, not by every one.
+pub record AreNeededStrictly (t : DecisionTable) (list : List Numbered) (arrow : ℕ × ℕ) (ns : List ℕ) : Type 0 where
+  pub numbers : AreNumbersIn list ns
+  pub better : IsAlwaysBetter t (stated ns list) arrow.0 arrow.1
+  pub needed : AllByRecursion (λ n. IsAlwaysBetter t (stated (without n ns) list) arrow.0 arrow.1 → ⊥) ns
+
+abbrev pub CarriesBetter : DecisionTable → List Numbered → ℕ × ℕ → Reason → Type 0
+CarriesBetter t list arrow (reasons.Carried x) = AreNeededStrictly t list arrow x.numbers
+CarriesBetter t list arrow (reasons.Wide ns x others) =
+    IsWideReason (most_of B127) t list (Possible arrow.1 arrow.0) conclusions.No ns x others
+CarriesBetter t list arrow _ = ⊥
+
+-- where it is said
+abbrev pub MeansBetterBy : DecisionTable → List Numbered → ℕ × ℕ → Option Reason → Type 0
+MeansBetterBy t list arrow (Some reason) = CarriesBetter t list arrow reason
+MeansBetterBy t list arrow None = Unit {0}
+
 abbrev pub MeansCarried : DecisionTable → List Numbered → CarriedPair → Type 0
-MeansCarried t list f = MeansCarriedBy t list f.pair f.reason
+MeansCarried t list f = MeansCarriedBy t list f.pair f.reason × MeansBetterBy t list f.pair f.better
+
+-- a pair whose cell has the first always better has a reason why
+abbrev pub IsBetterTold : List (List Cell) → CarriedPair → Type 0
+IsBetterTold rows f = cell_in rows f.pair.0 f.pair.1 ≡ AlwaysBetter → f.better ≡ None → ⊥

@@ -1,6 +1,6 @@
-//! Which statements carry an answer, and which of them carry each of some pairs.
+//! Which statements carry an answer, and which of them carry each of some pairs, and that the first is always better.
 
-ghost use Rattle.std.specs.Prelude.{◌≡◌, option_map, IfOk};
+ghost use Rattle.std.specs.Prelude.{◌≡◌, Ok, Err, option_map, IfOk};
 ghost use Rattle.std.specs.List.{find};
 ghost use Rattle.ror_statement.specs.Statements.{statements_in};
 ghost use Rattle.ror_value.specs.Over.{IsAskedIn};
@@ -93,7 +93,33 @@ fn find_pair(
     ensures { IfOk result (spec.IsCarriedPair stood.now.table.now stood.now.list.now stood.now.answers.now pair) }
 {
     let reason = carrying_of(alloc, engine, stood, pair)?;
-    Ok(CarriedPair { pair, reason })
+    let better = better_of(alloc, engine, stood, pair);
+    with_better(pair, reason, better)
+}
+
+/// The pair, where it is found why it is better. What is dropped on some paths alone takes long to prove, so each way takes the reason over.
+fn with_better(
+    pair: (usize, usize),
+    reason: Option<Reason>,
+    better: Result<Option<Reason>, AllocError>,
+) -> Result<CarriedPair, AllocError>
+    ensures { IfOk result (λ f. (f.pair ≡ pair) × (f.reason ≡ reason) × (better ≡ Ok f.better)) }
+{
+    match better {
+        Ok(better) => Ok(CarriedPair {
+            pair,
+            reason,
+            better,
+        }),
+        Err(error) => stopped(reason, error),
+    }
+}
+
+fn stopped(reason: Option<Reason>, error: AllocError) -> Result<CarriedPair, AllocError>
+    ensures { result ≡ Err error }
+{
+    drop(reason);
+    Err(error)
 }
 
 /// Why the one is at least as good as the other by every function; none where no answer says that it is.
@@ -125,6 +151,38 @@ fn says_over(answer: &Answer, arrow: (usize, usize)) -> bool
 {
     match (answer.question, &answer.verdict) {
         (Question::Necessary(a, b), Verdict::Yes(_)) => a == arrow.0 && b == arrow.1,
+        _ => false,
+    }
+}
+
+/// Why the one is better than the other by every function; none where no answer says that by no function the other is at least as good.
+fn better_of(
+    alloc: Global,
+    engine: &mut Engine,
+    stood: &Stood<'_>,
+    arrow: (usize, usize),
+) -> Result<Option<Reason>, AllocError>
+    requires { IsStood (stood_of stood.now) }
+    ensures { IfOk result (spec.IsBetterBy stood.now.table.now stood.now.list.now stood.now.answers.now arrow) }
+{
+    match answer_back(stood.answers, arrow) {
+        Some(answer) => told_by(alloc, engine, stood, answer),
+        None => Ok(None),
+    }
+}
+
+/// The first answer that says that by no function the other is at least as good as the one.
+fn answer_back(answers: &[Answer], arrow: (usize, usize)) -> Option<&Answer>
+    ensures { option_map (λ x. x.now) result ≡ find (spec.denies_back arrow) answers.now }
+{
+    answers.iter().find(|answer| denies_back(answer, arrow))
+}
+
+fn denies_back(answer: &Answer, arrow: (usize, usize)) -> bool
+    ensures { result ≡ spec.denies_back arrow answer.now }
+{
+    match (answer.question, &answer.verdict) {
+        (Question::Possible(b, a), Verdict::No(_)) => b == arrow.1 && a == arrow.0,
         _ => false,
     }
 }

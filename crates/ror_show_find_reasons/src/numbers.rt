@@ -6,7 +6,7 @@ ghost use Rattle.ror_show_find_reasons.specs.Carrying as spec;
 use ror_reason::Reason;
 
 /// The numbers of a reduct; none where it isn't known which statements can be spared.
-pub(crate) fn numbers_of(reason: &Reason) -> Option<&[u32]>
+pub fn numbers_of(reason: &Reason) -> Option<&[u32]>
     ensures { option_map (λ x. x.now) result ≡ spec.numbers_of reason.now }
 {
     match reason {

@@ -14,6 +14,8 @@ pub struct CarriedPair {
     pub pair: (usize, usize),
     /// None where no answer says that it is.
     pub reason: Option<Reason>,
+    /// Why the first is better by every function; none where no answer says that by no function the second is at least as good.
+    pub better: Option<Reason>,
 }
 
 impl CarriedPair {

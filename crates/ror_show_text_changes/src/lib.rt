@@ -12,7 +12,7 @@
 //!
 //!   statements that carry what is turned round or new now
 //!   (of these alone none can be spared; others may carry it too)
-//!      bridge -> mill   4
+//!      bridge -> mill   4   always better by the same
 //! ```
 //!
 //! Each time at which classes were asked for stands with the last one before it at its desk: how many alternatives are settled before and now,

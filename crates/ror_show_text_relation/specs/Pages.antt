@@ -17,7 +17,7 @@ use Rattle.ror_show_text_relation.specs.ArrowText.{arrow_line}
 -- ---- pairs with what carries them
 
 abbrev pub pair_line : DecisionTable → CarriedPair → List ℕ
-pair_line t f = arrow_line t f.pair (carrying_numbers f)
+pair_line t f = arrow_line t f.pair (carrying_numbers f) f.better
 
 -- below a head; nothing where there are none
 abbrev pub carried_text : DecisionTable → List ℕ → List CarriedPair → List ℕ

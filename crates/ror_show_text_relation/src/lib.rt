@@ -11,9 +11,9 @@
 //! ```text
 //!
 //!   statements that carry each arrow (of these alone none can be spared; others may carry it too)
-//!      c01 -> c09   1 4
+//!      c01 -> c09   1 4   always better by the same
 //!      c09 -> c10   none is needed
-//!      c10 -> c14   1
+//!      c10 -> c14   1   always better by the same
 //! ```
 #![tactic(auto)]
 
