@@ -26,11 +26,8 @@ fn likely_head(bytes: &[u8], look: Look) -> Said<'_> {
         Look::Levels => {
             say(b"this is a file of levels: the files are TABLE SESSION LEVELS, in this order")
         }
-        Look::Commas if has(line, b";") => say(
-            b"a CSV file, with semicolons between: write blanks there, `ror-table 1`, `criterion NAME max` (or min) of each column, and `alternative NAME NUMBER ..` of each row",
-        ),
         Look::Commas => say(
-            b"a CSV file, with commas between: write blanks there, `ror-table 1`, `criterion NAME max` (or min) of each column, and `alternative NAME NUMBER ..` of each row",
+            b"a CSV file: `./ror_show import` makes a table of it, where each criterion has a direction, `min` or `max`",
         ),
         Look::Table => likely_first_line(first_word(line)),
         Look::Other => likely_other(line),

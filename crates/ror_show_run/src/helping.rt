@@ -9,7 +9,8 @@ use ror_show_advice::{
     ReportFault, missing_advice, report_advice, session_advice, table_advice, usage_advice,
 };
 use ror_show_hints::File;
-use ror_show_words::{Asked, PageWords, read_words, usage};
+use ror_show_import::told_of;
+use ror_show_words::{Asked, ImportWords, PageWords, read_words, usage};
 use std::alloc::{AllocError, Global};
 
 /// The names of the files that words ask for, in the order in which they are fetched; empty ones behind the last.
@@ -49,8 +50,27 @@ fn advice_for(
     ensures { IfOk result (λ text. StandsApart text.items) }
 {
     match read_words(alloc, words) {
+        Ok(Asked::OfSpreadsheet(words)) => import_advice(alloc, &words, status, kept),
         Ok(asked) => advice_on(alloc, &names_of(&asked), status, kept, fetches),
         Err(_) => usage_advice(alloc, usage(), words),
+    }
+}
+
+/// What is told of a spreadsheet that was fetched.
+fn import_advice(
+    alloc: Global,
+    words: &ImportWords<'_>,
+    status: &Status,
+    kept: Option<&[u8]>,
+) -> Result<Vec<u8>, AllocError>
+    ensures { IfOk result (λ text. StandsApart text.items) }
+{
+    if matches!(status, Status::ReadFault) {
+        return missing_advice(alloc, words.file);
+    }
+    match kept {
+        Some(bytes) => told_of(alloc, bytes, words),
+        None => Ok(Vec::new(alloc)),
     }
 }
 
@@ -66,6 +86,12 @@ fn names_of<'a>(asked: &Asked<'a>) -> Names<'a> {
         Asked::OfFiles(words) => Names {
             table: words.table,
             session: words.session.unwrap_or(""),
+            third: "",
+            fourth: "",
+        },
+        Asked::OfSpreadsheet(words) => Names {
+            table: words.file,
+            session: "",
             third: "",
             fourth: "",
         },

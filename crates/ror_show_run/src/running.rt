@@ -10,7 +10,7 @@ ghost use Rattle.ror_show_advice.specs.Apart.{StandsApart};
 ghost use Rattle.ror_show_words.specs.Words.{asked};
 ghost use Rattle.ror_show_words.specs.Named.{asked_with};
 ghost use Rattle.ror_show_run.specs.Chores.{chore_of, status_line};
-ghost use Rattle.ror_show_run.specs.Saying.{GrowsApart, SaysFirst, wants_help};
+ghost use Rattle.ror_show_run.specs.Saying.{GrowsApart, SaysFirst, is_import, wants_help};
 
 use crate::helping::help_on;
 use crate::keeping::KeepingShelf;
@@ -19,11 +19,13 @@ use crate::show::show_page;
 use ror_frame::{Status, Stop, write_status};
 use ror_io::{Shelf, Sink, SinkFault, write_all};
 use ror_show_check::check_certificates;
+use ror_show_import::import_sheet;
 use ror_show_words::{Asked, WordsFault, read_words, usage};
 use std::alloc::Global;
 
 /// Writes the page that the words name, over files, standard output and standard error. Behind the line of a status that says of a
-/// file or of the words that they are at fault stands what may help, by the bytes that were fetched: no file is fetched for that.
+/// file or of the words that they are at fault stands what may help, and behind an import how the sheet was read, by the bytes that were
+/// fetched: no file is fetched for that.
 pub fn run<F: Shelf, O: Sink, E: Sink>(
     alloc: Global,
     words: &[String],
@@ -37,7 +39,8 @@ pub fn run<F: Shelf, O: Sink, E: Sink>(
         (sink_state (O.written out.old) (O.faults out.old))
         (sink_state (O.written out.new) (O.faults out.new)) result }
     ensures err_never_falls { E.faults err.old ≤ E.faults err.new }
-    ensures errors { SaysFirst result (E.faults err.old) (E.faults err.new) (E.written err.old) (E.written err.new) }
+    ensures errors { SaysFirst (map string_bytes words.now) result (E.faults err.old) (E.faults err.new)
+        (E.written err.old) (E.written err.new) }
 {
     let status = status_of(alloc, words, shelf, out);
     say(alloc, words, &status, shelf.kept(), shelf.fetches(), err);
@@ -54,12 +57,13 @@ fn say<E: Sink>(
     err: &mut E,
 )
     ensures err_never_falls { E.faults err.old ≤ E.faults err.new }
-    ensures errors { SaysFirst status.now (E.faults err.old) (E.faults err.new) (E.written err.old) (E.written err.new) }
+    ensures errors { SaysFirst (map string_bytes words.now) status.now (E.faults err.old) (E.faults err.new)
+        (E.written err.old) (E.written err.new) }
 {
     let Ok(()) = write_line(err, status) else {
         return;
     };
-    if wants_help(status) {
+    if wants_help(words, status) {
         let helps = help_on(alloc, words, status, kept, fetches);
         write_help(err, helps.as_slice());
     }
@@ -75,17 +79,28 @@ fn write_help<E: Sink>(err: &mut E, helps: &[u8])
 }
 
 /// Whether anything helps.
-fn wants_help(status: &Status) -> bool
-    ensures { result ≡ wants_help status.now }
+fn wants_help(words: &[String], status: &Status) -> bool
+    ensures { result ≡ wants_help (map string_bytes words.now) status.now }
 {
-    matches!(
-        status,
+    match status {
         Status::Usage
-            | Status::BadTable(_)
-            | Status::BadSession(_)
-            | Status::Rejected(_)
-            | Status::ReadFault
-    )
+        | Status::BadTable(_)
+        | Status::BadSession(_)
+        | Status::Rejected(_)
+        | Status::ReadFault => true,
+        Status::Done => is_import(words),
+        _ => false,
+    }
+}
+
+/// Whether the words are of an import, which tells how the sheet was read.
+fn is_import(words: &[String]) -> bool
+    ensures { result ≡ is_import (map string_bytes words.now) }
+{
+    match words.first() {
+        Some(word) => word.as_str() == "import",
+        None => false,
+    }
 }
 
 /// The status of a run, whose output is written.
@@ -132,6 +147,7 @@ fn work_on<F: Shelf, O: Sink>(
             show_sheet(alloc, &files, shelf, out)
         }
         Asked::OfCheck(words) => check_certificates(alloc, words, shelf, out),
+        Asked::OfSpreadsheet(words) => import_sheet(alloc, words, shelf, out),
     }
 }
 

@@ -6,7 +6,7 @@ use Rattle.clap.specs.declared.error.kind.ErrorKind.{ErrorKind}
 use Rattle.clap.specs.declared.parser.matches.Found.{Found}
 use Rattle.clap.proofs.OnLiterals.{clap_on_literals}
 use Rattle.clap.proofs.WalkLemmas.{first_value-rows, raw_values-rows}
-use Rattle.ror_show_words.specs.Words.{named_app, single_app, page_app, words_of, given_in, check_app, check_words_of, check_in, sheet_app, sheet_words_of, sheet_in}
+use Rattle.ror_show_words.specs.Words.{named_app, single_app, page_app, words_of, given_in, check_app, check_words_of, check_in, sheet_app, sheet_words_of, sheet_in, import_app, import_words_of, import_in}
 
 pub simple : is_simple page_app ≡ true
 unfolding page_app single_app named_app clap_on_literals
@@ -77,3 +77,25 @@ check-taken words found none same =
 pub check-refused : (words : List Text) (k : ErrorKind) → IsAmong k (fault_of check_app words) → check_in words ≡ None
 unfolding check_in
 check-refused words k among = rw (some_kind k (fault_of check_app words) among) refl
+
+-- ---- the same of the table of a spreadsheet
+
+pub import-simple : is_simple import_app ≡ true
+unfolding import_app clap_on_literals
+import-simple = refl
+
+pub import-free : is_simple_and_free import_app ≡ true
+unfolding import_app clap_on_literals
+import-free = refl
+
+same_options : (f g : Text → Option Text) → ((id : Text) → f id ≡ g id) → import_words_of f ≡ import_words_of g
+same_options f g same = rw (same (codes "FILE"), same (codes "min"), same (codes "max"), same (codes "linear")) refl
+
+pub import-taken : (words : List Text) (found : Found) → fault_of import_app words ≡ [] → rows_of found ≡ matches_of import_app words → import_words_of (first_value found) ≡ import_in words
+unfolding import_in
+import-taken words found none same =
+    rw none (same_options (first_value found) (λ id. first_of id (matches_of import_app words)) (λ id. first_value-rows found id ∙ ap (first_of id) same))
+
+pub import-refused : (words : List Text) (k : ErrorKind) → IsAmong k (fault_of import_app words) → import_in words ≡ None
+unfolding import_in
+import-refused words k among = rw (some_kind k (fault_of import_app words) among) refl

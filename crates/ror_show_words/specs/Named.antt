@@ -7,8 +7,9 @@ use Rattle.ror_show_words.specs.declared.words.PageWords as words
 use Rattle.ror_show_words.specs.declared.words.PairWords as pairs
 use Rattle.ror_show_words.specs.declared.words.CheckWords as checks
 use Rattle.ror_show_words.specs.declared.words.SheetWords as sheets
+use Rattle.ror_show_words.specs.declared.words.ImportWords as imports
 use Rattle.ror_show_words.specs.Commands.{Row}
-use Rattle.ror_show_words.specs.Words.{PageWords, PairWords, CheckWords, SheetWords, Asked, OfReport, OfFiles, OfCheck}
+use Rattle.ror_show_words.specs.Words.{PageWords, PairWords, CheckWords, SheetWords, ImportWords, Asked, OfReport, OfFiles, OfCheck, OfSpreadsheet}
 
 abbrev pub row_with : rows.Row → Row
 row_with row = record {
@@ -50,7 +51,16 @@ sheet_words_of given = record {
   best_first = given.best_first;
 }
 
+abbrev pub import_words_of : imports.ImportWords → ImportWords
+import_words_of given = record {
+  file = given.file.now;
+  min = option_map (λ word. word.now) given.min;
+  max = option_map (λ word. word.now) given.max;
+  linear = option_map (λ word. word.now) given.linear;
+}
+
 abbrev pub asked_with : given.Asked → Asked
 asked_with (asked.OfReport page words) = OfReport page (page_words_of words)
 asked_with (asked.OfFiles words) = OfFiles (sheet_words_of words)
 asked_with (asked.OfCheck words) = OfCheck (check_words_of words)
+asked_with (asked.OfSpreadsheet words) = OfSpreadsheet (import_words_of words)

@@ -13,7 +13,7 @@ use Rattle.ror_show_words.specs.declared.table.Page.{Page}
 use Rattle.ror_show_words.specs.declared.words.Form.{Form}
 use Rattle.ror_show_words.specs.declared.words.Form.TheVariants as forms
 use Rattle.ror_show_words.specs.declared.table.Shown.{Shown}
-use Rattle.ror_show_words.specs.declared.table.Shown.TheVariants.{Report, Sheet, Check}
+use Rattle.ror_show_words.specs.declared.table.Shown.TheVariants.{Report, Sheet, Check, Import}
 use Rattle.ror_show_words.specs.Commands.{Row, row_for, form_text}
 
 -- ---- what a page takes
@@ -65,6 +65,11 @@ unfoldable pub sheet_app : App
 sheet_app = with_rule (with_rule (with_rule bare_app (name_rule (codes "TABLE"))) (spare_rule (codes "SESSION")))
     (flag_rule (codes "best-first"))
 
+-- the table of a spreadsheet has the name of its file, and options that name criteria
+unfoldable pub import_app : App
+import_app = with_rule (with_rule (with_rule (with_rule bare_app (name_rule (codes "FILE"))) (option_rule (codes "min")))
+    (option_rule (codes "max"))) (option_rule (codes "linear"))
+
 -- ---- what words give
 
 -- the names of two alternatives
@@ -98,11 +103,19 @@ pub record CheckWords : Type 0 where
   pub certificates : List ℕ
   pub best_first : Bool
 
--- what words ask for: a page of a report, what was read of files, or whether certificates are proved
+-- the name of a spreadsheet's file, and the names of criteria of which smaller or greater values are better, and of linear ones
+pub record ImportWords : Type 0 where
+  pub file : List ℕ
+  pub min : Option (List ℕ)
+  pub max : Option (List ℕ)
+  pub linear : Option (List ℕ)
+
+-- what words ask for: a page of a report, what was read of files, whether certificates are proved, or the table of a spreadsheet
 pub data Asked : Type 0 where
   OfReport : Page → PageWords → Asked
   OfFiles : SheetWords → Asked
   OfCheck : CheckWords → Asked
+  OfSpreadsheet : ImportWords → Asked
 
 -- the number of a line has 1 to 9 digits, and isn't 0
 abbrev pub line_of : List ℕ → Option ℕ
@@ -170,6 +183,15 @@ sheet_words_of found = option_map (λ table. record {
   best_first = is_given (found (codes "best-first"));
 }) (found (codes "TABLE"))
 
+-- the same of the table of a spreadsheet
+abbrev pub import_words_of : (Text → Option Text) → Option ImportWords
+import_words_of found = option_map (λ file. record {
+  file = file;
+  min = found (codes "min");
+  max = found (codes "max");
+  linear = found (codes "linear");
+}) (found (codes "FILE"))
+
 -- What stands after the word of a page gives: what is found in it, where the command takes it, which is where it has no fault.
 unfoldable pub given_in : List (List ℕ) → Option PageWords
 given_in words = if length (fault_of page_app words) == 0
@@ -182,6 +204,10 @@ check_in words = if length (fault_of check_app words) == 0
 unfoldable pub sheet_in : List (List ℕ) → Option SheetWords
 sheet_in words = if length (fault_of sheet_app words) == 0
     then sheet_words_of (λ id. first_of id (matches_of sheet_app words)) else None
+
+unfoldable pub import_in : List (List ℕ) → Option ImportWords
+import_in words = if length (fault_of import_app words) == 0
+    then import_words_of (λ id. first_of id (matches_of import_app words)) else None
 
 -- ---- which of them a page takes, by its row
 
@@ -219,6 +245,7 @@ abbrev pub asked_by : Row → Shown → List (List ℕ) → Option Asked
 asked_by row (Report page) words = option_and_then (of_report row page) (given_in words)
 asked_by row Sheet words = option_map OfFiles (sheet_in words)
 asked_by row Check words = option_map OfCheck (check_in words)
+asked_by row Import words = option_map OfSpreadsheet (import_in words)
 
 -- None of words that ask for nothing
 unfoldable pub asked : List (List ℕ) → Option Asked

@@ -2,7 +2,7 @@
 
 ghost use Rattle.std.specs.Prelude.{◌≡◌, IfOk};
 ghost use Rattle.clap.specs.Words.{app_of, with_rule};
-ghost use Rattle.ror_show_words.specs.Words.{name_rule, spare_rule, option_rule, flag_rule, pair_rule, bare_app, named_app, single_app, page_app, check_app, sheet_app};
+ghost use Rattle.ror_show_words.specs.Words.{name_rule, spare_rule, option_rule, flag_rule, pair_rule, bare_app, named_app, single_app, page_app, check_app, sheet_app, import_app};
 
 use clap::{Arg, ArgAction, Command};
 use std::alloc::{AllocError, Global};
@@ -43,6 +43,17 @@ pub(crate) fn sheet_command<'a>(alloc: Global) -> Result<Command<'a>, AllocError
     let command = with_name(alloc, bare_command(alloc), "TABLE")?;
     let command = with_spare_name(alloc, command, "SESSION")?;
     with_flag(alloc, command, "best-first")
+}
+
+/// The name and options after the word of the table of a spreadsheet.
+#[tactic(auto, unfolding(crate::specs::Words::import_app))]
+pub(crate) fn import_command<'a>(alloc: Global) -> Result<Command<'a>, AllocError>
+    ensures { IfOk result (λ c. app_of c ≡ import_app) }
+{
+    let command = with_name(alloc, bare_command(alloc), "FILE")?;
+    let command = with_option(alloc, command, "min")?;
+    let command = with_option(alloc, command, "max")?;
+    with_option(alloc, command, "linear")
 }
 
 /// A command with the names of the three files.

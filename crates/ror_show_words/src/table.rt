@@ -35,6 +35,8 @@ pub(crate) enum Shown {
     Sheet,
     /// Whether certificates of reasons are proved.
     Check,
+    /// The plain table that a spreadsheet leads to.
+    Import,
 }
 
 /// Of which lines of the session a page may be.
@@ -61,7 +63,7 @@ pub(crate) struct Row {
     pub(crate) forms: &'static [Form],
 }
 
-const TABLE: [Row; 8] = [
+const TABLE: [Row; 9] = [
     Row {
         shown: Shown::Sheet,
         word: "read",
@@ -118,13 +120,20 @@ const TABLE: [Row; 8] = [
         pair: false,
         forms: &[Form::Text],
     },
+    Row {
+        shown: Shown::Import,
+        word: "import",
+        lines: Lines::NoLine,
+        pair: false,
+        forms: &[Form::Text],
+    },
 ];
 
 /// The usage line: the pages of the table, each with its names and options.
 pub fn usage() -> &'static str
     ensures { result.now ≡ usage_text }
 {
-    "usage: ror_show read TABLE [SESSION] [--best-first] | ror_show relation TABLE SESSION REPORT [--best-first] [--desk NAME] [--line N] [--as text|csv|dot] | ror_show changes TABLE SESSION REPORT [--best-first] [--desk NAME] [--as text|csv] | ror_show classes TABLE SESSION REPORT [--best-first] [--desk NAME] [--as text|csv] | ror_show standing TABLE SESSION REPORT [--best-first] [--desk NAME] [--line N] | ror_show functions TABLE SESSION REPORT [--best-first] [--desk NAME] --line N [--as text|csv] | ror_show why TABLE SESSION REPORT [--best-first] [--desk NAME] [--line N] [--pair A B] [--as text|certificates] | ror_show check-why TABLE SESSION REPORT CERTIFICATES [--best-first]\n"
+    "usage: ror_show read TABLE [SESSION] [--best-first] | ror_show relation TABLE SESSION REPORT [--best-first] [--desk NAME] [--line N] [--as text|csv|dot] | ror_show changes TABLE SESSION REPORT [--best-first] [--desk NAME] [--as text|csv] | ror_show classes TABLE SESSION REPORT [--best-first] [--desk NAME] [--as text|csv] | ror_show standing TABLE SESSION REPORT [--best-first] [--desk NAME] [--line N] | ror_show functions TABLE SESSION REPORT [--best-first] [--desk NAME] --line N [--as text|csv] | ror_show why TABLE SESSION REPORT [--best-first] [--desk NAME] [--line N] [--pair A B] [--as text|certificates] | ror_show check-why TABLE SESSION REPORT CERTIFICATES [--best-first] | ror_show import FILE [--min NAMES] [--max NAMES] [--linear NAMES]\n"
 }
 
 /// The row of the page with this word.

@@ -8,12 +8,12 @@ ghost use Rattle.clap.specs.Words.{found_of, first_value, matched_of, raw_values
 ghost use Rattle.ror_show_words.specs.declared.table.Shown.TheVariants.{Report};
 ghost use Rattle.ror_show_words.specs.Commands as commands;
 ghost use Rattle.ror_show_words.specs.Words as spec;
-ghost use Rattle.ror_show_words.specs.Words.{line_of, form_of, if_given, words_of, given_in, sheet_in, fits, check_in, asked_by, asked};
+ghost use Rattle.ror_show_words.specs.Words.{line_of, form_of, if_given, words_of, given_in, sheet_in, fits, check_in, import_in, asked_by, asked};
 ghost use Rattle.ror_show_words.specs.Named as named;
 ghost use Rattle.ror_show_words.specs.Named.{row_with, page_words_of, asked_with};
 ghost use Rattle.ror_show_words.specs.declared.words.WordsFault.TheVariants.{Unknown};
 
-use crate::command::{check_command, page_command, sheet_command};
+use crate::command::{check_command, import_command, page_command, sheet_command};
 use crate::table::{Lines, Page, Row, Shown, row_for};
 use clap::error::ErrorKind;
 use clap::{ArgMatches, Error};
@@ -88,6 +88,19 @@ pub struct SheetWords<'a> {
     pub best_first: bool,
 }
 
+/// The names of the table of a spreadsheet.
+#[derive(Debug, Drop)]
+pub struct ImportWords<'a> {
+    /// The file with the spreadsheet.
+    pub file: &'a str,
+    /// The criteria of which smaller values are better, by their names with commas between.
+    pub min: Option<&'a str>,
+    /// The criteria of which greater values are better.
+    pub max: Option<&'a str>,
+    /// The linear criteria.
+    pub linear: Option<&'a str>,
+}
+
 /// What words ask for.
 #[derive(Debug, Drop)]
 pub enum Asked<'a> {
@@ -97,6 +110,8 @@ pub enum Asked<'a> {
     OfFiles(SheetWords<'a>),
     /// Whether certificates are proved.
     OfCheck(CheckWords<'a>),
+    /// The plain table of a spreadsheet.
+    OfSpreadsheet(ImportWords<'a>),
 }
 
 /// Why words ask for nothing.
@@ -138,6 +153,7 @@ pub fn read_words(alloc: Global, words: &[String]) -> Result<Asked<'_>, WordsFau
         Shown::Report(page) => report_asked(alloc, &row, page, rest),
         Shown::Sheet => Ok(Asked::OfFiles(sheet_words(alloc, rest)?)),
         Shown::Check => Ok(Asked::OfCheck(check_words(alloc, rest)?)),
+        Shown::Import => Ok(Asked::OfSpreadsheet(import_words(alloc, rest)?)),
     }
 }
 
@@ -277,6 +293,30 @@ fn sheet_words_found<'w>(matches: &ArgMatches<'w>) -> Option<SheetWords<'w>>
         table: matches.get_str("TABLE")?,
         session: matches.get_str("SESSION"),
         best_first: matches.get_str("best-first") == Some("true"),
+    })
+}
+
+/// What the words after that of the table of a spreadsheet give.
+#[tactic(auto, unfolding(crate::specs::Words::import_in))]
+fn import_words(alloc: Global, words: &[String]) -> Result<ImportWords<'_>, WordsFault>
+    ensures { MatchResult result (λ w. import_in (map string_bytes words.now) ≡ Some (named.import_words_of w))
+        (λ e. e ≡ Unknown → import_in (map string_bytes words.now) ≡ None) }
+{
+    match import_command(alloc)?.try_get_matches_from(words) {
+        Ok(matches) => import_words_found(&matches).ok_or(WordsFault::Unknown),
+        Err(error) => Err(fault_with(&error)),
+    }
+}
+
+/// What was found.
+fn import_words_found<'w>(matches: &ArgMatches<'w>) -> Option<ImportWords<'w>>
+    ensures { option_map named.import_words_of result ≡ spec.import_words_of (first_value (found_of matches.now)) }
+{
+    Some(ImportWords {
+        file: matches.get_str("FILE")?,
+        min: matches.get_str("min"),
+        max: matches.get_str("max"),
+        linear: matches.get_str("linear"),
     })
 }
 

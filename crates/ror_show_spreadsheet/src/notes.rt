@@ -1,0 +1,259 @@
+//! What is told of a spreadsheet: how it was read, which ids stand for names, and where a fault is.
+
+ghost use Rattle.std.specs.Prelude.{◌≡◌, ◌+◌, ◌<◌, ◌^◌, ◌++◌, OnOk};
+ghost use Rattle.ror_show_spreadsheet.specs.Import.{before_of};
+ghost use Rattle.ror_show_spreadsheet.specs.Notes as spec;
+ghost use Rattle.ror_show_spreadsheet.specs.Sheet.{sheet_with};
+
+use crate::columns::words_of;
+use crate::fault::{OptionName, SheetFault, SheetKind};
+use crate::import::{before_of, rows_behind};
+use crate::names::{column_id, row_id};
+use crate::numbers::{CellTest, Numerals, any_cell};
+use crate::row::Row;
+use crate::separator::Separator;
+use crate::spreadsheet::Spreadsheet;
+use itoa::Buffer;
+use ror_table::What;
+use std::alloc::{AllocError, Global};
+
+/// Adds what separates the cells of a sheet and how its numbers are written, and each name that isn't its own id, behind its id.
+///
+/// # Errors
+///
+/// Only want of memory.
+#[tactic(auto, unfolding(crate::specs::Notes::notes_text))]
+pub fn write_notes(
+    alloc: Global,
+    text: &mut Vec<u8>,
+    sheet: &Spreadsheet,
+    numerals: Numerals,
+) -> Result<(), AllocError>
+    ensures { OnOk result (text.new.items ≡ text.old.items ++ spec.notes_text (sheet_with sheet.now) numerals) }
+{
+    write_layout(text, sheet.separator, numerals.mark)?;
+    let rows = sheet.rows.as_slice();
+    if let Some(head) = rows.first() {
+        write_column_notes(alloc, text, head)?;
+    }
+    let before = before_of(words_of(rows));
+    write_row_notes(alloc, text, before, rows_behind(before, rows))
+}
+
+#[tactic(auto, unfolding(crate::specs::Notes::layout_text))]
+fn write_layout(text: &mut Vec<u8>, separator: Separator, mark: u8) -> Result<(), AllocError>
+    ensures { OnOk result (text.new.items ≡ text.old.items ++ spec.layout_text separator mark) }
+{
+    text.extend_from_slice(b"cells between ")?;
+    text.extend_from_slice(separator_words(separator))?;
+    text.extend_from_slice(b", decimals with a ")?;
+    text.extend_from_slice(mark_words(mark))?;
+    text.extend_from_slice(b"\n")
+}
+
+fn separator_words(separator: Separator) -> &'static [u8]
+    ensures { result.now ≡ spec.separator_words separator }
+{
+    match separator {
+        Separator::Comma => b"commas",
+        Separator::Semicolon => b"semicolons",
+        Separator::Tab => b"tabs",
+    }
+}
+
+fn mark_words(mark: u8) -> &'static [u8]
+    ensures { result.now ≡ spec.mark_words mark }
+{
+    if mark == b',' { b"comma" } else { b"point" }
+}
+
+/// Adds the names of criteria that aren't their own ids.
+fn write_column_notes(alloc: Global, text: &mut Vec<u8>, head: &Row) -> Result<(), AllocError>
+    ensures { OnOk result (text.new.items ≡ text.old.items ++ spec.column_notes head.now) }
+{
+    for place in 1..head.width() {
+        write_column_note(alloc, text, place, head.cell(place))?;
+    }
+    Ok(())
+}
+
+#[tactic(auto, unfolding(crate::specs::Notes::column_note))]
+fn write_column_note(
+    alloc: Global,
+    text: &mut Vec<u8>,
+    place: usize,
+    name: &[u8],
+) -> Result<(), AllocError>
+    requires { place + 1 < 2 ^ 64 }
+    ensures { OnOk result (text.new.items ≡ text.old.items ++ spec.column_note place name.now) }
+{
+    let id = column_id(alloc, place + 1, name)?;
+    write_note(text, &id, name)
+}
+
+/// Adds the names of alternatives that aren't their own ids.
+fn write_row_notes(
+    alloc: Global,
+    text: &mut Vec<u8>,
+    before: usize,
+    rows: &[Row],
+) -> Result<(), AllocError>
+    requires { before ≤ 2 }
+    ensures { OnOk result (text.new.items ≡ text.old.items ++ spec.row_notes before rows.now) }
+{
+    for (place, row) in rows.iter().enumerate() {
+        write_row_note(alloc, text, before, place, row)?;
+    }
+    Ok(())
+}
+
+#[tactic(auto, unfolding(crate::specs::Notes::row_note))]
+fn write_row_note(
+    alloc: Global,
+    text: &mut Vec<u8>,
+    before: usize,
+    place: usize,
+    row: &Row,
+) -> Result<(), AllocError>
+    requires { before + place + 1 < 2 ^ 64 }
+    ensures { OnOk result (text.new.items ≡ text.old.items ++ spec.row_note before (place, row.now)) }
+{
+    if !any_cell(CellTest::HasText, 0, row) {
+        return Ok(());
+    }
+    let id = row_id(alloc, before + place + 1, row.cell(0))?;
+    write_note(text, &id, row.cell(0))
+}
+
+/// Adds a name behind its id, where they differ.
+#[tactic(auto, unfolding(crate::specs::Notes::note_text))]
+fn write_note(text: &mut Vec<u8>, id: &[u8], name: &[u8]) -> Result<(), AllocError>
+    ensures { OnOk result (text.new.items ≡ text.old.items ++ spec.note_text id.now name.now) }
+{
+    if id == name {
+        return Ok(());
+    }
+    text.extend_from_slice(b"name     ")?;
+    text.extend_from_slice(id)?;
+    text.extend_from_slice(b"  ")?;
+    write_shown(text, name)?;
+    text.extend_from_slice(b"\n")
+}
+
+/// Adds a text of a sheet, with question marks for what would end a line or steer a screen.
+fn write_shown(text: &mut Vec<u8>, name: &[u8]) -> Result<(), AllocError>
+    ensures { OnOk result (text.new.items ≡ text.old.items ++ spec.shown name.now) }
+{
+    'bytes: for byte in name {
+        text.push(shown_byte(*byte))?;
+    }
+    Ok(())
+}
+
+fn shown_byte(byte: u8) -> u8
+    ensures { result ≡ spec.shown_byte byte }
+{
+    if byte < 0x20 || byte == 0x7F {
+        b'?'
+    } else {
+        byte
+    }
+}
+
+/// Adds where a fault of a sheet with these rows is, what stands there, and what is wrong and helps, in words of which nothing is promised.
+///
+/// # Errors
+///
+/// Only want of memory.
+pub fn write_fault(text: &mut Vec<u8>, rows: &[Row], fault: SheetFault) -> Result<(), AllocError>
+    ensures { OnOk result (spec.AddsFault rows.now fault text.old.items text.new.items) }
+{
+    write_place(text, rows, fault)?;
+    text.extend_from_slice(wrong(fault.kind))?;
+    text.extend_from_slice(b"\n")
+}
+
+#[tactic(auto, unfolding(crate::specs::Notes::place_text))]
+fn write_place(text: &mut Vec<u8>, rows: &[Row], fault: SheetFault) -> Result<(), AllocError>
+    ensures { OnOk result (text.new.items ≡ text.old.items ++ spec.place_text rows.now fault) }
+{
+    if fault.row == 0 {
+        return Ok(());
+    }
+    write_number(text, b"row ", fault.row)?;
+    if fault.column > 0 {
+        write_number(text, b", column ", fault.column)?;
+        write_there(text, rows, fault)?;
+    }
+    text.extend_from_slice(b": ")
+}
+
+/// Adds what stands in the cell of a fault, if anything does.
+#[tactic(auto, unfolding(crate::specs::Notes::there_text))]
+fn write_there(text: &mut Vec<u8>, rows: &[Row], fault: SheetFault) -> Result<(), AllocError>
+    ensures { OnOk result (text.new.items ≡ text.old.items ++ spec.there_text (spec.there rows.now fault)) }
+{
+    let there = there(rows, fault);
+    if there.is_empty() {
+        return Ok(());
+    }
+    text.extend_from_slice(b", `")?;
+    write_shown(text, there)?;
+    text.extend_from_slice(b"`")
+}
+
+/// The cell of a fault; empty where there is none.
+fn there(rows: &[Row], fault: SheetFault) -> &[u8]
+    ensures { result.now ≡ spec.there rows.now fault }
+{
+    match rows.get(fault.row.saturating_sub(1)) {
+        Some(row) => row.cell(fault.column.saturating_sub(1)),
+        None => &[],
+    }
+}
+
+fn write_number(text: &mut Vec<u8>, before: &[u8], number: usize) -> Result<(), AllocError>
+    ensures { OnOk result (text.new.items ≡ text.old.items ++ spec.numbered before.now number) }
+{
+    text.extend_from_slice(before)?;
+    text.extend_from_slice(Buffer::new().format(number).as_bytes())
+}
+
+/// What is wrong, and what helps.
+fn wrong(kind: SheetKind) -> &'static [u8] {
+    match kind {
+        SheetKind::TooLong => b"at most 16,777,216 bytes: this is another file",
+        SheetKind::Utf16 => b"this is UTF-16, as Excel writes `Unicode text`: save as `CSV UTF-8`",
+        SheetKind::NotUtf8 => b"no UTF-8, perhaps Latin-1: save as UTF-8, or convert by `iconv -f ISO-8859-1 -t UTF-8`",
+        SheetKind::Nul => b"a byte 0, which no text has: this may be UTF-16 without its mark, or no CSV; save as `CSV UTF-8`",
+        SheetKind::TooManyRows => b"at most 1,000 rows: leave out those that aren't alternatives",
+        SheetKind::OneColumn => b"no comma, semicolon or tab in the row of names: a name of the first column, and one for each criterion",
+        SheetKind::Ragged => b"not as many cells as in the first row: is a separator in a cell without quotation marks, or a cell missing?",
+        SheetKind::NoName => b"no name",
+        SheetKind::RepeatedId => b"an earlier one has this name, or one that gets the same id",
+        SheetKind::BadDirection => b"no direction: write `min` or `max`, and ` linear` behind it if the criterion is",
+        SheetKind::NoDirection => b"no direction: write `min` or `max` below it in a second row, or name it by `--min` or `--max`",
+        SheetKind::TwoDirections => b"two directions: say it once, in the second row, by `--min` or by `--max`",
+        SheetKind::UnknownName(OptionName::Min) => b"`--min` has a name that no criterion has in the first row",
+        SheetKind::UnknownName(OptionName::Max) => b"`--max` has a name that no criterion has in the first row",
+        SheetKind::UnknownName(OptionName::Linear) => b"`--linear` has a name that no criterion has in the first row",
+        SheetKind::NoValue => b"no number: fill the cell, or leave out the alternative or the criterion",
+        SheetKind::Thousands => b"a mark between thousands, or one that may be meant so: format the cells without, or with two or four decimals",
+        SheetKind::OtherMark => b"another decimal mark than the sheet has: between commas it is the point; between semicolons or tabs the comma, where a number has one",
+        SheetKind::Exponent => b"an exponent: format the cells as plain numbers, as 100000 for 1e+05",
+        SheetKind::TooManyDigits => b"more than 18 digits: round in the sheet, or take another unit",
+        SheetKind::NoNumber => b"no number: a whole number or a decimal has to stand here",
+        SheetKind::TooMany(what) => most_of(what),
+        SheetKind::Empty => b"no alternative: each row behind the names and directions is one",
+        SheetKind::WideScale => b"a linear criterion needs a common measure below 10^18: round the numbers, or leave `linear` out",
+    }
+}
+
+fn most_of(what: What) -> &'static [u8] {
+    match what {
+        What::Alternatives => b"at most 200 alternatives: leave out those that others dominate",
+        What::Criteria => b"at most 64 criteria",
+        What::Steps => b"at most 2,000 steps of all criteria: round a criterion to fewer levels, or make it `linear`",
+        _ => b"too many",
+    }
+}
