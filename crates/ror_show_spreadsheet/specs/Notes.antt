@@ -4,6 +4,7 @@ use Rattle.std.specs.List.{enumerate_from, flat_map, range_with_len}
 use Rattle.std.specs.Str.{bytes_eq}
 use Rattle.ror_text.specs.Lines.{word_at}
 use Rattle.ror_show_spreadsheet.specs.declared.fault.SheetFault.{SheetFault}
+use Rattle.ror_show_spreadsheet.specs.declared.notes.TheConstants.{MOST_SHOWN}
 use Rattle.ror_show_spreadsheet.specs.declared.numbers.CellTest.TheVariants.{HasText}
 use Rattle.ror_show_spreadsheet.specs.declared.numbers.Numerals.{Numerals}
 use Rattle.ror_show_spreadsheet.specs.declared.separator.Separator.{Separator}
@@ -37,10 +38,19 @@ shown_byte byte = if nat_lt byte 0x20 || byte == 0x7F then 63 else byte
 abbrev pub shown : List ℕ → List ℕ
 shown name = map shown_byte name
 
+abbrev pub numbered : List ℕ → ℕ → List ℕ
+numbered before number = before ++ decimal number
+
+-- what stands in a cell, if anything does; of a long text only its length
+unfoldable pub there_text : List ℕ → List ℕ
+there_text cell = if length cell == 0 then []
+    else (if nat_lt MOST_SHOWN (length cell) then codes ": " ++ numbered (codes "a text of ") (length cell) ++ codes " bytes"
+    else codes ": " ++ codes "`" ++ shown cell ++ codes "`")
+
 -- nothing of a name that is its own id
 unfoldable pub note_text : List ℕ → List ℕ → List ℕ
 note_text id name = if bytes_eq id name then []
-    else codes "name     " ++ id ++ codes "  " ++ shown name ++ codes "\n"
+    else codes "name     " ++ id ++ there_text name ++ codes "\n"
 
 unfoldable pub column_note : ℕ → List ℕ → List ℕ
 column_note place name = note_text (column_id (place + 1) name) name
@@ -65,19 +75,13 @@ notes_text sheet n = layout_text sheet.separator n.mark ++ column_notes (row_at 
 abbrev pub there : List Cells → SheetFault → List ℕ
 there rows fault = word_at (row_at rows (fault.row - 1)) (fault.column - 1)
 
-unfoldable pub there_text : List ℕ → List ℕ
-there_text cell = if length cell == 0 then [] else codes ", `" ++ shown cell ++ codes "`"
-
-abbrev pub numbered : List ℕ → ℕ → List ℕ
-numbered before number = before ++ decimal number
-
 abbrev pub column_text : List Cells → SheetFault → List ℕ
 column_text rows fault = if nat_lt 0 fault.column
     then numbered (codes ", column ") fault.column ++ there_text (there rows fault) else []
 
 unfoldable pub place_text : List Cells → SheetFault → List ℕ
 place_text rows fault = if fault.row == 0 then []
-    else numbered (codes "row ") fault.row ++ column_text rows fault ++ codes ": "
+    else numbered (codes "row ") fault.row ++ column_text rows fault ++ codes "\n"
 
 -- the place, and some words
 abbrev pub AddsFault : List Cells → SheetFault → List ℕ → List ℕ → Type 0

@@ -17,6 +17,9 @@ use itoa::Buffer;
 use ror_table::What;
 use std::alloc::{AllocError, Global};
 
+/// How many bytes of a cell are shown at most.
+const MOST_SHOWN: usize = 64;
+
 /// Adds what separates the cells of a sheet and how its numbers are written, and each name that isn't its own id, behind its id.
 ///
 /// # Errors
@@ -135,8 +138,7 @@ fn write_note(text: &mut Vec<u8>, id: &[u8], name: &[u8]) -> Result<(), AllocErr
     }
     text.extend_from_slice(b"name     ")?;
     text.extend_from_slice(id)?;
-    text.extend_from_slice(b"  ")?;
-    write_shown(text, name)?;
+    write_there(text, name)?;
     text.extend_from_slice(b"\n")
 }
 
@@ -160,7 +162,7 @@ fn shown_byte(byte: u8) -> u8
     }
 }
 
-/// Adds where a fault of a sheet with these rows is, what stands there, and what is wrong and helps, in words of which nothing is promised.
+/// Adds where a fault of a sheet with these rows is, what stands there, and what helps, in words of which nothing is promised.
 ///
 /// # Errors
 ///
@@ -169,7 +171,8 @@ pub fn write_fault(text: &mut Vec<u8>, rows: &[Row], fault: SheetFault) -> Resul
     ensures { OnOk result (spec.AddsFault rows.now fault text.old.items text.new.items) }
 {
     write_place(text, rows, fault)?;
-    text.extend_from_slice(wrong(fault.kind))?;
+    text.extend_from_slice(b"likely   ")?;
+    text.extend_from_slice(likely(fault.kind))?;
     text.extend_from_slice(b"\n")
 }
 
@@ -183,22 +186,26 @@ fn write_place(text: &mut Vec<u8>, rows: &[Row], fault: SheetFault) -> Result<()
     write_number(text, b"row ", fault.row)?;
     if fault.column > 0 {
         write_number(text, b", column ", fault.column)?;
-        write_there(text, rows, fault)?;
+        write_there(text, there(rows, fault))?;
     }
-    text.extend_from_slice(b": ")
+    text.extend_from_slice(b"\n")
 }
 
-/// Adds what stands in the cell of a fault, if anything does.
+/// Adds what stands in the cell of a fault, if anything does; of a long text only its length.
 #[tactic(auto, unfolding(crate::specs::Notes::there_text))]
-fn write_there(text: &mut Vec<u8>, rows: &[Row], fault: SheetFault) -> Result<(), AllocError>
-    ensures { OnOk result (text.new.items ≡ text.old.items ++ spec.there_text (spec.there rows.now fault)) }
+fn write_there(text: &mut Vec<u8>, cell: &[u8]) -> Result<(), AllocError>
+    ensures { OnOk result (text.new.items ≡ text.old.items ++ spec.there_text cell.now) }
 {
-    let there = there(rows, fault);
-    if there.is_empty() {
+    if cell.is_empty() {
         return Ok(());
     }
-    text.extend_from_slice(b", `")?;
-    write_shown(text, there)?;
+    text.extend_from_slice(b": ")?;
+    if cell.len() > MOST_SHOWN {
+        write_number(text, b"a text of ", cell.len())?;
+        return text.extend_from_slice(b" bytes");
+    }
+    text.extend_from_slice(b"`")?;
+    write_shown(text, cell)?;
     text.extend_from_slice(b"`")
 }
 
@@ -219,41 +226,78 @@ fn write_number(text: &mut Vec<u8>, before: &[u8], number: usize) -> Result<(), 
     text.extend_from_slice(Buffer::new().format(number).as_bytes())
 }
 
-/// What is wrong, and what helps.
-fn wrong(kind: SheetKind) -> &'static [u8] {
+/// What is likely, and what helps.
+fn likely(kind: SheetKind) -> &'static [u8] {
     match kind {
-        SheetKind::TooLong => b"at most 16,777,216 bytes: this is another file",
-        SheetKind::Utf16 => b"this is UTF-16, as Excel writes `Unicode text`: save as `CSV UTF-8`",
-        SheetKind::NotUtf8 => b"no UTF-8, perhaps Latin-1: save as UTF-8, or convert by `iconv -f ISO-8859-1 -t UTF-8`",
-        SheetKind::Nul => b"a byte 0, which no text has: this may be UTF-16 without its mark, or no CSV; save as `CSV UTF-8`",
-        SheetKind::TooManyRows => b"at most 1,000 rows: leave out those that aren't alternatives",
-        SheetKind::OneColumn => b"no comma, semicolon or tab in the row of names: a name of the first column, and one for each criterion",
-        SheetKind::Ragged => b"not as many cells as in the first row: is a separator in a cell without quotation marks, or a cell missing?",
-        SheetKind::NoName => b"no name",
-        SheetKind::RepeatedId => b"an earlier one has this name, or one that gets the same id",
-        SheetKind::BadDirection => b"no direction: write `min` or `max`, and ` linear` behind it if the criterion is",
-        SheetKind::NoDirection => b"no direction: write `min` or `max` below it in a second row, or name it by `--min` or `--max`",
-        SheetKind::TwoDirections => b"two directions: say it once, in the second row, by `--min` or by `--max`",
-        SheetKind::UnknownName(OptionName::Min) => b"`--min` has a name that no criterion has in the first row",
-        SheetKind::UnknownName(OptionName::Max) => b"`--max` has a name that no criterion has in the first row",
-        SheetKind::UnknownName(OptionName::Linear) => b"`--linear` has a name that no criterion has in the first row",
-        SheetKind::NoValue => b"no number: fill the cell, or leave out the alternative or the criterion",
-        SheetKind::Thousands => b"a mark between thousands, or one that may be meant so: format the cells without, or with two or four decimals",
-        SheetKind::OtherMark => b"another decimal mark than the sheet has: between commas it is the point; between semicolons or tabs the comma, where a number has one",
-        SheetKind::Exponent => b"an exponent: format the cells as plain numbers, as 100000 for 1e+05",
-        SheetKind::TooManyDigits => b"more than 18 digits: round in the sheet, or take another unit",
-        SheetKind::NoNumber => b"no number: a whole number or a decimal has to stand here",
+        SheetKind::Utf16 => b"UTF-16, as Excel writes `Unicode text`: save as `CSV UTF-8`",
+        SheetKind::NotUtf8 => b"Latin-1: save as UTF-8, or convert by `iconv -f ISO-8859-1 -t UTF-8`",
+        SheetKind::Nul => b"UTF-16 without its mark, or no text: save as `CSV UTF-8`",
+        SheetKind::TooLong => b"another file: at most 16,777,216 bytes",
+        SheetKind::TooManyRows => b"rows that aren't alternatives: at most 1,000 rows, and 200 alternatives",
         SheetKind::TooMany(what) => most_of(what),
-        SheetKind::Empty => b"no alternative: each row behind the names and directions is one",
-        SheetKind::WideScale => b"a linear criterion needs a common measure below 10^18: round the numbers, or leave `linear` out",
+        SheetKind::Empty => b"no row behind the names and the directions: each is an alternative",
+        SheetKind::WideScale => {
+            b"a linear criterion without a common measure below 10^18: round its numbers, or leave `linear` out"
+        }
+        SheetKind::OneColumn | SheetKind::Ragged | SheetKind::NoName | SheetKind::RepeatedId => {
+            likely_shape(kind)
+        }
+        SheetKind::BadDirection
+        | SheetKind::NoDirection
+        | SheetKind::TwoDirections
+        | SheetKind::UnknownName(_) => likely_direction(kind),
+        _ => likely_number(kind),
     }
 }
 
 fn most_of(what: What) -> &'static [u8] {
     match what {
-        What::Alternatives => b"at most 200 alternatives: leave out those that others dominate",
-        What::Criteria => b"at most 64 criteria",
-        What::Steps => b"at most 2,000 steps of all criteria: round a criterion to fewer levels, or make it `linear`",
+        What::Alternatives => b"too many alternatives, at most 200: leave out those that others dominate",
+        What::Criteria => b"too many criteria, at most 64",
+        What::Steps => {
+            b"more than 2,000 steps of all criteria: round a criterion to fewer levels, or make it `linear`"
+        }
         _ => b"too many",
+    }
+}
+
+fn likely_shape(kind: SheetKind) -> &'static [u8] {
+    match kind {
+        SheetKind::OneColumn => {
+            b"no comma, semicolon or tab in the first row: it has a name for the first column and for each criterion"
+        }
+        SheetKind::Ragged => {
+            b"a separator in a cell without quotation marks, or too few cells: the first row says how many"
+        }
+        SheetKind::NoName => b"no name",
+        _ => b"a name that an earlier one has, or that gets the same id: rename one",
+    }
+}
+
+fn likely_direction(kind: SheetKind) -> &'static [u8] {
+    match kind {
+        SheetKind::BadDirection => b"no direction: write `min` or `max`, or one of them and `linear`, with one blank",
+        SheetKind::NoDirection => {
+            b"no direction: write `min` or `max` in a second row, or name the criterion by `--min` or `--max`"
+        }
+        SheetKind::TwoDirections => b"two directions: say it once, in the second row, by `--min` or by `--max`",
+        SheetKind::UnknownName(OptionName::Min) => b"`--min` has a name that no criterion has in the first row",
+        SheetKind::UnknownName(OptionName::Max) => b"`--max` has a name that no criterion has in the first row",
+        _ => b"`--linear` has a name that no criterion has in the first row",
+    }
+}
+
+fn likely_number(kind: SheetKind) -> &'static [u8] {
+    match kind {
+        SheetKind::NoValue => b"no number: fill the cell, or leave out the alternative or the criterion",
+        SheetKind::Thousands => {
+            b"a mark between thousands, or one that may be meant so: format the numbers without, or with two decimals"
+        }
+        SheetKind::OtherMark => {
+            b"another decimal mark: a point between commas; between semicolons or tabs a comma, if a number has one"
+        }
+        SheetKind::Exponent => b"an exponent: format the cells as plain numbers, as 100000 for 1e+05",
+        SheetKind::TooManyDigits => b"more than 18 digits: round in the sheet, or take another unit",
+        _ => b"no number: a whole number or a decimal has to stand here",
     }
 }
