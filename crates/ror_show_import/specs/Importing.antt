@@ -11,7 +11,7 @@ use Rattle.ror_frame.specs.Inputs.{line_output}
 use Rattle.ror_show_spreadsheet.specs.declared.fault.SheetError.{SheetError}
 use Rattle.ror_show_spreadsheet.specs.declared.fault.SheetError.TheVariants as errors
 use Rattle.ror_show_spreadsheet.specs.declared.fault.SheetFault.{SheetFault}
-use Rattle.ror_show_spreadsheet.specs.declared.import.Imported.{Imported}
+use Rattle.ror_show_spreadsheet.specs.declared.importing.Imported.{Imported}
 use Rattle.ror_show_spreadsheet.specs.declared.options.Options as declared
 use Rattle.ror_show_spreadsheet.specs.Faults.{table_fault}
 use Rattle.ror_show_spreadsheet.specs.Import.{imported_of}

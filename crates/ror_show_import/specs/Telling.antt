@@ -3,7 +3,7 @@ use Rattle.std.specs.Prelude.{◌≡◌, ℕ, List, [], ◌∷◌, ◌++◌, Res
 use Rattle.ror_value.specs.declared.input.Input.{Input}
 use Rattle.ror_show_sheet.specs.Beside.{IsSheet}
 use Rattle.ror_show_spreadsheet.specs.declared.fault.SheetFault.{SheetFault}
-use Rattle.ror_show_spreadsheet.specs.declared.import.Imported.{Imported}
+use Rattle.ror_show_spreadsheet.specs.declared.importing.Imported.{Imported}
 use Rattle.ror_show_spreadsheet.specs.Import.{imported_in}
 use Rattle.ror_show_spreadsheet.specs.Notes.{notes_text, place_text}
 use Rattle.ror_show_spreadsheet.specs.Options.{Named}

@@ -1,5 +1,7 @@
 pub mod Loops
 pub mod RowLemmas
+pub mod Cells
+pub mod Renamed
 pub mod Cutting
 pub mod Spelt
 pub mod Written

@@ -11,7 +11,7 @@ use Rattle.ror_text.proofs.ReadingLemmas.{bind_ok, gives_exit}
 pub drop-at : {A : Type 0} (xs : List A) (k : ℕ) (d : A) → k < length xs → drop k xs ≡ get_or xs k d ∷ drop (k + 1) xs
 drop-at [] k d h = absurd (omega arith)
 drop-at (x ∷ xs) zero d h = refl
-drop-at (x ∷ xs) (suc k) d h = drop-at xs k d (omega arith)
+drop-at (x ∷ xs) (suc k) d h = let e : suc k + 1 ≡ suc (k + 1) = omega arith in rw e (drop-at xs k d (omega arith))
 
 -- a number, and those behind it
 pub range-at : (k n : ℕ) → k < n → range_with_len k (n - k) ≡ k ∷ range_with_len (k + 1) (n - (k + 1))
@@ -41,6 +41,9 @@ pub range_exit : {S E F : Type 0} (fault_of : E → Option F) (step : S → ℕ 
 range_exit fault_of step s k n all e less so_far h =
     let split = ap (read_all step s) (range-at k n less) in
     subst (λ r. IfSome (fault_of e) (λ g. r ≡ Err g)) (sym split ∙ so_far) (gives_exit fault_of e (step s k) (λ more. read_all step more (range_with_len (k + 1) (n - (k + 1)))) h)
+
+pub ok_same : {A F : Type 0} (x y : A) → ◌≡◌ {A = Result A F} (Ok x) (Ok y) → x ≡ y
+ok_same x y e = cc
 
 -- ---- texts
 

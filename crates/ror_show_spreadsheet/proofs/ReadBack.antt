@@ -15,13 +15,14 @@ use Rattle.ror_table.specs.Plain.{plain_table}
 use Rattle.ror_table.specs.Table.{Criterion, DecisionTable, IsTable, columns, has_wide_scale}
 use Rattle.ror_table.proofs.GrammarLemmas.{plain_text_read}
 use Rattle.ror_table.proofs.IndexLemmas.{IsTable-from_draft}
-use Rattle.ror_show_spreadsheet.specs.declared.import.Imported.{Imported}
+use Rattle.ror_show_spreadsheet.specs.declared.importing.Imported.{Imported}
 use Rattle.ror_show_spreadsheet.specs.declared.numbers.Numerals.{Numerals}
 use Rattle.ror_show_spreadsheet.specs.Import.{Reading, whole, head_of, even_words, words_of, read_columns, known_options, read_rows, layout_of, body_of, imported_in, imported_of}
 use Rattle.ror_show_spreadsheet.specs.Laws.{TextsAreReadBack}
 use Rattle.ror_show_spreadsheet.specs.Options.{Named}
 use Rattle.ror_show_spreadsheet.specs.Rows.{Cells, row_at}
 use Rattle.ror_show_spreadsheet.specs.Sheet.{Sheet, sheet_of}
+use Rattle.ror_show_spreadsheet.proofs.Loops.{ok_same}
 use Rattle.ror_show_spreadsheet.proofs.Cutting.{Words, IsSeenLine, text_of, numbered, numbers_off, text_utf8}
 use Rattle.ror_show_spreadsheet.proofs.Written.{IsWritten, IsRowsWritten, table_lines, columns_written, rows_written, from_head, all_seen}
 
@@ -43,13 +44,15 @@ finished_parts a b c t t' e =
     let first = bind_ok (refuse a (eqb (length t.criteria) 0 || eqb (length t.alternatives) 0)) _ t' e in
     let second = bind_ok (refuse b (ltb 2000 (columns t))) _ t' first.2 in
     let third = bind_ok (refuse c (has_wide_scale t)) _ t' second.2 in
-    let some = or_parts _ _ (refuse_ok a _ first.0 first.1) in
-    (record {
-      some = positive _ some.0;
-      other = positive _ some.1;
-      narrow = ltb-false 2000 (columns t) (refuse_ok b _ second.0 second.1);
-      near = refuse_ok c _ third.0 third.1;
-    }, cc)
+    let some = or_parts _ _ (refuse_ok a _ first.0 first.1) in (
+      record {
+        some = positive _ some.0;
+        other = positive _ some.1;
+        narrow = ltb-false 2000 (columns t) (refuse_ok b _ second.0 second.1);
+        near = refuse_ok c _ third.0 third.1;
+      },
+      cc,
+    )
 
 -- ---- its text
 
@@ -79,12 +82,9 @@ whole_read n y x h e =
     let b = bind_ok (finished _ _ _ y.table) _ x e in
     let done = finished_parts _ _ _ y.table b.0 b.1 in
     let made : Imported = record { numerals = n; table = y.table; text = y.text } in
-    let same : made ≡ x = ap (λ (t : DecisionTable). record { numerals = n; table = t; text = y.text }) done.1 ∙ last b.0 b.2 in
+    let same : made ≡ x = ap (λ (t : DecisionTable). record { numerals = n; table = t; text = y.text }) done.1 ∙ ok_same _ x b.2 in
     let is_table = IsTable-from_draft y.table h.draft done.0.some done.0.other done.0.narrow done.0.near in
     subst (λ (z : Imported). plain_table z.text ≡ Ok z.table) same (plain_text_read y.text y.table (written_text y h is_table))
-  where
-    last : (t : DecisionTable) → Ok (record { numerals = n; table = t; text = y.text }) ≡ Ok x → record { numerals = n; table = t; text = y.text } ≡ x
-    last t f = cc
 
 -- the first row has two cells or more
 pub head_wide : (rows : List Cells) (head : Cells) → head_of rows ≡ Ok head → 2 ≤ length head

@@ -18,7 +18,9 @@ pub reached_end : (cfg : Config) (s : State) (xs : List ℕ) (rows : List (List 
 unfolding Reached records_from
 reached_end cfg s xs [] s2 ys zero h none less = refl
 reached_end cfg s xs (r ∷ rs) s2 ys zero h none less = absurd (omega arith)
-reached_end cfg s xs [] s2 ys (suc n) h none less = ap (records_next (records_from cfg n)) (rw (h.0, h.1) none)
+reached_end cfg s xs [] s2 ys (suc n) h none less =
+    let gone : next_record cfg s [] [] xs ≡ None = rw (h.0, h.1) none in
+    ap (records_next (records_from cfg n)) gone
 reached_end cfg s xs (r ∷ rs) s2 ys (suc n) h none less =
     let p = h.0 in
     ap (records_next (records_from cfg n)) h.1 ∙ rw h.2 (ap (λ (l : List (List (List ℕ))). p.0 ∷ l) (reached_end cfg p.1 p.2 rs s2 ys n h.3 none (omega arith)))

@@ -1,10 +1,11 @@
 -- What the cells of numbers are: words of a line that write amounts.
-use Rattle.std.proofs.Common.{◌≡◌, ℕ, ◌+◌, ◌<◌, ◌≤◌, Bool, true, false, not, eqb, ltb, List, [], ◌∷◌, ◌++◌, length, Some, None, refl, sym, ap, subst, ◌∙◌, arith, length-append}
+use Rattle.std.proofs.Common.{◌≡◌, ℕ, ◌+◌, ◌<◌, ◌≤◌, Bool, true, false, not, eqb, leb, ltb, inl, inr, List, [], ◌∷◌, ◌++◌, length, Some, None, refl, sym, ap, subst, ◌∙◌, arith, length-append}
 use Rattle.std.specs.Prelude.{Option, ◌||◌, ◌&&◌}
 use Rattle.std.specs.Char.{is_ascii_digit}
 use Rattle.std.specs.List.{list_all, list_any}
 use Rattle.std.specs.Str.{all_ascii_digits}
 use Rattle.std.proofs.lemmas.Bool.{and_parts, and_from, or_from, ltb-true, lt-ltb, ltb-false, leb-true, ne_eqb, cases_Bool}
+use Rattle.std.proofs.lemmas.Bool.Decides.{nat_tests}
 use Rattle.std.proofs.lemmas.List.Folds.{list_all-append}
 use Rattle.ror_text.specs.Lines.{is_control}
 use Rattle.ror_text.specs.Numbers.{is_digits}
@@ -40,10 +41,13 @@ seen_number word some h =
 
 -- ---- digits
 
+digit_apart : (c : ℕ) → is_ascii_digit c ≡ true → (47 < c) × (c < 58)
+digit_apart c h = grind (arith, nat_tests)
+
 digit_byte : (c : ℕ) → is_ascii_digit c ≡ true → is_number_byte c ≡ true
 digit_byte c h =
-    let both = and_parts (leb 48 c) (leb c 57) h in
-    and_from _ _ (lt-ltb 0x21 c (omega (arith, leb-true _ _ both.0))) (lt-ltb c 0x7F (omega (arith, leb-true _ _ both.1)))
+    let ends = digit_apart c h in
+    and_from _ _ (lt-ltb 0x21 c (omega arith)) (lt-ltb c 0x7F (omega arith))
 
 digits_bytes : (ds : List ℕ) → all_ascii_digits ds ≡ true → list_all is_number_byte ds ≡ true
 digits_bytes [] h = refl
@@ -72,7 +76,7 @@ real_word word p (by_whole whole) =
     let digits = of_digits w.digits w.are_digits in
     let size = length-append (sign_bytes w.sign) w.digits in
     rw w.is (record {
-      seen = seen_number (sign_bytes w.sign ++ w.digits) (omega (arith, digits.0)) (joined_bytes _ _ sign.0 digits.1);
+      seen = seen_number (sign_bytes w.sign ++ w.digits) (omega (arith, digits.0)) (joined_bytes (sign_bytes w.sign) w.digits sign.0 digits.1);
       short = omega (arith, sign.1, w.short);
     })
 real_word word p (by_decimal w) =
@@ -83,6 +87,6 @@ real_word word p (by_decimal w) =
     let size = length-append (sign_bytes w.sign) number in
     let inner = length-append w.before (46 ∷ w.behind) in
     rw w.is (record {
-      seen = seen_number (sign_bytes w.sign ++ number) (omega (arith, before.0)) (joined_bytes _ _ sign.0 (joined_bytes _ _ before.1 (and_from _ _ refl behind.1)));
+      seen = seen_number (sign_bytes w.sign ++ number) (omega (arith, before.0)) (joined_bytes (sign_bytes w.sign) number sign.0 (joined_bytes w.before (46 ∷ w.behind) before.1 behind.1));
       short = omega (arith, sign.1, w.short);
     })

@@ -13,18 +13,19 @@ use Rattle.ror_table.specs.declared.direction.Scale.{Scale}
 use Rattle.ror_table.specs.Amounts as amounts
 use Rattle.ror_table.specs.Draft.{add_criterion, add_alternative, finished, with_criterion, with_alternative}
 use Rattle.ror_table.specs.Table.{Criterion, Alternative, DecisionTable, performance_of}
-use Rattle.ror_show_spreadsheet.specs.declared.import.Imported.{Imported}
+use Rattle.ror_show_spreadsheet.specs.declared.importing.Imported.{Imported}
+use Rattle.ror_show_spreadsheet.specs.declared.fault.SheetFault.{SheetFault}
 use Rattle.ror_show_spreadsheet.specs.declared.lines.Layout.{Layout}
 use Rattle.ror_show_spreadsheet.specs.declared.numbers.CellTest.TheVariants.{HasText}
 use Rattle.ror_show_spreadsheet.specs.declared.numbers.Numerals.{Numerals}
 use Rattle.ror_show_spreadsheet.specs.Import.{Reading, begun, Numbers, no_numbers, criterion_text, alternative_text, words_of, word_in, scale_of, with_column, column_step, column_at, read_columns, number_step, number_at, numbers_of, with_row, filled_row, row_step, read_rows, before_of, body_of, layout_of, whole, head_of, even_words, known_options, imported_in}
 use Rattle.ror_show_spreadsheet.specs.Laws.{IsOfColumn, IsOfRow, IsOfSheet, filled_rows, ValuesAreCells}
 use Rattle.ror_show_spreadsheet.specs.Names.{column_id, row_id}
-use Rattle.ror_show_spreadsheet.specs.Numbers.{any_cell, amount_in, word_of}
+use Rattle.ror_show_spreadsheet.specs.Numbers.{any_cell, amount_in, numerals_of, word_of}
 use Rattle.ror_show_spreadsheet.specs.Options.{Named}
 use Rattle.ror_show_spreadsheet.specs.Rows.{Cells, row_at}
 use Rattle.ror_show_spreadsheet.specs.Sheet.{Sheet}
-use Rattle.ror_show_spreadsheet.proofs.Loops.{brings}
+use Rattle.ror_show_spreadsheet.proofs.Loops.{brings, ok_same}
 use Rattle.ror_show_spreadsheet.proofs.ReadBack.{finished_parts, head_wide, head_first}
 use Rattle.ror_show_spreadsheet.proofs.Written.{zip_push, criterion_taken, alternative_taken, numbers_count}
 
@@ -46,13 +47,10 @@ column_more o sheet places x place y h e =
     let b = bind_ok (with_criterion _ _ _ x.table id scale) _ y scaled.2 in
     let takes = criterion_taken _ _ _ x.table id scale b.0 b.1 in
     let c : Criterion = record { id = id; direction = scale.direction; linear = scale.linear } in
-    let is : add_criterion x.table id scale ≡ y.table = takes.is ∙ last b.0 b.2 in
+    let is : add_criterion x.table id scale ≡ y.table = takes.is ∙ ap (λ (r : Reading). r.table) (ok_same _ y b.2) in
     let of_column : IsOfColumn o sheet place c = record { id = refl; scale = scaled.1 } in
     subst (λ (t : DecisionTable). AllZip (IsOfColumn o sheet) (places ++ place ∷ []) t.criteria × (t.alternatives ≡ []) × (t.classes ≡ 0)) is
     (zip_push (IsOfColumn o sheet) places x.table.criteria place c h.0 of_column, h.1, h.2)
-  where
-    last : (t : DecisionTable) → Ok (record { table = t; text = _ }) ≡ Ok y → t ≡ y.table
-    last t f = cc
 
 columns_are : (o : Named) (sheet : Sheet) (y : Reading) → read_columns o (row_at sheet.rows 0) (words_of sheet.rows) ≡ Ok y → AreColumns o sheet (range_with_len 1 (length (row_at sheet.rows 0) - 1)) y
 columns_are o sheet y e = brings (AreColumns o sheet) (column_at o (row_at sheet.rows 0) (words_of sheet.rows)) (λ before x place next h s. column_more o sheet before x place next h s) [] begun _ y (tt, refl, refl) e
@@ -99,8 +97,8 @@ renumbered before n (row ∷ rows) =
 filter_push : {A : Type 0} (test : A → Bool) (xs : List A) (y : A) → filter test (xs ++ y ∷ []) ≡ filter test xs ++ cond (test y) (y ∷ []) []
 filter_push test [] y = refl
 filter_push test (x ∷ xs) y = elim (cases_Bool (test x)) [
-  | inl yes ↦ rw yes (ap (λ l. x ∷ l) (filter_push test xs y))
-  | inr no ↦ rw no (filter_push test xs y)
+  | inl hit ↦ rw hit (ap (λ l. x ∷ l) (filter_push test xs y))
+  | inr miss ↦ rw miss (filter_push test xs y)
 ]
 
 abbrev pub AreRows : Layout → List Criterion → List (ℕ × Cells) → Reading → Type 0
@@ -119,19 +117,19 @@ filled_is l x row cells y wide e =
     let id = row_id row (word_at cells 0) in
     let b = bind_ok (with_alternative _ _ _ x.table id ps) _ y given.2 in
     let takes = alternative_taken _ _ _ x.table id ps b.0 b.1 in
-    let is : add_alternative x.table id ps ≡ y.table = takes.is ∙ last b.0 b.2 in
-    let a : Alternative = record { id = id; performances = ps } in
-    (a, record {
-      id = refl;
-      width = omega arith;
-      each = λ i less.
-          let at = zip_at (IsNumberAt l.numerals cells) (range_with_len 1 (length cells - 1)) ps i 0 (amounts.whole (pos 0)) are less in
-          let place : get_or (range_with_len 1 (length cells - 1)) i 0 ≡ i + 1 = get_or-range_with_len 1 (length cells - 1) i 0 (omega arith) ∙ omega arith in
-          rw place at at;
-    }, sym is)
-  where
-    last : (t : DecisionTable) → Ok (record { table = t; text = _ }) ≡ Ok y → t ≡ y.table
-    last t f = cc
+    let is : add_alternative x.table id ps ≡ y.table = takes.is ∙ ap (λ (r : Reading). r.table) (ok_same _ y b.2) in
+    let a : Alternative = record { id = id; performances = ps } in (
+      a,
+      record {
+        id = refl;
+        width = omega arith;
+        each = λ i less.
+            let at = zip_at (IsNumberAt l.numerals cells) (range_with_len 1 (length cells - 1)) ps i 0 (amounts.whole (pos 0)) are less in
+            let place : get_or (range_with_len 1 (length cells - 1)) i 0 ≡ i + 1 = get_or-range_with_len 1 (length cells - 1) i 0 (omega arith) ∙ omega arith in
+            rw place at at;
+      },
+      sym is,
+    )
 
 row_more : (l : Layout) (cs : List Criterion) (rows : List (ℕ × Cells)) (x : Reading) (row : ℕ × Cells) (y : Reading) → 1 ≤ l.width → AreRows l cs rows x → row_step l x row ≡ Ok y → AreRows l cs (rows ++ row ∷ []) y
 unfolding row_step
@@ -162,17 +160,23 @@ unfolding whole
 whole_is n y x e =
     let b = bind_ok (finished _ _ _ y.table) _ x e in
     let done = finished_parts _ _ _ y.table b.0 b.1 in
-    (cc, last b.0 b.2 ∙ sym done.1)
-  where
-    last : (t : DecisionTable) → Ok (record { numerals = n; table = t; text = y.text }) ≡ Ok x → x.table ≡ t
-    last t f = cc
+    (sym (ap (λ (z : Imported). z.numerals) (ok_same _ x b.2)), sym (ap (λ (z : Imported). z.table) (ok_same _ x b.2)) ∙ sym done.1)
+
+-- what is read behind the row of names
+abbrev behind_head : Named → Sheet → Cells → Result Imported SheetFault
+behind_head o sheet head = do
+  _ ← even_words (length head) (words_of sheet.rows)
+  x ← read_columns o head (words_of sheet.rows)
+  _ ← known_options o head
+  y ← read_rows (layout_of sheet.separator (length head) sheet.rows) x (body_of sheet.rows)
+  whole (numerals_of sheet.separator (body_of sheet.rows)) y
 
 pub values_are_cells : ValuesAreCells
 unfolding imported_in
 values_are_cells o sheet x e =
-    let head = bind_ok (head_of sheet.rows) _ x e in
+    let head = bind_ok (head_of sheet.rows) (behind_head o sheet) x e in
     let first = head_first sheet.rows head.0 head.1 in
-    let f = rw (sym first) at head.2 in
+    let f : behind_head o sheet (row_at sheet.rows 0) ≡ Ok x = subst (λ (row : Cells). behind_head o sheet row ≡ Ok x) first head.2 in
     let even = bind_ok (even_words (length (row_at sheet.rows 0)) (words_of sheet.rows)) _ x f in
     let columns = bind_ok (read_columns o (row_at sheet.rows 0) (words_of sheet.rows)) _ x even.2 in
     let known = bind_ok (known_options o (row_at sheet.rows 0)) _ x columns.2 in

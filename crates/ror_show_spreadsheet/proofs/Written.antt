@@ -1,5 +1,5 @@
 -- What is read of a spreadsheet stands in lines that write it.
-use Rattle.std.proofs.Common.{◌≡◌, ℕ, zero, suc, ◌+◌, ◌-◌, ◌*◌, ◌<◌, ◌≤◌, Bool, true, false, not, eqb, ltb, leb, List, [], ◌∷◌, ◌++◌, length, map, Result, Ok, Err, Some, None, All, refl, sym, ap, subst, ◌∙◌, arith, append_assoc, length-append, inl, inr}
+use Rattle.std.proofs.Common.{◌≡◌, ℕ, zero, suc, ◌+◌, ◌-◌, ◌*◌, ◌<◌, ◌≤◌, Bool, true, false, not, cond, eqb, ltb, leb, List, [], ◌∷◌, ◌++◌, length, map, Result, Ok, Err, Some, None, All, refl, sym, ap, subst, ◌∙◌, arith, append_assoc, length-append, inl, inr}
 use Rattle.std.specs.Prelude.{codes, Option, IfOk}
 use Rattle.std.specs.List.{AllByRecursion, AllZip, flat_map, list_all, list_any, range_with_len}
 use Rattle.std.specs.Str.{IsUtf8}
@@ -37,12 +37,12 @@ use Rattle.ror_show_spreadsheet.specs.Looks.{has}
 use Rattle.ror_show_spreadsheet.specs.Options.{Named}
 use Rattle.ror_show_spreadsheet.specs.Rows.{Cells}
 use Rattle.ror_show_spreadsheet.proofs.Cutting.{Words, IsSeen, IsSeenLine, text_of, utf8_bytes}
-use Rattle.ror_show_spreadsheet.proofs.Loops.{brings_all, brings}
+use Rattle.ror_show_spreadsheet.proofs.Loops.{brings_all, brings, ok_same}
 use Rattle.ror_show_spreadsheet.proofs.Spelt.{IsShortNumber, real_word}
 
 -- ---- a cell's number
 
-if_parts : {A : Type 0} (b : Bool) (o : Option A) (x : A) → (if b then None else o) ≡ Some x → (b ≡ false) × (o ≡ Some x)
+if_parts : {A : Type 0} (b : Bool) (o : Option A) (x : A) → cond b None o ≡ Some x → (b ≡ false) × (o ≡ Some x)
 if_parts true o x e = absurd cc
 if_parts false o x e = (refl, e)
 
@@ -128,9 +128,9 @@ numbers_count n row cells y e =
 -- ---- lines
 
 -- the bytes of a line that has these words
-pub line_is : (word : List ℕ) (ws : Words) → line_text (word ∷ ws) ≡ word ++ flat_map behind ws ++ 10 ∷ []
+pub line_is : (word : List ℕ) (ws : Words) → line_text (word ∷ ws) ≡ (word ++ flat_map behind ws) ++ 10 ∷ []
 unfolding line_text
-line_is word ws = ap (λ (l : List ℕ). l ++ 10 ∷ []) (joined word ws) ∙ append_assoc word (flat_map behind ws) (10 ∷ [])
+line_is word ws = ap (λ (l : List ℕ). l ++ 10 ∷ []) (joined word ws)
   where
     joined : (word : List ℕ) (ws : Words) → join_words (word ∷ ws) ≡ word ++ flat_map behind ws
     joined word [] = sym (append-nil word)
@@ -140,10 +140,10 @@ id_seen : (id : List ℕ) → IsId id → IsSeen id
 id_seen id valid = let f = IsId-form id valid in record { some = f.some; visible = f.visible; utf8 = f.utf8 }
 
 criterion_line : (id : List ℕ) (scale : Scale) → criterion_text id scale ≡ line_text (criterion_words (record { id = id; direction = scale.direction; linear = scale.linear }))
+unfolding criterion_text
 criterion_line id scale = by scale.direction scale.linear
   where
     by : (d : Direction) (l : Bool) → criterion_text id (record { direction = d; linear = l }) ≡ line_text (criterion_words (record { id = id; direction = d; linear = l }))
-    unfolding criterion_text
     by Max false = sym (line_is (codes "criterion") (id ∷ codes "max" ∷ []) ∙ ap (λ (l : List ℕ). codes "criterion " ++ l) (append_assoc id (codes " max") (10 ∷ [])))
     by Max true = sym (line_is (codes "criterion") (id ∷ codes "max" ∷ codes "linear" ∷ []) ∙ ap (λ (l : List ℕ). codes "criterion " ++ l) (append_assoc id (codes " max linear") (10 ∷ [])))
     by Min false = sym (line_is (codes "criterion") (id ∷ codes "min" ∷ []) ∙ ap (λ (l : List ℕ). codes "criterion " ++ l) (append_assoc id (codes " min") (10 ∷ [])))
@@ -151,7 +151,7 @@ criterion_line id scale = by scale.direction scale.linear
 
 alternative_line : (id : List ℕ) (ws : Words) → alternative_text id (flat_map behind ws) ≡ line_text (codes "alternative" ∷ id ∷ ws)
 unfolding alternative_text
-alternative_line id ws = sym (line_is (codes "alternative") (id ∷ ws) ∙ ap (λ (l : List ℕ). codes "alternative " ++ l) (append_assoc id (flat_map behind ws) (10 ∷ [])))
+alternative_line id ws = sym (line_is (codes "alternative") (id ∷ ws))
 
 abbrev IsLiteral : List ℕ → Type 0
 IsLiteral word = (list_any is_control word ≡ false) × (list_all (λ b. ltb b 128) word ≡ true)
@@ -164,7 +164,7 @@ criterion_seen c valid = record {
   first = codes "criterion";
   rest = c.id ∷ direction_word c.direction ∷ linear_words c.linear;
   is = refl;
-  seen = (seen_literal (codes "criterion") (omega arith) (refl, refl), id_seen c.id valid, of_direction c.direction, of_linear c.linear);
+  seen = (seen_literal (codes "criterion") (omega arith) (refl, refl), (id_seen c.id valid, (of_direction c.direction, of_linear c.linear)));
   kept = refl;
 }
   where
@@ -181,7 +181,7 @@ alternative_seen id ws valid seen = record {
   first = codes "alternative";
   rest = id ∷ ws;
   is = refl;
-  seen = (seen_literal (codes "alternative") (omega arith) (refl, refl), id_seen id valid, seen);
+  seen = (seen_literal (codes "alternative") (omega arith) (refl, refl), (id_seen id valid, seen));
   kept = refl;
 }
 
@@ -293,7 +293,7 @@ column_more x column name scale y h e =
     let b = bind_ok (with_criterion _ _ _ x.table id scale) _ y e in
     let takes = criterion_taken _ _ _ x.table id scale b.0 b.1 in
     let made : Reading = record { table = add_criterion x.table id scale; text = x.text ++ criterion_text id scale } in
-    let same : made ≡ y = ap (λ (t : DecisionTable). record { table = t; text = x.text ++ criterion_text id scale }) takes.is ∙ last b.0 b.2 in
+    let same : made ≡ y = ap (λ (t : DecisionTable). record { table = t; text = x.text ++ criterion_text id scale }) takes.is ∙ ok_same _ y b.2 in
     let count = length_push x.table.criteria c in
     let written : IsHeadWritten made = record {
       text =
@@ -307,9 +307,6 @@ column_more x column name scale y h e =
       short = omega (arith, h.short, criterion_short id scale (IsId-form id takes.valid).short, length-append x.text (criterion_text id scale));
     } in
     (subst IsHeadWritten same written, sym (ap (λ (r : Reading). length r.table.criteria) same) ∙ count)
-  where
-    last : (t : DecisionTable) → Ok (record { table = t; text = x.text ++ criterion_text (column_id column name) scale }) ≡ Ok y → record { table = t; text = x.text ++ criterion_text (column_id column name) scale } ≡ y
-    last t f = cc
 
 pub column_step_more : (o : Named) (x : Reading) (place : ℕ) (name word : List ℕ) (y : Reading) → IsHeadWritten x → column_step o x place name word ≡ Ok y → IsHeadWritten y × (length y.table.criteria ≡ length x.table.criteria + 1)
 unfolding column_step
@@ -328,8 +325,8 @@ columns_written o head words y e =
 alternative_short : (id numbers : List ℕ) → length id ≤ 64 → length (alternative_text id numbers) ≤ 77 + length numbers
 unfolding alternative_text
 alternative_short id numbers h =
-    let inner = length-append id (numbers ++ 10 ∷ []) in
-    let last = length-append numbers (10 ∷ []) in
+    let inner = length-append id numbers in
+    let last = length-append (id ++ numbers) (10 ∷ []) in
     omega arith
 
 row_more : (x : Reading) (row : ℕ) (name : List ℕ) (given : Numbers) (y : Reading) → IsWritten x → AreWritten given → length given.amounts ≡ length x.table.criteria → with_row x row name given ≡ Ok y → IsWritten y × (length y.table.criteria ≡ length x.table.criteria)
@@ -340,7 +337,7 @@ row_more x row name given y h numbers count e =
     let b = bind_ok (with_alternative _ _ _ x.table id given.amounts) _ y e in
     let takes = alternative_taken _ _ _ x.table id given.amounts b.0 b.1 in
     let made : Reading = record { table = add_alternative x.table id given.amounts; text = x.text ++ alternative_text id given.text } in
-    let same : made ≡ y = ap (λ (t : DecisionTable). record { table = t; text = x.text ++ alternative_text id given.text }) takes.is ∙ last b.0 b.2 in
+    let same : made ≡ y = ap (λ (t : DecisionTable). record { table = t; text = x.text ++ alternative_text id given.text }) takes.is ∙ ok_same _ y b.2 in
     let line : Words = codes "alternative" ∷ id ∷ numbers.words in
     let all = head_words Three ∷ (map criterion_words x.table.criteria ++ h.rows) in
     let more = length_push x.table.alternatives a in
@@ -358,9 +355,6 @@ row_more x row name given y h numbers count e =
       short = omega (arith, h.short, alternative_short id given.text (IsId-form id takes.valid).short, numbers.short, h.draft.criteria_limit, length-append x.text (alternative_text id given.text));
     } in
     (subst IsWritten same written, sym (ap (λ (r : Reading). length r.table.criteria) same))
-  where
-    last : (t : DecisionTable) → Ok (record { table = t; text = x.text ++ alternative_text (row_id row name) given.text }) ≡ Ok y → record { table = t; text = x.text ++ alternative_text (row_id row name) given.text } ≡ y
-    last t f = cc
 
 filled_more : (l : Layout) (x : Reading) (row : ℕ) (cells : Cells) (y : Reading) → IsWritten x → length x.table.criteria + 1 ≡ l.width → filled_row l x row cells ≡ Ok y → IsWritten y × (length y.table.criteria ≡ length x.table.criteria)
 unfolding filled_row
@@ -408,10 +402,13 @@ criteria_seen [] rows valid seen = seen
 criteria_seen (c ∷ cs) rows valid seen = (criterion_seen c (All-head IsId c.id (map (λ d. d.id) cs) valid), criteria_seen cs rows (All-tail IsId c.id (map (λ d. d.id) cs) valid) seen)
 
 pub all_seen : (t : DecisionTable) (rows : List Words) → IsDraft t → AllByRecursion IsSeenLine rows → AllByRecursion IsSeenLine (table_lines t rows)
-all_seen t rows draft seen = (record {
-  first = codes "ror-table";
-  rest = codes "3" ∷ [];
-  is = refl;
-  seen = (seen_literal (codes "ror-table") (omega arith) (refl, refl), seen_literal (codes "3") (omega arith) (refl, refl), tt);
-  kept = refl;
-}, criteria_seen t.criteria rows draft.criterion_ids_valid seen)
+all_seen t rows draft seen = (
+  record {
+    first = codes "ror-table";
+    rest = codes "3" ∷ [];
+    is = refl;
+    seen = (seen_literal (codes "ror-table") (omega arith) (refl, refl), (seen_literal (codes "3") (omega arith) (refl, refl), tt));
+    kept = refl;
+  },
+  criteria_seen t.criteria rows draft.criterion_ids_valid seen,
+)

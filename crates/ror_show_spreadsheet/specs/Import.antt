@@ -15,7 +15,7 @@ use Rattle.ror_table.specs.Table.{DecisionTable}
 use Rattle.ror_show_spreadsheet.specs.declared.fault.OptionName.TheVariants as named
 use Rattle.ror_show_spreadsheet.specs.declared.fault.SheetFault.{SheetFault}
 use Rattle.ror_show_spreadsheet.specs.declared.fault.SheetKind.TheVariants.{OneColumn, Ragged, NoName, RepeatedId, BadDirection, NoDirection, TwoDirections, TooMany, Empty, WideScale}
-use Rattle.ror_show_spreadsheet.specs.declared.import.Imported.{Imported}
+use Rattle.ror_show_spreadsheet.specs.declared.importing.Imported.{Imported}
 use Rattle.ror_show_spreadsheet.specs.declared.lines.Layout.{Layout}
 use Rattle.ror_show_spreadsheet.specs.declared.lines.Numbers as numbers
 use Rattle.ror_show_spreadsheet.specs.declared.columns.Reading as readings

@@ -4,7 +4,7 @@ use Rattle.std.specs.List.{AllZip, enumerate_from, range_with_len}
 use Rattle.ror_text.specs.Lines.{word_at}
 use Rattle.ror_table.specs.Plain.{plain_table}
 use Rattle.ror_table.specs.Table.{Criterion, Alternative, performance_of}
-use Rattle.ror_show_spreadsheet.specs.declared.import.Imported.{Imported}
+use Rattle.ror_show_spreadsheet.specs.declared.importing.Imported.{Imported}
 use Rattle.ror_show_spreadsheet.specs.declared.numbers.CellTest.TheVariants.{HasText}
 use Rattle.ror_show_spreadsheet.specs.declared.numbers.Numerals.{Numerals}
 use Rattle.ror_show_spreadsheet.specs.declared.spreadsheet.TheConstants.{MOST_ROWS}

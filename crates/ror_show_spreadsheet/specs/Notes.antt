@@ -41,11 +41,13 @@ shown name = map shown_byte name
 abbrev pub numbered : List ℕ → ℕ → List ℕ
 numbered before number = before ++ decimal number
 
+unfoldable pub length_text : ℕ → List ℕ
+length_text number = numbered (codes ": a text of ") number ++ codes " bytes"
+
 -- what stands in a cell, if anything does; of a long text only its length
 unfoldable pub there_text : List ℕ → List ℕ
 there_text cell = if length cell == 0 then []
-    else (if nat_lt MOST_SHOWN (length cell) then codes ": " ++ numbered (codes "a text of ") (length cell) ++ codes " bytes"
-    else codes ": " ++ codes "`" ++ shown cell ++ codes "`")
+    else (if nat_lt MOST_SHOWN (length cell) then length_text (length cell) else codes ": `" ++ shown cell ++ codes "`")
 
 -- nothing of a name that is its own id
 unfoldable pub note_text : List ℕ → List ℕ → List ℕ

@@ -1,6 +1,6 @@
 //! The criteria of a spreadsheet: its first row, and the row of directions.
 
-ghost use Rattle.std.specs.Prelude.{◌≡◌, ◌≤◌, ◌+◌, [], ◌++◌, length, option_map, tt, IfOk, OnOk};
+ghost use Rattle.std.specs.Prelude.{◌≡◌, ◌<◌, ◌≤◌, ◌+◌, ◌^◌, [], ◌++◌, length, option_map, IfOk, OnOk};
 ghost use Rattle.ror_text.specs.Lines.{word_at};
 ghost use Rattle.ror_text.specs.Reading.{Gives};
 ghost use Rattle.ror_table.specs.declared.fault.What.TheVariants.{Criteria};
@@ -33,10 +33,11 @@ pub(crate) struct Reading {
 pub(crate) fn even_row(number: usize, due: usize, row: &Row) -> Result<(), SheetError>
     ensures { Gives (λ _. tt) sheet_fault result (spec.even_row number due row.now) }
 {
-    refuse_if(
-        row.width() != due,
-        bad(SheetKind::Ragged, number, row.width().min(due) + 1),
-    )
+    let width = row.width();
+    if width == due {
+        return Ok(());
+    }
+    Err(bad(SheetKind::Ragged, number, width.min(due) + 1))
 }
 
 /// The row of directions, if there is one.
@@ -105,7 +106,8 @@ fn add_column(
     name: &[u8],
     word: &[u8],
 ) -> Result<(), SheetError>
-    requires { reading.old.draft.alternatives ≡ [] }
+    requires first { reading.old.draft.alternatives ≡ [] }
+    requires fits { place + 1 < 2 ^ 64 }
     ensures exact { Gives (λ _. spec.reading_with reading.new) sheet_fault result
         (spec.column_step (options_with options.now) (spec.reading_with reading.old) place name.now word.now) }
     ensures first { OnOk result (reading.new.draft.alternatives ≡ []) }
@@ -195,12 +197,7 @@ fn with_column(
 }
 
 /// Adds a criterion to the draft.
-fn put_criterion(
-    draft: &mut Draft,
-    column: usize,
-    id: &str,
-    scale: Scale,
-) -> Result<(), SheetError>
+fn put_criterion(draft: &mut Draft, column: usize, id: &str, scale: Scale) -> Result<(), SheetError>
     requires { draft.old.alternatives ≡ [] }
     ensures exact { Gives (λ _. draft.new) sheet_fault result (with_criterion (fault_at NoName 1 column)
         (fault_at RepeatedId 1 column) (fault_at (TooMany Criteria) 1 column) draft.old id.now scale) }

@@ -21,7 +21,7 @@
 mod columns;
 mod drafts;
 mod fault;
-mod import;
+mod importing;
 mod kinds;
 pub mod laws;
 mod lines;
@@ -37,7 +37,7 @@ mod separator;
 mod spreadsheet;
 
 pub use fault::{OptionName, SheetError, SheetFault, SheetKind, table_fault};
-pub use import::{Imported, import, import_rows};
+pub use importing::{Imported, import, import_rows};
 pub use notes::{write_fault, write_notes};
 pub use numbers::Numerals;
 pub use options::Options;

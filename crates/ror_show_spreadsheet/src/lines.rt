@@ -1,6 +1,6 @@
 //! The alternatives of a spreadsheet: the rows behind the first one and that of directions.
 
-ghost use Rattle.std.specs.Prelude.{◌≡◌, ◌≤◌, ◌+◌, ◌-◌, [], ◌++◌, length, tt, All, IfOk, OnOk};
+ghost use Rattle.std.specs.Prelude.{◌≡◌, ◌<◌, ◌≤◌, ◌+◌, ◌-◌, ◌^◌, [], ◌++◌, length, All, IfOk, OnOk};
 ghost use Rattle.ror_text.specs.Reading.{Gives};
 ghost use Rattle.ror_table.specs.declared.fault.What.TheVariants.{Alternatives};
 ghost use Rattle.ror_table.specs.Amounts.{IsAmount};
@@ -43,7 +43,8 @@ pub(crate) fn read_rows(
     reading: &mut Reading,
     rows: &[Row],
 ) -> Result<(), SheetError>
-    requires { length reading.old.draft.criteria + 1 ≡ layout.width }
+    requires number { length reading.old.draft.criteria + 1 ≡ layout.width }
+    requires fits { layout.before + length rows.now < 2 ^ 64 }
     ensures { Gives (λ _. spec.reading_with reading.new) sheet_fault result
         (spec.read_rows layout (spec.reading_with reading.old) rows.now) }
 {
@@ -111,7 +112,14 @@ fn numbers_of(
         text: Vec::new(alloc),
     };
     for place in 1..row.width() {
-        add_number(alloc, numerals, number, &mut numbers, place, row.cell(place))?;
+        add_number(
+            alloc,
+            numerals,
+            number,
+            &mut numbers,
+            place,
+            row.cell(place),
+        )?;
     }
     Ok(numbers)
 }

@@ -44,7 +44,13 @@ pub(crate) fn digit_count(cell: &[u8]) -> usize
 pub(crate) fn are_digits(cell: &[u8]) -> bool
     ensures { result ≡ spec.are_digits cell.now }
 {
-    !cell.is_empty() && cell.iter().all(|byte| byte.is_ascii_digit())
+    !cell.is_empty() && all_digits(cell)
+}
+
+fn all_digits(cell: &[u8]) -> bool
+    ensures { result ≡ list_all is_ascii_digit cell.now }
+{
+    cell.iter().all(|byte| byte.is_ascii_digit())
 }
 
 /// Whether each byte is a digit or this one.

@@ -23,12 +23,7 @@ pub(crate) fn row_id(alloc: Global, row: usize, name: &[u8]) -> Result<Vec<u8>, 
 
 /// The name with low lines for blanks, where that is an id; else this word and the number.
 #[tactic(auto, unfolding(crate::specs::Names::id_for))]
-fn id_for(
-    alloc: Global,
-    word: &[u8],
-    number: usize,
-    name: &[u8],
-) -> Result<Vec<u8>, AllocError>
+fn id_for(alloc: Global, word: &[u8], number: usize, name: &[u8]) -> Result<Vec<u8>, AllocError>
     ensures { IfOk result (λ id. id.items ≡ spec.id_for word.now number name.now) }
 {
     let tidy = tidy(alloc, name)?;

@@ -1,13 +1,13 @@
 //! What is told of a spreadsheet: how it was read, which ids stand for names, and where a fault is.
 
-ghost use Rattle.std.specs.Prelude.{◌≡◌, ◌+◌, ◌<◌, ◌^◌, ◌++◌, OnOk};
+ghost use Rattle.std.specs.Prelude.{◌≡◌, ◌+◌, ◌<◌, ◌^◌, ◌++◌, length, OnOk};
 ghost use Rattle.ror_show_spreadsheet.specs.Import.{before_of};
 ghost use Rattle.ror_show_spreadsheet.specs.Notes as spec;
 ghost use Rattle.ror_show_spreadsheet.specs.Sheet.{sheet_with};
 
 use crate::columns::words_of;
 use crate::fault::{OptionName, SheetFault, SheetKind};
-use crate::import::{before_of, rows_behind};
+use crate::importing::{before_of, rows_behind};
 use crate::names::{column_id, row_id};
 use crate::numbers::{CellTest, Numerals, any_cell};
 use crate::row::Row;
@@ -101,7 +101,7 @@ fn write_row_notes(
     before: usize,
     rows: &[Row],
 ) -> Result<(), AllocError>
-    requires { before ≤ 2 }
+    requires { before + length rows.now < 2 ^ 64 }
     ensures { OnOk result (text.new.items ≡ text.old.items ++ spec.row_notes before rows.now) }
 {
     for (place, row) in rows.iter().enumerate() {
@@ -199,14 +199,20 @@ fn write_there(text: &mut Vec<u8>, cell: &[u8]) -> Result<(), AllocError>
     if cell.is_empty() {
         return Ok(());
     }
-    text.extend_from_slice(b": ")?;
     if cell.len() > MOST_SHOWN {
-        write_number(text, b"a text of ", cell.len())?;
-        return text.extend_from_slice(b" bytes");
+        return write_length(text, cell.len());
     }
-    text.extend_from_slice(b"`")?;
+    text.extend_from_slice(b": `")?;
     write_shown(text, cell)?;
     text.extend_from_slice(b"`")
+}
+
+#[tactic(auto, unfolding(crate::specs::Notes::length_text))]
+fn write_length(text: &mut Vec<u8>, length: usize) -> Result<(), AllocError>
+    ensures { OnOk result (text.new.items ≡ text.old.items ++ spec.length_text length) }
+{
+    write_number(text, b": a text of ", length)?;
+    text.extend_from_slice(b" bytes")
 }
 
 /// The cell of a fault; empty where there is none.
@@ -230,10 +236,12 @@ fn write_number(text: &mut Vec<u8>, before: &[u8], number: usize) -> Result<(), 
 fn likely(kind: SheetKind) -> &'static [u8] {
     match kind {
         SheetKind::Utf16 => b"UTF-16, as Excel writes `Unicode text`: save as `CSV UTF-8`",
-        SheetKind::NotUtf8 => b"Latin-1: save as UTF-8, or convert by `iconv -f ISO-8859-1 -t UTF-8`",
+        SheetKind::NotUtf8 =>
+            b"Latin-1: save as UTF-8, or convert by `iconv -f ISO-8859-1 -t UTF-8`",
         SheetKind::Nul => b"UTF-16 without its mark, or no text: save as `CSV UTF-8`",
         SheetKind::TooLong => b"another file: at most 16,777,216 bytes",
-        SheetKind::TooManyRows => b"rows that aren't alternatives: at most 1,000 rows, and 200 alternatives",
+        SheetKind::TooManyRows =>
+            b"rows that aren't alternatives: at most 1,000 rows, and 200 alternatives",
         SheetKind::TooMany(what) => most_of(what),
         SheetKind::Empty => b"no row behind the names and the directions: each is an alternative",
         SheetKind::WideScale => {
@@ -252,7 +260,8 @@ fn likely(kind: SheetKind) -> &'static [u8] {
 
 fn most_of(what: What) -> &'static [u8] {
     match what {
-        What::Alternatives => b"too many alternatives, at most 200: leave out those that others dominate",
+        What::Alternatives =>
+            b"too many alternatives, at most 200: leave out those that others dominate",
         What::Criteria => b"too many criteria, at most 64",
         What::Steps => {
             b"more than 2,000 steps of all criteria: round a criterion to fewer levels, or make it `linear`"
@@ -276,28 +285,35 @@ fn likely_shape(kind: SheetKind) -> &'static [u8] {
 
 fn likely_direction(kind: SheetKind) -> &'static [u8] {
     match kind {
-        SheetKind::BadDirection => b"no direction: write `min` or `max`, or one of them and `linear`, with one blank",
+        SheetKind::BadDirection =>
+            b"no direction: write `min` or `max`, or one of them and `linear`, with one blank",
         SheetKind::NoDirection => {
             b"no direction: write `min` or `max` in a second row, or name the criterion by `--min` or `--max`"
         }
-        SheetKind::TwoDirections => b"two directions: say it once, in the second row, by `--min` or by `--max`",
-        SheetKind::UnknownName(OptionName::Min) => b"`--min` has a name that no criterion has in the first row",
-        SheetKind::UnknownName(OptionName::Max) => b"`--max` has a name that no criterion has in the first row",
+        SheetKind::TwoDirections =>
+            b"two directions: say it once, in the second row, by `--min` or by `--max`",
+        SheetKind::UnknownName(OptionName::Min) =>
+            b"`--min` has a name that no criterion has in the first row",
+        SheetKind::UnknownName(OptionName::Max) =>
+            b"`--max` has a name that no criterion has in the first row",
         _ => b"`--linear` has a name that no criterion has in the first row",
     }
 }
 
 fn likely_number(kind: SheetKind) -> &'static [u8] {
     match kind {
-        SheetKind::NoValue => b"no number: fill the cell, or leave out the alternative or the criterion",
+        SheetKind::NoValue =>
+            b"no number: fill the cell, or leave out the alternative or the criterion",
         SheetKind::Thousands => {
             b"a mark between thousands, or one that may be meant so: format the numbers without, or with two decimals"
         }
         SheetKind::OtherMark => {
             b"another decimal mark: a point between commas; between semicolons or tabs a comma, if a number has one"
         }
-        SheetKind::Exponent => b"an exponent: format the cells as plain numbers, as 100000 for 1e+05",
-        SheetKind::TooManyDigits => b"more than 18 digits: round in the sheet, or take another unit",
+        SheetKind::Exponent =>
+            b"an exponent: format the cells as plain numbers, as 100000 for 1e+05",
+        SheetKind::TooManyDigits =>
+            b"more than 18 digits: round in the sheet, or take another unit",
         _ => b"no number: a whole number or a decimal has to stand here",
     }
 }

@@ -1,6 +1,6 @@
 //! Which criteria the options name.
 
-ghost use Rattle.std.specs.Prelude.{◌≡◌, map, option_map, tt, IfOk};
+ghost use Rattle.std.specs.Prelude.{◌≡◌, map, option_map, IfOk};
 ghost use Rattle.std.specs.Str.{bytes_eq};
 ghost use Rattle.ror_text.specs.Reading.{Gives};
 ghost use Rattle.ror_show_spreadsheet.specs.Faults.{sheet_fault};

@@ -11,6 +11,7 @@ use csv::{ByteRecord, ReaderBuilder};
 use std::alloc::{AllocError, Global};
 
 /// What separates the cells: the first of tab, semicolon and comma that cuts the first row, and the comma where none does.
+#[tactic(auto, unfolding(crate::specs::Rows::separator_of))]
 pub(crate) fn separator_of(alloc: Global, bytes: &[u8]) -> Result<Separator, AllocError>
     ensures { IfOk result (λ separator. separator ≡ spec.separator_of bytes.now) }
 {

@@ -1,6 +1,6 @@
 //! A spreadsheet: its rows, and what separates their cells.
 
-ghost use Rattle.std.specs.Prelude.{◌≡◌, ◌≤◌, length, nat_lt, not, tt, IfOk};
+ghost use Rattle.std.specs.Prelude.{◌≡◌, ◌≤◌, length, nat_lt, not, IfOk};
 ghost use Rattle.std.specs.Str.{is_utf8};
 ghost use Rattle.ror_text.specs.declared.lines.TheConstants.{MOST_TEXT_BYTES};
 ghost use Rattle.ror_text.specs.Lines.{bad_utf8_line};

@@ -1,6 +1,6 @@
 //! A spreadsheet, read as a table.
 
-ghost use Rattle.std.specs.Prelude.{◌≡◌, ◌≤◌, ◌+◌, [], ◌++◌, length, option_map, tt, All, IfOk, OnOk};
+ghost use Rattle.std.specs.Prelude.{◌≡◌, ◌<◌, ◌≤◌, ◌+◌, ◌^◌, length, option_map, IfOk};
 ghost use Rattle.ror_text.specs.Reading.{Gives};
 ghost use Rattle.ror_table.specs.Table.{IsTable};
 ghost use Rattle.ror_show_spreadsheet.specs.Faults.{sheet_fault};
@@ -38,11 +38,7 @@ pub struct Imported {
 /// The first fault, want of memory aside: of the bytes, of the first row and the row of directions, column by column, of the options, and
 /// of the other rows.
 #[tactic(auto, unfolding(crate::specs::Import::imported_of))]
-pub fn import(
-    alloc: Global,
-    bytes: &[u8],
-    options: &Options<'_>,
-) -> Result<Imported, SheetError>
+pub fn import(alloc: Global, bytes: &[u8], options: &Options<'_>) -> Result<Imported, SheetError>
     ensures exact { Gives (λ x. x) sheet_fault result (spec.imported_of (options_with options.now) bytes.now) }
     ensures table { IfOk result (λ x. IsTable x.table) }
 {
@@ -103,7 +99,9 @@ pub(crate) fn before_of(words: Option<&Row>) -> usize
 
 /// The rows behind so many; none where there are fewer.
 pub(crate) fn rows_behind(before: usize, rows: &[Row]) -> &[Row]
-    ensures { result.now ≡ spec.rows_behind before rows.now }
+    requires { before ≤ 2 }
+    ensures rows { result.now ≡ spec.rows_behind before rows.now }
+    ensures fits { before + length result.now < 2 ^ 64 }
 {
     if before <= rows.len() {
         &rows[before..]
