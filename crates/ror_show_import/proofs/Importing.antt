@@ -7,11 +7,11 @@ use Rattle.ror_frame.specs.declared.stop.Refusal.{Refusal}
 use Rattle.ror_frame.specs.declared.stop.Refusal.TheVariants as refusals
 use Rattle.ror_frame.specs.Courses.{IsTooLong}
 use Rattle.ror_frame.proofs.CourseLemmas.{IsDecided}
-use Rattle.ror_show_spreadsheet.specs.declared.fault.SheetKind.TheVariants.{TooLong}
-use Rattle.ror_show_spreadsheet.specs.Faults.{whole_fault}
+use Rattle.ror_show_cells.specs.declared.fault.SheetKind.TheVariants.{TooLong}
+use Rattle.ror_show_cells.specs.Faults.{whole_fault}
 use Rattle.ror_show_spreadsheet.specs.Import.{imported_of}
 use Rattle.ror_show_spreadsheet.specs.Options.{Named}
-use Rattle.ror_show_spreadsheet.specs.Sheet.{sheet_of}
+use Rattle.ror_show_cells.specs.Sheet.{sheet_of}
 use Rattle.ror_show_words.specs.Words.{ImportWords}
 use Rattle.ror_show_import.specs.Importing.{RefusesSpreadsheet, import_chore}
 

@@ -1,6 +1,5 @@
 -- What an import does: the spreadsheet is fetched, and the text of a plain table is written that is read as the same table.
 use Rattle.std.specs.Prelude.{◌≡◌, ℕ, false, List, [], ◌∷◌, Ok, Err}
-use Rattle.std.specs.Option.{option_map}
 use Rattle.ror_table.specs.Plain.{plain_table}
 use Rattle.ror_frame.specs.declared.stop.Refusal.{Refusal}
 use Rattle.ror_frame.specs.declared.stop.Refusal.TheVariants as refusals
@@ -8,12 +7,12 @@ use Rattle.ror_frame.specs.declared.stop.Stop.{Stop}
 use Rattle.ror_frame.specs.declared.stop.Stop.TheVariants as stops
 use Rattle.ror_frame.specs.Courses.{Output, finish, fetch, Chore}
 use Rattle.ror_frame.specs.Inputs.{line_output}
-use Rattle.ror_show_spreadsheet.specs.declared.fault.SheetError.{SheetError}
-use Rattle.ror_show_spreadsheet.specs.declared.fault.SheetError.TheVariants as errors
-use Rattle.ror_show_spreadsheet.specs.declared.fault.SheetFault.{SheetFault}
+use Rattle.ror_show_cells.specs.declared.fault.SheetError.{SheetError}
+use Rattle.ror_show_cells.specs.declared.fault.SheetError.TheVariants as errors
+use Rattle.ror_show_cells.specs.declared.fault.SheetFault.{SheetFault}
 use Rattle.ror_show_spreadsheet.specs.declared.importing.Imported.{Imported}
 use Rattle.ror_show_spreadsheet.specs.declared.options.Options as declared
-use Rattle.ror_show_spreadsheet.specs.Faults.{table_fault}
+use Rattle.ror_show_cells.specs.Faults.{table_fault}
 use Rattle.ror_show_spreadsheet.specs.Import.{imported_of}
 use Rattle.ror_show_spreadsheet.specs.Options.{Named, options_with}
 use Rattle.ror_show_words.specs.Words.{ImportWords}

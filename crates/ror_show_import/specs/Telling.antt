@@ -2,13 +2,17 @@
 use Rattle.std.specs.Prelude.{◌≡◌, ℕ, List, [], ◌∷◌, ◌++◌, Result, Ok, Err}
 use Rattle.ror_value.specs.declared.input.Input.{Input}
 use Rattle.ror_show_sheet.specs.Beside.{IsSheet}
-use Rattle.ror_show_spreadsheet.specs.declared.fault.SheetFault.{SheetFault}
+use Rattle.ror_show_cells.specs.declared.fault.SheetFault.{SheetFault}
 use Rattle.ror_show_spreadsheet.specs.declared.importing.Imported.{Imported}
 use Rattle.ror_show_spreadsheet.specs.Import.{imported_in}
 use Rattle.ror_show_spreadsheet.specs.Notes.{notes_text, place_text}
 use Rattle.ror_show_spreadsheet.specs.Options.{Named}
-use Rattle.ror_show_spreadsheet.specs.Rows.{Cells}
-use Rattle.ror_show_spreadsheet.specs.Sheet.{Sheet, sheet_of}
+use Rattle.ror_show_cells.specs.Rows.{Cells}
+use Rattle.ror_show_cells.specs.Sheet.{Sheet, sheet_of}
+
+-- an empty line stands first
+abbrev pub IsBehindLine : List ℕ → Type 0
+IsBehindLine text = (rest : List ℕ) × (text ≡ 10 ∷ rest)
 
 -- where the fault is, what stands there, and some words
 abbrev pub TellsFault : List Cells → SheetFault → List ℕ → Type 0

@@ -11,7 +11,8 @@ ghost use Rattle.ror_show_words.specs.Named.{import_words_of};
 
 use ror_frame::{Refusal, Stop, fetch_whole};
 use ror_io::{Shelf, Sink, write_all};
-use ror_show_spreadsheet::{Imported, Options, SheetError, import, table_fault};
+use ror_show_cells::{SheetError, table_fault};
+use ror_show_spreadsheet::{Imported, Options, import};
 use ror_show_words::ImportWords;
 use ror_table::{TableFault, TableKind};
 use ror_text::lines::MOST_TEXT_BYTES;

@@ -18,4 +18,4 @@ mod import;
 mod told;
 
 pub use import::import_sheet;
-pub use told::told_of;
+pub use told::{told_of, told_of_long};

@@ -1,20 +1,20 @@
 //! What is told of a spreadsheet on standard error.
 
 ghost use Rattle.std.specs.Prelude.{◌≡◌, ◌∷◌, ◌++◌, [], IfOk};
+ghost use Rattle.ror_show_cells.specs.declared.fault.SheetKind.TheVariants.{TooLong};
+ghost use Rattle.ror_show_cells.specs.Faults.{whole_fault};
 ghost use Rattle.ror_show_import.specs.Importing.{options_in};
 ghost use Rattle.ror_show_import.specs.Telling as spec;
 ghost use Rattle.ror_show_sheet.specs.Beside.{IsSheet};
 ghost use Rattle.ror_show_spreadsheet.specs.Options.{options_with};
-ghost use Rattle.ror_show_spreadsheet.specs.Sheet.{sheet_with};
+ghost use Rattle.ror_show_cells.specs.Sheet.{sheet_with};
 ghost use Rattle.ror_show_words.specs.Named.{import_words_of};
 
 use crate::import::options_of;
+use ror_show_cells::{SheetError, SheetFault, SheetKind, Spreadsheet, read_spreadsheet};
 use ror_show_hints::glance_at;
 use ror_show_sheet::write_sheet;
-use ror_show_spreadsheet::{
-    Imported, Options, SheetError, SheetFault, Spreadsheet, import_rows, read_spreadsheet,
-    write_fault, write_notes,
-};
+use ror_show_spreadsheet::{Imported, Options, import_rows, write_fault, write_notes};
 use ror_show_words::ImportWords;
 use ror_statement::Statement;
 use ror_text::Items;
@@ -28,13 +28,31 @@ use std::alloc::{AllocError, Global};
 ///
 /// Only want of memory.
 pub fn told_of(alloc: Global, bytes: &[u8], words: &ImportWords<'_>) -> Result<Vec<u8>, AllocError>
-    ensures { IfOk result (λ text. spec.Tells (options_in (import_words_of words.now)) bytes.now text.items) }
+    ensures told { IfOk result (λ text. spec.Tells (options_in (import_words_of words.now)) bytes.now text.items) }
+    ensures begins { IfOk result (λ text. spec.IsBehindLine text.items) }
 {
     match read_spreadsheet(alloc, bytes) {
         Ok(sheet) => told_of_sheet(alloc, &sheet, &options_of(words)),
         Err(SheetError::Bad(fault)) => told_of_bytes(alloc, fault),
         Err(SheetError::Memory) => Err(AllocError),
     }
+}
+
+/// What is told of a file of more bytes than a spreadsheet may have, behind an empty line.
+///
+/// # Errors
+///
+/// Only want of memory.
+pub fn told_of_long(alloc: Global) -> Result<Vec<u8>, AllocError>
+    ensures told { IfOk result (λ text. spec.TellsFault [] (whole_fault TooLong) text.items) }
+    ensures begins { IfOk result (λ text. spec.IsBehindLine text.items) }
+{
+    let fault = SheetFault {
+        kind: SheetKind::TooLong,
+        row: 0,
+        column: 0,
+    };
+    told_of_bytes(alloc, fault)
 }
 
 /// What is told of bytes that are no spreadsheet.

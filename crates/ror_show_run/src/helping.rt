@@ -9,8 +9,9 @@ use ror_show_advice::{
     ReportFault, missing_advice, report_advice, session_advice, table_advice, usage_advice,
 };
 use ror_show_hints::File;
-use ror_show_import::told_of;
+use ror_show_import::{told_of, told_of_long};
 use ror_show_words::{Asked, ImportWords, PageWords, read_words, usage};
+use ror_table::TableKind;
 use std::alloc::{AllocError, Global};
 
 /// The names of the files that words ask for, in the order in which they are fetched; empty ones behind the last.
@@ -65,9 +66,20 @@ fn import_advice(
 ) -> Result<Vec<u8>, AllocError>
     ensures { IfOk result (λ text. StandsApart text.items) }
 {
-    if matches!(status, Status::ReadFault) {
-        return missing_advice(alloc, words.file);
+    match status {
+        Status::ReadFault => missing_advice(alloc, words.file),
+        Status::BadTable(fault) if fault.kind == TableKind::TooLong => told_of_long(alloc),
+        _ => told_of_kept(alloc, words, kept),
     }
+}
+
+fn told_of_kept(
+    alloc: Global,
+    words: &ImportWords<'_>,
+    kept: Option<&[u8]>,
+) -> Result<Vec<u8>, AllocError>
+    ensures { IfOk result (λ text. StandsApart text.items) }
+{
     match kept {
         Some(bytes) => told_of(alloc, bytes, words),
         None => Ok(Vec::new(alloc)),

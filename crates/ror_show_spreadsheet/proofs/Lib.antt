@@ -1,6 +1,5 @@
 pub mod Loops
-pub mod RowLemmas
-pub mod Cells
+pub mod Places
 pub mod Renamed
 pub mod Cutting
 pub mod Spelt

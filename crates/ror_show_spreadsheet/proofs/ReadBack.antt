@@ -1,29 +1,25 @@
 -- The text that a spreadsheet leads to is read as its table.
-use Rattle.std.proofs.Common.{◌≡◌, ℕ, zero, suc, ◌+◌, ◌-◌, ◌*◌, ◌<◌, ◌≤◌, Bool, true, false, eqb, ltb, List, [], ◌∷◌, ◌++◌, length, map, Result, Ok, Err, All, refl, sym, ap, subst, ◌∙◌, arith}
-use Rattle.std.specs.Prelude.{Option, ◌||◌}
-use Rattle.std.specs.List.{AllByRecursion, AllZip}
-use Rattle.std.proofs.lemmas.Bool.{or_parts, ltb-false, eqb-false, ne_eqb}
-use Rattle.std.proofs.lemmas.List.{append-nil}
-use Rattle.ror_text.specs.declared.lines.TheConstants.{MOST_TEXT_BYTES}
-use Rattle.ror_text.specs.Reading.{◌>>=◌, refuse, read_all}
+use Rattle.std.proofs.Common.{◌≡◌, ℕ, zero, suc, ◌+◌, ◌-◌, ◌<◌, ◌≤◌, false, eqb, ltb, List, [], ◌++◌, length, map, Ok, All, refl, ap, subst, ◌∙◌, arith}
+use Rattle.std.specs.Prelude.{◌||◌}
+use Rattle.std.proofs.lemmas.Bool.{or_parts, ltb-false}
+use Rattle.ror_text.specs.Reading.{refuse}
 use Rattle.ror_text.proofs.ReadingLemmas.{bind_ok, refuse_ok}
 use Rattle.ror_table.specs.declared.plain.Version.TheVariants.{Three}
-use Rattle.ror_table.specs.Draft.{IsDraft, finished}
-use Rattle.ror_table.specs.Faults.{head_words}
+use Rattle.ror_table.specs.Draft.{finished}
 use Rattle.ror_table.specs.Grammar.{criterion_words, lines_of, IsPlainText, MayBeLinear}
 use Rattle.ror_table.specs.Plain.{plain_table}
 use Rattle.ror_table.specs.Table.{Criterion, DecisionTable, IsTable, columns, has_wide_scale}
 use Rattle.ror_table.proofs.GrammarLemmas.{plain_text_read}
 use Rattle.ror_table.proofs.IndexLemmas.{IsTable-from_draft}
 use Rattle.ror_show_spreadsheet.specs.declared.importing.Imported.{Imported}
-use Rattle.ror_show_spreadsheet.specs.declared.numbers.Numerals.{Numerals}
+use Rattle.ror_show_cells.specs.declared.numbers.Numerals.{Numerals}
 use Rattle.ror_show_spreadsheet.specs.Import.{Reading, whole, head_of, even_words, words_of, read_columns, known_options, read_rows, layout_of, body_of, imported_in, imported_of}
 use Rattle.ror_show_spreadsheet.specs.Laws.{TextsAreReadBack}
 use Rattle.ror_show_spreadsheet.specs.Options.{Named}
-use Rattle.ror_show_spreadsheet.specs.Rows.{Cells, row_at}
-use Rattle.ror_show_spreadsheet.specs.Sheet.{Sheet, sheet_of}
+use Rattle.ror_show_cells.specs.Rows.{Cells, row_at}
+use Rattle.ror_show_cells.specs.Sheet.{Sheet, sheet_of}
 use Rattle.ror_show_spreadsheet.proofs.Loops.{ok_same}
-use Rattle.ror_show_spreadsheet.proofs.Cutting.{Words, IsSeenLine, text_of, numbered, numbers_off, text_utf8}
+use Rattle.ror_show_spreadsheet.proofs.Cutting.{text_of, numbered, numbers_off, text_utf8}
 use Rattle.ror_show_spreadsheet.proofs.Written.{IsWritten, IsRowsWritten, table_lines, columns_written, rows_written, from_head, all_seen}
 
 -- ---- a whole table

@@ -1,30 +1,29 @@
 -- The criteria of a spreadsheet's table are those of its columns, and the alternatives those of its rows.
-use Rattle.std.proofs.Common.{◌≡◌, ℕ, zero, suc, ◌+◌, ◌-◌, ◌<◌, ◌≤◌, Bool, true, false, not, cond, eqb, ltb, filter, List, [], ◌∷◌, ◌++◌, length, get_or, map, Result, Ok, Some, refl, sym, ap, subst, ◌∙◌, arith, inl, inr}
-use Rattle.std.specs.Prelude.{Option, pos}
+use Rattle.std.proofs.Common.{◌≡◌, ℕ, zero, suc, ◌+◌, ◌-◌, ◌<◌, ◌≤◌, Bool, not, cond, eqb, filter, List, [], ◌∷◌, ◌++◌, length, get_or, map, Result, Ok, Some, refl, sym, ap, subst, ◌∙◌, arith, inl, inr}
+use Rattle.std.specs.Prelude.{pos}
 use Rattle.std.specs.List.{AllZip, enumerate_from, range_with_len}
-use Rattle.std.proofs.lemmas.Bool.{cases_Bool, cond-true, cond-false, eqb-true, ltb-false, not-false}
+use Rattle.std.proofs.lemmas.Bool.{cases_Bool, eqb-true, not-false}
 use Rattle.std.proofs.lemmas.List.{append-nil, map_push}
 use Rattle.std.proofs.lemmas.List.FromFn.{get_or-range_with_len}
 use Rattle.ror_text.specs.Lines.{word_at}
-use Rattle.ror_text.specs.Reading.{◌>>=◌, need, refuse, read_all}
+use Rattle.ror_text.specs.Reading.{◌>>=◌, need, refuse}
 use Rattle.ror_text.proofs.ReadingLemmas.{bind_ok, need_ok, refuse_ok}
 use Rattle.ror_table.specs.declared.amount.Amount.{Amount}
-use Rattle.ror_table.specs.declared.direction.Scale.{Scale}
 use Rattle.ror_table.specs.Amounts as amounts
 use Rattle.ror_table.specs.Draft.{add_criterion, add_alternative, finished, with_criterion, with_alternative}
-use Rattle.ror_table.specs.Table.{Criterion, Alternative, DecisionTable, performance_of}
+use Rattle.ror_table.specs.Table.{Criterion, Alternative, DecisionTable}
 use Rattle.ror_show_spreadsheet.specs.declared.importing.Imported.{Imported}
-use Rattle.ror_show_spreadsheet.specs.declared.fault.SheetFault.{SheetFault}
+use Rattle.ror_show_cells.specs.declared.fault.SheetFault.{SheetFault}
 use Rattle.ror_show_spreadsheet.specs.declared.lines.Layout.{Layout}
-use Rattle.ror_show_spreadsheet.specs.declared.numbers.CellTest.TheVariants.{HasText}
-use Rattle.ror_show_spreadsheet.specs.declared.numbers.Numerals.{Numerals}
-use Rattle.ror_show_spreadsheet.specs.Import.{Reading, begun, Numbers, no_numbers, criterion_text, alternative_text, words_of, word_in, scale_of, with_column, column_step, column_at, read_columns, number_step, number_at, numbers_of, with_row, filled_row, row_step, read_rows, before_of, body_of, layout_of, whole, head_of, even_words, known_options, imported_in}
-use Rattle.ror_show_spreadsheet.specs.Laws.{IsOfColumn, IsOfRow, IsOfSheet, filled_rows, ValuesAreCells}
+use Rattle.ror_show_cells.specs.declared.numbers.CellTest.TheVariants.{HasText}
+use Rattle.ror_show_cells.specs.declared.numbers.Numerals.{Numerals}
+use Rattle.ror_show_spreadsheet.specs.Import.{Reading, begun, Numbers, no_numbers, words_of, word_in, scale_of, with_column, column_step, column_at, read_columns, number_step, number_at, numbers_of, with_row, filled_row, row_step, read_rows, before_of, body_of, layout_of, whole, head_of, even_words, known_options, imported_in}
+use Rattle.ror_show_spreadsheet.specs.Laws.{IsOfColumn, IsOfRow, filled_rows, ValuesAreCells}
 use Rattle.ror_show_spreadsheet.specs.Names.{column_id, row_id}
-use Rattle.ror_show_spreadsheet.specs.Numbers.{any_cell, amount_in, numerals_of, word_of}
+use Rattle.ror_show_cells.specs.Numbers.{any_cell, amount_in, numerals_of, word_of}
 use Rattle.ror_show_spreadsheet.specs.Options.{Named}
-use Rattle.ror_show_spreadsheet.specs.Rows.{Cells, row_at}
-use Rattle.ror_show_spreadsheet.specs.Sheet.{Sheet}
+use Rattle.ror_show_cells.specs.Rows.{Cells, row_at}
+use Rattle.ror_show_cells.specs.Sheet.{Sheet}
 use Rattle.ror_show_spreadsheet.proofs.Loops.{brings, ok_same}
 use Rattle.ror_show_spreadsheet.proofs.ReadBack.{finished_parts, head_wide, head_first}
 use Rattle.ror_show_spreadsheet.proofs.Written.{zip_push, criterion_taken, alternative_taken, numbers_count}

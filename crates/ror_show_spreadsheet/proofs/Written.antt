@@ -1,17 +1,16 @@
 -- What is read of a spreadsheet stands in lines that write it.
-use Rattle.std.proofs.Common.{◌≡◌, ℕ, zero, suc, ◌+◌, ◌-◌, ◌*◌, ◌<◌, ◌≤◌, Bool, true, false, not, cond, eqb, ltb, leb, List, [], ◌∷◌, ◌++◌, length, map, Result, Ok, Err, Some, None, All, refl, sym, ap, subst, ◌∙◌, arith, append_assoc, length-append, inl, inr}
-use Rattle.std.specs.Prelude.{codes, Option, IfOk}
+use Rattle.std.proofs.Common.{◌≡◌, ℕ, zero, suc, ◌+◌, ◌-◌, ◌*◌, ◌<◌, ◌≤◌, Bool, true, false, not, cond, eqb, ltb, leb, List, [], ◌∷◌, ◌++◌, length, map, Ok, Some, None, All, refl, sym, ap, subst, ◌∙◌, arith, append_assoc, length-append, inl, inr}
+use Rattle.std.specs.Prelude.{codes, Option}
 use Rattle.std.specs.List.{AllByRecursion, AllZip, flat_map, list_all, list_any, range_with_len}
-use Rattle.std.specs.Str.{IsUtf8}
 use Rattle.std.proofs.lemmas.Bool.{cases_Bool, eqb-true, leb-false, not-false}
 use Rattle.std.proofs.lemmas.List.{append-nil, map_push, length_push}
 use Rattle.std.proofs.lemmas.List.Concat.{flat_map-append}
 use Rattle.std.proofs.lemmas.List.Elements.{All-push, All-nil, All-head, All-tail}
 use Rattle.ror_text.specs.Ids.{IsId, is_id}
 use Rattle.ror_text.specs.Lines.{is_control, word_at}
-use Rattle.ror_text.specs.Reading.{◌>>=◌, need, refuse, read_all}
+use Rattle.ror_text.specs.Reading.{◌>>=◌, need, refuse}
 use Rattle.ror_text.specs.SpacedLines.{join_words, line_text}
-use Rattle.ror_text.proofs.IdLemmas.{HasIdForm, IsId-form}
+use Rattle.ror_text.proofs.IdLemmas.{IsId-form}
 use Rattle.ror_text.proofs.ReadingLemmas.{bind_ok, refuse_ok, need_ok}
 use Rattle.ror_table.specs.declared.amount.Amount.{Amount}
 use Rattle.ror_table.specs.declared.direction.Direction.{Direction}
@@ -26,19 +25,17 @@ use Rattle.ror_table.specs.Spellings.{WritesAmount, by_real, real_of}
 use Rattle.ror_table.specs.Table.{Criterion, Alternative, DecisionTable, criterion_ids, alternative_ids}
 use Rattle.ror_table.proofs.DraftLemmas.{IsDraft-add_criterion, IsDraft-add_alternative}
 use Rattle.ror_table.proofs.SpellingLemmas.{WritesReal-read, IsAmount-real_of}
-use Rattle.ror_show_spreadsheet.specs.declared.fault.SheetFault.{SheetFault}
 use Rattle.ror_show_spreadsheet.specs.declared.lines.Layout.{Layout}
-use Rattle.ror_show_spreadsheet.specs.declared.numbers.Numerals.{Numerals}
-use Rattle.ror_show_spreadsheet.specs.declared.numbers.CellTest.TheVariants.{HasText}
+use Rattle.ror_show_cells.specs.declared.numbers.Numerals.{Numerals}
+use Rattle.ror_show_cells.specs.declared.numbers.CellTest.TheVariants.{HasText}
 use Rattle.ror_show_spreadsheet.specs.Import.{Reading, begun, Numbers, no_numbers, criterion_text, scale_text, scale_of, alternative_text, with_column, column_step, column_at, read_columns, number_step, number_at, numbers_of, with_row, filled_row, row_step, read_rows}
 use Rattle.ror_show_spreadsheet.specs.Names.{column_id, row_id}
-use Rattle.ror_show_spreadsheet.specs.Numbers.{amount_in, word_of, may_group, other_mark, any_cell}
-use Rattle.ror_show_spreadsheet.specs.Looks.{has}
+use Rattle.ror_show_cells.specs.Numbers.{amount_in, word_of, any_cell}
 use Rattle.ror_show_spreadsheet.specs.Options.{Named}
-use Rattle.ror_show_spreadsheet.specs.Rows.{Cells}
+use Rattle.ror_show_cells.specs.Rows.{Cells}
 use Rattle.ror_show_spreadsheet.proofs.Cutting.{Words, IsSeen, IsSeenLine, text_of, utf8_bytes}
 use Rattle.ror_show_spreadsheet.proofs.Loops.{brings_all, brings, ok_same}
-use Rattle.ror_show_spreadsheet.proofs.Spelt.{IsShortNumber, real_word}
+use Rattle.ror_show_spreadsheet.proofs.Spelt.{real_word}
 
 -- ---- a cell's number
 

@@ -1,8 +1,8 @@
 -- The faults of a draft among those of a sheet.
 use Rattle.ror_table.specs.declared.fault.DraftFault.{DraftFault}
 use Rattle.ror_table.specs.declared.fault.DraftFault.TheVariants as drafts
-use Rattle.ror_show_spreadsheet.specs.declared.fault.SheetKind.{SheetKind}
-use Rattle.ror_show_spreadsheet.specs.declared.fault.SheetKind.TheVariants.{NoName, RepeatedId, TooMany, Empty, WideScale}
+use Rattle.ror_show_cells.specs.declared.fault.SheetKind.{SheetKind}
+use Rattle.ror_show_cells.specs.declared.fault.SheetKind.TheVariants.{NoName, RepeatedId, TooMany, Empty, WideScale}
 
 abbrev pub draft_kind : DraftFault → SheetKind
 draft_kind drafts.BadId = NoName

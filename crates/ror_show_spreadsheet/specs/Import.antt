@@ -12,23 +12,23 @@ use Rattle.ror_table.specs.declared.fault.What.TheVariants as whats
 use Rattle.ror_table.specs.Draft.{empty_table, with_criterion, with_alternative, finished}
 use Rattle.ror_table.specs.Grammar.{direction_word}
 use Rattle.ror_table.specs.Table.{DecisionTable}
-use Rattle.ror_show_spreadsheet.specs.declared.fault.OptionName.TheVariants as named
-use Rattle.ror_show_spreadsheet.specs.declared.fault.SheetFault.{SheetFault}
-use Rattle.ror_show_spreadsheet.specs.declared.fault.SheetKind.TheVariants.{OneColumn, Ragged, NoName, RepeatedId, BadDirection, NoDirection, TwoDirections, TooMany, Empty, WideScale}
+use Rattle.ror_show_cells.specs.declared.fault.OptionName.TheVariants as named
+use Rattle.ror_show_cells.specs.declared.fault.SheetFault.{SheetFault}
+use Rattle.ror_show_cells.specs.declared.fault.SheetKind.TheVariants.{OneColumn, Ragged, NoName, RepeatedId, BadDirection, NoDirection, TwoDirections, TooMany, Empty, WideScale}
 use Rattle.ror_show_spreadsheet.specs.declared.importing.Imported.{Imported}
 use Rattle.ror_show_spreadsheet.specs.declared.lines.Layout.{Layout}
 use Rattle.ror_show_spreadsheet.specs.declared.lines.Numbers as numbers
 use Rattle.ror_show_spreadsheet.specs.declared.columns.Reading as readings
-use Rattle.ror_show_spreadsheet.specs.declared.numbers.CellTest.TheVariants.{HasText, SaysScale}
-use Rattle.ror_show_spreadsheet.specs.declared.numbers.Numerals.{Numerals}
-use Rattle.ror_show_spreadsheet.specs.declared.separator.Separator.{Separator}
-use Rattle.ror_show_spreadsheet.specs.Faults.{fault_at, whole_fault}
+use Rattle.ror_show_cells.specs.declared.numbers.CellTest.TheVariants.{HasText, SaysScale}
+use Rattle.ror_show_cells.specs.declared.numbers.Numerals.{Numerals}
+use Rattle.ror_show_cells.specs.declared.separator.Separator.{Separator}
+use Rattle.ror_show_cells.specs.Faults.{fault_at, whole_fault}
 use Rattle.ror_show_spreadsheet.specs.Names.{column_id, row_id}
-use Rattle.ror_show_spreadsheet.specs.Numbers.{any_cell, numerals_of, amount_in, word_of, kind_of}
+use Rattle.ror_show_cells.specs.Numbers.{any_cell, numerals_of, amount_in, word_of, kind_of}
 use Rattle.ror_show_spreadsheet.specs.Options.{Named, names, known_names}
-use Rattle.ror_show_spreadsheet.specs.Rows.{Cells, row_at}
-use Rattle.ror_show_spreadsheet.specs.Scales.{scale_in}
-use Rattle.ror_show_spreadsheet.specs.Sheet.{Sheet, sheet_of}
+use Rattle.ror_show_cells.specs.Rows.{Cells, row_at}
+use Rattle.ror_show_cells.specs.Scales.{scale_in}
+use Rattle.ror_show_cells.specs.Sheet.{Sheet, sheet_of}
 
 -- what was read so far: the table, and the lines of a plain table that write it
 pub record Reading : Type 0 where

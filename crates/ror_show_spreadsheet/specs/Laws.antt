@@ -5,15 +5,15 @@ use Rattle.ror_text.specs.Lines.{word_at}
 use Rattle.ror_table.specs.Plain.{plain_table}
 use Rattle.ror_table.specs.Table.{Criterion, Alternative, performance_of}
 use Rattle.ror_show_spreadsheet.specs.declared.importing.Imported.{Imported}
-use Rattle.ror_show_spreadsheet.specs.declared.numbers.CellTest.TheVariants.{HasText}
-use Rattle.ror_show_spreadsheet.specs.declared.numbers.Numerals.{Numerals}
-use Rattle.ror_show_spreadsheet.specs.declared.spreadsheet.TheConstants.{MOST_ROWS}
+use Rattle.ror_show_cells.specs.declared.numbers.CellTest.TheVariants.{HasText}
+use Rattle.ror_show_cells.specs.declared.numbers.Numerals.{Numerals}
+use Rattle.ror_show_cells.specs.declared.spreadsheet.TheConstants.{MOST_ROWS}
 use Rattle.ror_show_spreadsheet.specs.Import.{words_of, word_in, scale_of, before_of, body_of, imported_in, imported_of}
 use Rattle.ror_show_spreadsheet.specs.Names.{column_id, row_id}
-use Rattle.ror_show_spreadsheet.specs.Numbers.{any_cell, amount_in}
+use Rattle.ror_show_cells.specs.Numbers.{any_cell, amount_in}
 use Rattle.ror_show_spreadsheet.specs.Options.{Named}
-use Rattle.ror_show_spreadsheet.specs.Rows.{Cells, row_at}
-use Rattle.ror_show_spreadsheet.specs.Sheet.{Sheet}
+use Rattle.ror_show_cells.specs.Rows.{Cells, row_at}
+use Rattle.ror_show_cells.specs.Sheet.{Sheet}
 
 -- what is written is read as the same table
 abbrev pub TextsAreReadBack : Type 0

@@ -1,11 +1,5 @@
-pub mod Rows
-pub mod Sheet
-pub mod Looks
-pub mod Scales
-pub mod Numbers
 pub mod Names
 pub mod Options
-pub mod Faults
 pub mod Drafts
 pub mod Import
 pub mod Notes

@@ -1,19 +1,19 @@
 -- What is told of a spreadsheet.
-use Rattle.std.specs.Prelude.{◌≡◌, ℕ, ◌+◌, ◌-◌, ◌==◌, ◌||◌, nat_lt, List, [], ◌∷◌, ◌++◌, length, map, codes, decimal, if◌then◌else◌}
+use Rattle.std.specs.Prelude.{◌≡◌, ℕ, ◌+◌, ◌-◌, ◌==◌, ◌||◌, nat_lt, List, [], ◌++◌, length, map, codes, decimal, if◌then◌else◌}
 use Rattle.std.specs.List.{enumerate_from, flat_map, range_with_len}
 use Rattle.std.specs.Str.{bytes_eq}
 use Rattle.ror_text.specs.Lines.{word_at}
-use Rattle.ror_show_spreadsheet.specs.declared.fault.SheetFault.{SheetFault}
+use Rattle.ror_show_cells.specs.declared.fault.SheetFault.{SheetFault}
 use Rattle.ror_show_spreadsheet.specs.declared.notes.TheConstants.{MOST_SHOWN}
-use Rattle.ror_show_spreadsheet.specs.declared.numbers.CellTest.TheVariants.{HasText}
-use Rattle.ror_show_spreadsheet.specs.declared.numbers.Numerals.{Numerals}
-use Rattle.ror_show_spreadsheet.specs.declared.separator.Separator.{Separator}
-use Rattle.ror_show_spreadsheet.specs.declared.separator.Separator.TheVariants.{Comma, Semicolon, Tab}
+use Rattle.ror_show_cells.specs.declared.numbers.CellTest.TheVariants.{HasText}
+use Rattle.ror_show_cells.specs.declared.numbers.Numerals.{Numerals}
+use Rattle.ror_show_cells.specs.declared.separator.Separator.{Separator}
+use Rattle.ror_show_cells.specs.declared.separator.Separator.TheVariants.{Comma, Semicolon, Tab}
 use Rattle.ror_show_spreadsheet.specs.Import.{words_of, before_of, body_of}
 use Rattle.ror_show_spreadsheet.specs.Names.{column_id, row_id}
-use Rattle.ror_show_spreadsheet.specs.Numbers.{any_cell}
-use Rattle.ror_show_spreadsheet.specs.Rows.{Cells, row_at}
-use Rattle.ror_show_spreadsheet.specs.Sheet.{Sheet}
+use Rattle.ror_show_cells.specs.Numbers.{any_cell}
+use Rattle.ror_show_cells.specs.Rows.{Cells, row_at}
+use Rattle.ror_show_cells.specs.Sheet.{Sheet}
 
 -- ---- how it was read
 

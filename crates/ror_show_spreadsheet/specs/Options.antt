@@ -3,12 +3,12 @@ use Rattle.std.specs.Prelude.{ℕ, ◌+◌, ◌==◌, Bool, false, not, List, dr
 use Rattle.std.specs.Option.{option_map, option_map_or}
 use Rattle.std.specs.List.{list_any, slice_split}
 use Rattle.std.specs.Str.{bytes_eq}
-use Rattle.ror_show_spreadsheet.specs.declared.fault.OptionName.{OptionName}
-use Rattle.ror_show_spreadsheet.specs.declared.fault.SheetFault.{SheetFault}
-use Rattle.ror_show_spreadsheet.specs.declared.fault.SheetKind.TheVariants.{UnknownName}
+use Rattle.ror_show_cells.specs.declared.fault.OptionName.{OptionName}
+use Rattle.ror_show_cells.specs.declared.fault.SheetFault.{SheetFault}
+use Rattle.ror_show_cells.specs.declared.fault.SheetKind.TheVariants.{UnknownName}
 use Rattle.ror_show_spreadsheet.specs.declared.options.Options as declared
-use Rattle.ror_show_spreadsheet.specs.Faults.{fault_at}
-use Rattle.ror_show_spreadsheet.specs.Rows.{Cells}
+use Rattle.ror_show_cells.specs.Faults.{fault_at}
+use Rattle.ror_show_cells.specs.Rows.{Cells}
 
 -- their words
 pub record Named : Type 0 where

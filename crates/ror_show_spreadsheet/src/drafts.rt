@@ -5,10 +5,10 @@ ghost use Rattle.ror_text.specs.Reading.{Gives};
 ghost use Rattle.ror_table.specs.declared.fault.DraftFault.TheVariants.{BadId, RepeatedId, TooMany};
 ghost use Rattle.ror_table.specs.declared.fault.What.TheVariants.{Criteria};
 ghost use Rattle.ror_table.specs.Draft.{draft_fault, add_criterion, with_criterion};
-ghost use Rattle.ror_show_spreadsheet.specs.Faults.{sheet_fault, fault_at};
+ghost use Rattle.ror_show_cells.specs.Faults.{sheet_fault, fault_at};
 ghost use Rattle.ror_show_spreadsheet.specs.Drafts as spec;
 
-use crate::fault::{SheetError, SheetKind, bad};
+use ror_show_cells::{SheetError, SheetKind, bad};
 use ror_table::{Draft, DraftFault, Scale};
 
 /// The error of a draft's fault at this place.

@@ -3,19 +3,18 @@
 ghost use Rattle.std.specs.Prelude.{◌≡◌, ◌<◌, ◌≤◌, ◌+◌, ◌^◌, length, option_map, IfOk};
 ghost use Rattle.ror_text.specs.Reading.{Gives};
 ghost use Rattle.ror_table.specs.Table.{IsTable};
-ghost use Rattle.ror_show_spreadsheet.specs.Faults.{sheet_fault};
+ghost use Rattle.ror_show_cells.specs.Faults.{sheet_fault};
 ghost use Rattle.ror_show_spreadsheet.specs.Import as spec;
 ghost use Rattle.ror_show_spreadsheet.specs.Options.{options_with};
-ghost use Rattle.ror_show_spreadsheet.specs.Sheet.{sheet_with};
+ghost use Rattle.ror_show_cells.specs.Sheet.{sheet_with};
 
 use crate::columns::{Reading, check_options, even_row, even_words, read_columns, words_of};
 use crate::drafts::draft_error;
-use crate::fault::{SheetError, SheetKind, bad};
 use crate::lines::{Layout, read_rows};
-use crate::numbers::{Numerals, numerals_of};
 use crate::options::Options;
-use crate::row::Row;
-use crate::spreadsheet::{Spreadsheet, read_spreadsheet};
+use ror_show_cells::{
+    Numerals, Row, SheetError, SheetKind, Spreadsheet, bad, numerals_of, read_spreadsheet,
+};
 use ror_table::Table;
 use ror_text::Items;
 use ror_text::reading::refuse_if;

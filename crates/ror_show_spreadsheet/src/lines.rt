@@ -5,17 +5,16 @@ ghost use Rattle.ror_text.specs.Reading.{Gives};
 ghost use Rattle.ror_table.specs.declared.fault.What.TheVariants.{Alternatives};
 ghost use Rattle.ror_table.specs.Amounts.{IsAmount};
 ghost use Rattle.ror_table.specs.Draft.{add_alternative, with_alternative};
-ghost use Rattle.ror_show_spreadsheet.specs.declared.fault.SheetKind.TheVariants.{NoName, RepeatedId, TooMany};
-ghost use Rattle.ror_show_spreadsheet.specs.Faults.{sheet_fault, fault_at};
+ghost use Rattle.ror_show_cells.specs.declared.fault.SheetKind.TheVariants.{NoName, RepeatedId, TooMany};
+ghost use Rattle.ror_show_cells.specs.Faults.{sheet_fault, fault_at};
 ghost use Rattle.ror_show_spreadsheet.specs.Import as spec;
 
 use crate::columns::{Reading, even_row};
 use crate::drafts::draft_error;
-use crate::fault::{SheetError, SheetKind, bad};
-use crate::kinds::kind_of;
 use crate::names::row_id;
-use crate::numbers::{CellTest, Numerals, amount_in, any_cell, word_of};
-use crate::row::Row;
+use ror_show_cells::{
+    CellTest, Numerals, Row, SheetError, SheetKind, amount_in, any_cell, bad, kind_of, word_of,
+};
 use ror_table::{Amount, Draft};
 use ror_text::ids::id_text;
 use ror_text::reading::refuse_if;

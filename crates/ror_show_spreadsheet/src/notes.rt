@@ -3,17 +3,15 @@
 ghost use Rattle.std.specs.Prelude.{◌≡◌, ◌+◌, ◌<◌, ◌^◌, ◌++◌, length, OnOk};
 ghost use Rattle.ror_show_spreadsheet.specs.Import.{before_of};
 ghost use Rattle.ror_show_spreadsheet.specs.Notes as spec;
-ghost use Rattle.ror_show_spreadsheet.specs.Sheet.{sheet_with};
+ghost use Rattle.ror_show_cells.specs.Sheet.{sheet_with};
 
 use crate::columns::words_of;
-use crate::fault::{OptionName, SheetFault, SheetKind};
 use crate::importing::{before_of, rows_behind};
 use crate::names::{column_id, row_id};
-use crate::numbers::{CellTest, Numerals, any_cell};
-use crate::row::Row;
-use crate::separator::Separator;
-use crate::spreadsheet::Spreadsheet;
 use itoa::Buffer;
+use ror_show_cells::{
+    CellTest, Numerals, OptionName, Row, Separator, SheetFault, SheetKind, Spreadsheet, any_cell,
+};
 use ror_table::What;
 use std::alloc::{AllocError, Global};
 

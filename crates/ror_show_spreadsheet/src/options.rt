@@ -3,11 +3,10 @@
 ghost use Rattle.std.specs.Prelude.{◌≡◌, map, option_map, IfOk};
 ghost use Rattle.std.specs.Str.{bytes_eq};
 ghost use Rattle.ror_text.specs.Reading.{Gives};
-ghost use Rattle.ror_show_spreadsheet.specs.Faults.{sheet_fault};
+ghost use Rattle.ror_show_cells.specs.Faults.{sheet_fault};
 ghost use Rattle.ror_show_spreadsheet.specs.Options as spec;
 
-use crate::fault::{OptionName, SheetError, SheetKind, bad};
-use crate::row::Row;
+use ror_show_cells::{OptionName, Row, SheetError, SheetKind, bad};
 use std::alloc::{AllocError, Global};
 
 /// The names of criteria, with commas between, of which smaller or greater values are better, and of those that are linear. They are

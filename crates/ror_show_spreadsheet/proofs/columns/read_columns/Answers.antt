@@ -1,9 +1,9 @@
-use Rattle.std.proofs.Common.{◌≡◌, ◌+◌, ◌-◌, ◌<◌, length, arith, refl, ap}
+use Rattle.std.proofs.Common.{◌≡◌, ◌-◌, ◌<◌, length, arith, refl, ap}
 use Rattle.std.specs.List.{range_with_len}
 use Rattle.std.specs.Option.{option_map}
 use Rattle.std.proofs.lemmas.Result.{err_from_is_err_and}
 use Rattle.ror_text.specs.Reading.{read_all}
-use Rattle.ror_show_spreadsheet.specs.Faults.{sheet_fault}
+use Rattle.ror_show_cells.specs.Faults.{sheet_fault}
 use Rattle.ror_show_spreadsheet.specs.Import.{Reading, begun, column_at, reading_with}
 use Rattle.ror_show_spreadsheet.specs.Options.{options_with}
 use Rattle.ror_show_spreadsheet.proofs.Loops.{range_on, range_exit}

@@ -7,11 +7,11 @@ use Rattle.ror_table.specs.declared.fault.DraftFault.TheVariants.{Empty, TooMany
 use Rattle.ror_table.specs.declared.fault.What.TheVariants.{Steps}
 use Rattle.ror_table.specs.Draft.{draft_fault}
 use Rattle.ror_table.specs.Table.{DecisionTable}
-use Rattle.ror_show_spreadsheet.specs.declared.fault.SheetFault.{SheetFault}
+use Rattle.ror_show_cells.specs.declared.fault.SheetFault.{SheetFault}
 use Rattle.ror_show_spreadsheet.specs.declared.importing.Imported.{Imported}
-use Rattle.ror_show_spreadsheet.specs.declared.numbers.Numerals.{Numerals}
+use Rattle.ror_show_cells.specs.declared.numbers.Numerals.{Numerals}
 use Rattle.ror_show_spreadsheet.specs.Drafts.{draft_kind}
-use Rattle.ror_show_spreadsheet.specs.Faults.{fault_at, sheet_fault}
+use Rattle.ror_show_cells.specs.Faults.{fault_at, sheet_fault}
 use Rattle.ror_show_spreadsheet.specs.Import.{whole}
 use Rattle.ror_show_spreadsheet.proofs.Renamed.{renamed, err_renamed, finished_renamed}
 use Rattle.ror_show_spreadsheet.proofs.importing.whole.Goals as goal

@@ -1,6 +1,6 @@
-use Rattle.std.proofs.Common.{◌≡◌, ◌+◌, ◌<◌, length, arith}
+use Rattle.std.proofs.Common.{◌<◌, length, arith}
 use Rattle.std.proofs.lemmas.Result.{err_from_is_err_and}
-use Rattle.ror_show_spreadsheet.specs.Faults.{sheet_fault}
+use Rattle.ror_show_cells.specs.Faults.{sheet_fault}
 use Rattle.ror_show_spreadsheet.specs.Import.{numbers_of, numbers_with, number_at}
 use Rattle.ror_show_spreadsheet.proofs.Loops.{range_on, range_exit}
 use Rattle.ror_show_spreadsheet.proofs.lines.numbers_of.Goals as goal

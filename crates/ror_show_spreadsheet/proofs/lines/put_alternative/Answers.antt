@@ -5,7 +5,7 @@ use Rattle.ror_table.specs.declared.fault.DraftFault.TheVariants.{BadId, Repeate
 use Rattle.ror_table.specs.declared.fault.What.TheVariants.{Alternatives}
 use Rattle.ror_table.specs.Draft.{draft_fault}
 use Rattle.ror_show_spreadsheet.specs.Drafts.{draft_kind}
-use Rattle.ror_show_spreadsheet.specs.Faults.{fault_at, sheet_fault}
+use Rattle.ror_show_cells.specs.Faults.{fault_at, sheet_fault}
 use Rattle.ror_show_spreadsheet.proofs.Renamed.{renamed, err_renamed, alternative_renamed}
 use Rattle.ror_show_spreadsheet.proofs.lines.put_alternative.Goals as goal
 

@@ -3,7 +3,7 @@ use borrow.Author.Tests.{tests}
 use Rattle.std.proofs.lemmas.Iterator.{YieldsList-from_slice}
 use Rattle.std.proofs.lemmas.Iterator.Search.{position_from_yields_List}
 use Rattle.ror_show_spreadsheet.specs.Options.{is_criterion}
-use Rattle.ror_show_spreadsheet.proofs.Cells.{position_map}
+use Rattle.ror_show_spreadsheet.proofs.Places.{position_map}
 use Rattle.ror_show_spreadsheet.proofs.options.unknown_place.Goals as goal
 
 pub returns : goal.returns
