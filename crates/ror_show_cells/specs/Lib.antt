@@ -4,3 +4,4 @@ pub mod Looks
 pub mod Scales
 pub mod Numbers
 pub mod Faults
+pub mod Laws

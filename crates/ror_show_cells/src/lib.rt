@@ -11,11 +11,12 @@
 //! ```
 //!
 //! The definitions that the clauses cite stand in `specs/`: what a row and a cell are in `Rows`, which bytes are a spreadsheet in `Sheet`, which
-//! cells are numbers in `Numbers`.
+//! cells are numbers in `Numbers`, and in `Laws` that a number has one meaning.
 #![tactic(auto)]
 
 mod fault;
 mod kinds;
+pub mod laws;
 mod looks;
 mod numbers;
 mod row;

@@ -1,34 +1,15 @@
 -- One turn of a loop, and what the turns of a reader bring together.
-use Rattle.std.proofs.Common.{◌≡◌, ℕ, zero, suc, ◌+◌, ◌-◌, ◌<◌, List, [], ◌∷◌, ◌++◌, length, get_or, take, drop, map, Result, Ok, Err, refl, sym, ap, subst, ◌∙◌, arith, append_assoc, inl, inr}
+use Rattle.std.proofs.Common.{◌≡◌, ℕ, suc, ◌+◌, ◌-◌, ◌<◌, List, [], ◌∷◌, ◌++◌, Result, Ok, Err, sym, ap, subst, ◌∙◌, arith, append_assoc}
 use Rattle.std.specs.Prelude.{Option, IfSome}
 use Rattle.std.specs.List.{flat_map, range_with_len}
-use Rattle.std.proofs.lemmas.Bool.{cases_order}
-use Rattle.std.proofs.lemmas.List.{append-nil, map_push, take_more}
+use Rattle.std.proofs.lemmas.List.{append-nil}
 use Rattle.ror_text.specs.Reading.{◌>>=◌, read_all}
 use Rattle.ror_text.proofs.ReadingLemmas.{bind_ok, gives_exit}
-
--- an element, and those behind it
-pub drop-at : {A : Type 0} (xs : List A) (k : ℕ) (d : A) → k < length xs → drop k xs ≡ get_or xs k d ∷ drop (k + 1) xs
-drop-at [] k d h = absurd (omega arith)
-drop-at (x ∷ xs) zero d h = refl
-drop-at (x ∷ xs) (suc k) d h = let e : suc k + 1 ≡ suc (k + 1) = omega arith in rw e (drop-at xs k d (omega arith))
 
 -- a number, and those behind it
 pub range-at : (k n : ℕ) → k < n → range_with_len k (n - k) ≡ k ∷ range_with_len (k + 1) (n - (k + 1))
 range-at k n h =
     let e : n - k ≡ suc (n - (k + 1)) = omega arith in
-    ap (range_with_len k) e
-
-le_zero : (k n : ℕ) → (k < n → ⊥) → n - k ≡ 0
-le_zero k n h = elim (cases_order k n) [
-  | inl same ↦ omega arith
-  | inr (inl less) ↦ absurd (h less)
-  | inr (inr more) ↦ omega arith
-]
-
-pub range-end : (k n : ℕ) → (k < n → ⊥) → range_with_len k (n - k) ≡ []
-range-end k n h =
-    let e : n - k ≡ 0 = le_zero k n h in
     ap (range_with_len k) e
 
 -- ---- a reader over numbers
@@ -53,11 +34,6 @@ piece_on f k n text more goal less pushed so_far =
     ap (λ (t : List ℕ). t ++ flat_map f (range_with_len (k + 1) (n - (k + 1)))) pushed
     ∙ append_assoc text (f k) (flat_map f (range_with_len (k + 1) (n - (k + 1))))
     ∙ sym (ap (λ (ks : List ℕ). text ++ flat_map f ks) (range-at k n less)) ∙ so_far
-
--- one byte more
-pub mapped_more : {A B : Type 0} (f : A → B) (xs : List A) (k : ℕ) (d : A) (ys zs : List B) → k < length xs → ys ≡ map f (take k xs) → zs ≡ ys ++ f (get_or xs k d) ∷ [] → zs ≡ map f (take (k + 1) xs)
-mapped_more f xs k d ys zs less so_far pushed =
-    pushed ∙ ap (λ l. l ++ f (get_or xs k d) ∷ []) so_far ∙ sym (map_push f (take k xs) (get_or xs k d)) ∙ sym (ap (map f) (take_more xs k d less))
 
 -- ---- what the steps of a reader bring together
 

@@ -7,7 +7,6 @@ use Rattle.ror_table.specs.Table.{Criterion, Alternative, performance_of}
 use Rattle.ror_show_spreadsheet.specs.declared.importing.Imported.{Imported}
 use Rattle.ror_show_cells.specs.declared.numbers.CellTest.TheVariants.{HasText}
 use Rattle.ror_show_cells.specs.declared.numbers.Numerals.{Numerals}
-use Rattle.ror_show_cells.specs.declared.spreadsheet.TheConstants.{MOST_ROWS}
 use Rattle.ror_show_spreadsheet.specs.Import.{words_of, word_in, scale_of, before_of, body_of, imported_in, imported_of}
 use Rattle.ror_show_spreadsheet.specs.Names.{column_id, row_id}
 use Rattle.ror_show_cells.specs.Numbers.{any_cell, amount_in}
@@ -44,7 +43,3 @@ pub record IsOfSheet (o : Named) (sheet : Sheet) (x : Imported) : Type 0 where
 
 abbrev pub ValuesAreCells : Type 0
 ValuesAreCells = (o : Named) (sheet : Sheet) (x : Imported) → imported_in o sheet ≡ Ok x → IsOfSheet o sheet x
-
--- what the limit is
-abbrev pub LimitsAre : Type 0
-LimitsAre = MOST_ROWS ≡ 1000

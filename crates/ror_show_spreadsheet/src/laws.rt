@@ -1,6 +1,6 @@
 //! Laws of the definitions, each the clause of a function that does nothing.
 
-ghost use Rattle.ror_show_spreadsheet.specs.Laws.{TextsAreReadBack, ValuesAreCells, LimitsAre};
+ghost use Rattle.ror_show_spreadsheet.specs.Laws.{TextsAreReadBack, ValuesAreCells};
 
 /// The text that a spreadsheet leads to is read as the table that the spreadsheet is read as.
 pub fn texts_are_read_back()
@@ -11,9 +11,4 @@ pub fn texts_are_read_back()
 /// are the numbers of the row's cells, in their columns.
 pub fn values_are_cells()
     ensures { ValuesAreCells }
-{}
-
-/// A spreadsheet has at most 1,000 rows.
-pub fn limits()
-    ensures { LimitsAre }
 {}
