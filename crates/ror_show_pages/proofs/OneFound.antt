@@ -3,6 +3,7 @@ use Rattle.std.proofs.Common.{◌≡◌, ℕ, ◌<◌, zero, suc, Bool, true, fa
 use Rattle.std.specs.Prelude.{slice_get, option_map}
 use Rattle.std.specs.List.{AllByRecursion, AllZip}
 use Rattle.ror_statement.specs.declared.statement.Numbered.{Numbered}
+use Rattle.ror_statement.specs.declared.statement.Statement.{Statement}
 use Rattle.ror_table.specs.Table.{DecisionTable}
 use Rattle.ror_proof.specs.declared.answer.Answer.{Answer}
 use Rattle.ror_report.specs.Text.{answers_of}
@@ -20,6 +21,7 @@ use Rattle.ror_show_find_relation.specs.Relations.{Square}
 use Rattle.ror_show_find_classes.specs.declared.findings.ClassLine.{ClassLine}
 use Rattle.ror_show_find_classes.specs.declared.findings.TimeFound.{TimeFound}
 use Rattle.ror_show_find_classes.specs.Findings.{time_from}
+use Rattle.ror_show_find_classes.specs.Signs.{alternative_of}
 use Rattle.ror_show_find_proofs.specs.declared.findings.FunctionFound.{FunctionFound}
 use Rattle.ror_show_find_proofs.specs.declared.findings.FunctionsFound.{FunctionsFound}
 use Rattle.ror_show_find_proofs.specs.Findings.{AreFunctionsAt, AreFunctionsFound, functions_found}
@@ -37,7 +39,17 @@ use Rattle.ror_show_find_reasons.specs.declared.pairs.RelationFound.{RelationFou
 use Rattle.ror_show_find_reasons.specs.Bounds.{IsBoundWhere, AreBoundsOver, AreBoundsWhere, AreBoundsOf, IsClassesFound, AreClassesFound}
 use Rattle.ror_show_find_reasons.specs.Lines.{told_places, IsToldAt, AreToldOver, dropped_places, IsDropAt, AreDropsOver, AreDrops, said_for, IsLineFound, AreLinesFound, dropped_by}
 use Rattle.ror_show_find_reasons.specs.Pairs.{IsCarriedPair, AreCarriedOver, AreCarriedWhere, IsRelationFound, AreRelationsFound, IsChangeFound, AreChangesFound}
-use Rattle.ror_show_pages.specs.PageLaws.{SameRelation, SameChange, SameClasses, SameLine}
+use Rattle.ror_show_find_whatif.specs.declared.cases.Case.{Case}
+use Rattle.ror_show_find_whatif.specs.declared.cases.Contrary.{Contrary}
+use Rattle.ror_show_find_whatif.specs.declared.outcome.Asks.{Asks}
+use Rattle.ror_show_find_whatif.specs.declared.outcome.Asks.TheVariants as asking
+use Rattle.ror_show_find_whatif.specs.declared.times.TimeWhatIf.{TimeWhatIf}
+use Rattle.ror_show_find_whatif.specs.declared.whatif.WhatIf.{WhatIf}
+use Rattle.ror_show_find_whatif.specs.Agreement.{agreement_by}
+use Rattle.ror_show_find_whatif.specs.Cases.{IsCase, IsContraryWhere, AreCasesOver}
+use Rattle.ror_show_find_whatif.specs.Changed.{contrary_of}
+use Rattle.ror_show_find_whatif.specs.Findings.{IsWhatIf, AreRelationWhatIfs, IsRowWhatIf, IsTimeWhatIf, AreClassWhatIfs}
+use Rattle.ror_show_pages.specs.PageLaws.{SameRelation, SameChange, SameClasses, SameLine, contrary_said, SameWhatIf, SameTimeWhatIf}
 use Rattle.ror_show_pages.proofs.OneContent.{one_content}
 
 -- ---- lists with one for each
@@ -271,3 +283,60 @@ line_same m g n f h p q =
 
 pub lines_same : (m : Meant) (g : Ground) (fs hs : List LineFound) → AreLinesFound m g fs → AreLinesFound m g hs → AllZip SameLine fs hs
 lines_same m g fs hs p q = zip_same (IsLineFound m g) SameLine _ fs hs (line_same m g) p q
+
+-- ---- what hangs on statements
+
+contrary_same : (t : DecisionTable) (asks : Asks) (list : List Numbered) (xs : List Answer) (x : Numbered) (o : Option Statement) (f h : Option Contrary) → IsContraryWhere t asks list xs x o f → IsContraryWhere t asks list xs x o h → option_map (λ (c : Contrary). c.statement) f ≡ option_map (λ (c : Contrary). c.statement) h
+contrary_same t asks list xs x (Some s) f h p q =
+    ap (option_map (λ (c : Contrary). c.statement)) p.2 ∙ ap Some (p.1.statement ∙ sym q.1.statement) ∙ sym (ap (option_map (λ (c : Contrary). c.statement)) q.2)
+contrary_same t asks list xs x None f h p q = ap (option_map (λ (c : Contrary). c.statement)) (p ∙ sym q)
+
+pub record SameCase (f h : Case) : Type 0 where
+  pub stated : f.stated ≡ h.stated
+  pub contrary : contrary_said f ≡ contrary_said h
+
+case_same : (t : DecisionTable) (asks : Asks) (list : List Numbered) (xs : List Answer) (x : Numbered) (f h : Case) → IsCase t asks list xs x f → IsCase t asks list xs x h → SameCase f h
+case_same t asks list xs x f h p q = record {
+  stated = p.stated ∙ sym q.stated;
+  contrary = contrary_same t asks list xs x (contrary_of x.statement) f.contrary h.contrary p.contrary q.contrary;
+}
+
+cases_are : (fs hs : List Case) → fs ≡ hs → AllZip SameCase fs hs
+cases_are fs hs same = subst (AllZip SameCase fs) same (each fs)
+  where
+    each : (cs : List Case) → AllZip SameCase cs cs
+    each [] = tt
+    each (c ∷ cs) = (record { stated = refl; contrary = refl }, each cs)
+
+cases_same : (t : DecisionTable) (asks : Asks) (xs : List Answer) (stood : Option (List Numbered)) (fs hs : List Case) → AreCasesOver t asks xs stood fs → AreCasesOver t asks xs stood hs → AllZip SameCase fs hs
+cases_same t asks xs (Some list) fs hs p q = zip_same (IsCase t asks list xs) SameCase list fs hs (case_same t asks list xs) p q
+cases_same t asks xs None fs hs p q = cases_are fs hs (p ∙ sym q)
+
+whatif_same : (asks : Asks) (g : Ground) (n : ℕ) (f h : WhatIf) → IsWhatIf asks g n f → IsWhatIf asks g n h → SameWhatIf f h
+whatif_same asks g n f h p q =
+    let line = same_line g n p.line q.line p.there q.there in
+    let first = subst (λ (x : KeptLine). AreCasesOver g.table asks (answers_of x.block.body) x.standing f.cases) line p.cases in
+    let same = cases_same g.table asks (answers_of q.line.block.body) q.line.standing f.cases h.cases first q.cases in
+    record {
+      place = p.place ∙ sym q.place;
+      alternative = p.alternative ∙ ap (λ (x : KeptLine). alternative_of (answers_of x.block.body)) line ∙ sym q.alternative;
+      agreement = p.agreement ∙ ap (λ (x : KeptLine). agreement_by (answers_of x.block.body)) line ∙ sym q.agreement;
+      stated = are_same (λ (c : Case). c.stated) f.cases h.cases (zip_by SameCase (λ c d. c.stated ≡ d.stated) f.cases h.cases (λ c d is. is.stated) same);
+      contraries = are_same contrary_said f.cases h.cases (zip_by SameCase (λ c d. contrary_said c ≡ contrary_said d) f.cases h.cases (λ c d is. is.contrary) same);
+    }
+
+pub whatifs_same : (g : Ground) (fs hs : List WhatIf) → AreRelationWhatIfs g fs → AreRelationWhatIfs g hs → AllZip SameWhatIf fs hs
+whatifs_same g fs hs p q = zip_same (IsWhatIf asking.Relation g) SameWhatIf _ fs hs (whatif_same asking.Relation g) p q
+
+time_same : (g : Ground) (n : ℕ) (f h : TimeWhatIf) → IsTimeWhatIf g n f → IsTimeWhatIf g n h → SameTimeWhatIf f h
+time_same g n f h p q =
+    let line = same_line g n p.time.0 q.time.0 p.time.1 q.time.1 in
+    let time : f.time ≡ h.time = p.time.2 ∙ ap (λ (x : KeptLine). time_from g n (desk_of g.session x)) line ∙ sym q.time.2 in
+    let rows = subst (λ (u : TimeFound). AllZip (IsRowWhatIf g) u.rows f.rows) time p.rows in
+    record {
+      time = time;
+      rows = zip_same (IsRowWhatIf g) SameWhatIf h.time.rows f.rows h.rows (λ row. whatif_same asking.Classes g row.place) rows q.rows;
+    }
+
+pub times_same : (g : Ground) (fs hs : List TimeWhatIf) → AreClassWhatIfs g fs → AreClassWhatIfs g hs → AllZip SameTimeWhatIf fs hs
+times_same g fs hs p q = zip_same (IsTimeWhatIf g) SameTimeWhatIf _ fs hs (time_same g) p q

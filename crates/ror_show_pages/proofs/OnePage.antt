@@ -17,12 +17,12 @@ use Rattle.ror_show_words.specs.declared.table.Page.TheVariants as pages
 use Rattle.ror_show_words.specs.declared.words.Form.{Form}
 use Rattle.ror_show_words.specs.declared.words.Form.TheVariants.{Text, Csv, Dot, Certificates}
 use Rattle.ror_show_words.specs.Words.{PageWords, PairWords}
-use Rattle.ror_show_pages.specs.Bodies.{relations_in, AreRelationsIn, AreChangesIn, AreClassesIn, functions_in, AreFunctionsIn, AreReasonsAs}
+use Rattle.ror_show_pages.specs.Bodies.{relations_in, AreRelationsIn, AreChangesIn, AreClassesIn, functions_in, AreFunctionsIn, AreReasonsAs, AreWhatIfsIn}
 use Rattle.ror_show_pages.specs.Reads.{ReadsKept}
 use Rattle.ror_show_pages.specs.PageLaws.{names_parts, OnePage}
 use Rattle.ror_show_pages.specs.Pages.{IsPage, page_of, whole}
 use Rattle.ror_show_pages.proofs.OneContent.{one_content}
-use Rattle.ror_show_pages.proofs.OneFound.{one_relations, one_changes, one_functions, relations_same, changes_same, classes_same, lines_same}
+use Rattle.ror_show_pages.proofs.OneFound.{one_relations, one_changes, one_functions, relations_same, changes_same, classes_same, lines_same, whatifs_same, times_same}
 
 -- one text of the relations in each form for programs
 one_relation : (form : Form) (g : Ground) (one other : List ℕ) → names_parts pages.Relation form ≡ false → AreRelationsIn form g one → AreRelationsIn form g other → one ≡ other
@@ -56,6 +56,13 @@ no_reasons Csv named g one other none p q = p ∙ sym q
 no_reasons Dot named g one other none p q = p ∙ sym q
 no_reasons Certificates named g one other none p q = absurd cc
 
+-- and of what hangs on statements none
+no_whatifs : (form : Form) (g : Ground) (one other : List ℕ) → names_parts pages.WhatIf form ≡ false → AreWhatIfsIn form g one → AreWhatIfsIn form g other → one ≡ other
+no_whatifs Text g one other none p q = absurd cc
+no_whatifs Csv g one other none p q = absurd cc
+no_whatifs Dot g one other none p q = p.text_is ∙ sym q.text_is
+no_whatifs Certificates g one other none p q = p.text_is ∙ sym q.text_is
+
 -- what is said of a ground is one text
 one_body : (page : Page) (words : PageWords) (g : Ground) (one other : List ℕ) → names_parts page words.form ≡ false → (page_of page words.form).Body words g one → (page_of page words.form).Body words g other → one ≡ other
 one_body pages.Relation words g one other none p q = one_relation words.form g one other none p q
@@ -64,6 +71,7 @@ one_body pages.Classes words g one other none p q = one_of_classes words.form g 
 one_body pages.Standing words g one other none p q = p ∙ sym q
 one_body pages.Functions words g one other none p q = one_of_functions words.form g one other p q
 one_body pages.Reasons words g one other none p q = no_reasons words.form words.pair g one other none p q
+one_body pages.WhatIf words g one other none p q = no_whatifs words.form g one other none p q
 
 -- a ground has one page
 one_of_ground : (page : Page) (words : PageWords) (g : Ground) (one other : List ℕ) → names_parts page words.form ≡ false → IsPage (page_of page words.form) words g one → IsPage (page_of page words.form) words g other → one ≡ other
@@ -85,4 +93,6 @@ one_page = record {
   changes = changes_same;
   classes = classes_same;
   reasons = lines_same;
+  whatifs = whatifs_same;
+  times = times_same;
 }

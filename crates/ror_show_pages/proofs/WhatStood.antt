@@ -1,6 +1,6 @@
 -- That the lines of which a page names parts of what stood are kept with that.
-use Rattle.std.proofs.Common.{◌≡◌, ℕ, Bool, true, false, List, [], ◌∷◌, ◌++◌, length, map, Option, Some, refl, sym, ap, subst, ◌∙◌}
-use Rattle.std.specs.Prelude.{zero, suc, ◌&&◌, slice_get, if◌then◌else◌}
+use Rattle.std.proofs.Common.{◌≡◌, ℕ, Bool, true, false, List, [], ◌∷◌, ◌++◌, length, map, Option, Some, None, refl, sym, ap, subst, ◌∙◌}
+use Rattle.std.specs.Prelude.{zero, suc, ◌&&◌, ◌==◌, slice_get, if◌then◌else◌}
 use Rattle.std.specs.List.{AllByRecursion}
 use Rattle.ror_text.proofs.Everywhere.{all-append}
 use Rattle.ror_statement.specs.declared.statement.Numbered.{Numbered}
@@ -25,7 +25,7 @@ use Rattle.ror_show_words.specs.declared.words.Form.{Form}
 use Rattle.ror_show_words.specs.declared.words.Form.TheVariants.{Text, Csv, Dot, Certificates}
 use Rattle.ror_show_words.specs.Words.{PageWords}
 use Rattle.ror_frame.specs.Inputs.{bench_for}
-use Rattle.ror_show_pages.specs.Choosing.{asks_relation, is_line, keep_where, keep_for_changes}
+use Rattle.ror_show_pages.specs.Choosing.{asks_relation, asks_for_list, is_line, keep_where, keep_for_changes, keep_for_whatif}
 use Rattle.ror_show_find_roll.specs.Choosing.{is_desk}
 use Rattle.ror_show_pages.specs.PageLaws.{names_parts, is_question, asks_at, RelationsHaveWhatStood, AskedHaveWhatStood}
 use Rattle.ror_show_pages.specs.Pages.{keep_of, keeps, keep_for_reasons, page_of}
@@ -122,6 +122,10 @@ no_block_of_reason form meant number (Replace n named) is = absurd cc
 no_block_of_reason form meant number Repair is = absurd cc
 no_block_of_reason form meant number Undo is = absurd cc
 
+no_block_of_whatif : (meant : Option ℕ) (number : ℕ) (c : Command) → is_question c ≡ true → NoBlock (keep_for_whatif meant number c)
+no_block_of_whatif None number c asks = no_block_of_change c asks
+no_block_of_whatif (Some n) number c asks = not_block (asks_for_list c && (n == number))
+
 no_block_asked : (page : Page) (form : Form) (words : PageWords) (desks : List (List ℕ)) (line : Line) → names_parts page Text ≡ true → is_question line.command ≡ true → NoBlock (keep_of (page_of page form) words.line words.desk desks line)
 no_block_asked pages.Relation form words desks line names asks = no_block form words desks line
 no_block_asked pages.Changes form words desks line names asks = by (is_desk words.desk (desk_name desks line)) (no_block_of_change line.command asks)
@@ -139,6 +143,11 @@ no_block_asked pages.Functions form words desks line names asks = absurd cc
 no_block_asked pages.Reasons form words desks line names asks = by (is_desk words.desk (desk_name desks line)) (no_block_of_reason form words.line line.number line.command asks)
   where
     by : (b : Bool) → NoBlock (keep_for_reasons form words.line line.number line.command) → NoBlock (if b then keep_for_reasons form words.line line.number line.command else keeping.Nothing)
+    by true no_ at = no_ at
+    by false no_ at = cc
+no_block_asked pages.WhatIf form words desks line names asks = by (is_desk words.desk (desk_name desks line)) (no_block_of_whatif words.line line.number line.command asks)
+  where
+    by : (b : Bool) → NoBlock (keep_for_whatif words.line line.number line.command) → NoBlock (if b then keep_for_whatif words.line line.number line.command else keeping.Nothing)
     by true no_ at = no_ at
     by false no_ at = cc
 

@@ -1,6 +1,6 @@
 -- What the pages of a report say of what was kept: what is found of it, and a text of that in a form. A form for programs has no reasons,
 -- and none are sought for it.
-use Rattle.std.specs.Prelude.{◌≡◌, ℕ, Bool, true, false, List, [], codes, Option, Some, None, option_map, option_and_then}
+use Rattle.std.specs.Prelude.{◌≡◌, ℕ, Bool, true, false, List, [], ◌++◌, codes, Option, Some, None, option_map, option_and_then}
 use Rattle.std.specs.List.{flat_map}
 use Rattle.ror_statement.specs.declared.comparison.Pair.{Pair}
 use Rattle.ror_table.specs.Table.{DecisionTable, alternative_named}
@@ -25,12 +25,18 @@ use Rattle.ror_show_find_reasons.specs.declared.pairs.RelationFound.{RelationFou
 use Rattle.ror_show_find_reasons.specs.Bounds.{AreClassesFound}
 use Rattle.ror_show_find_reasons.specs.Lines.{AreLinesFound}
 use Rattle.ror_show_find_reasons.specs.Pairs.{AreRelationsFound, AreChangesFound}
+use Rattle.ror_show_find_whatif.specs.declared.outcome.Asks.TheVariants as asks
+use Rattle.ror_show_find_whatif.specs.declared.times.TimeWhatIf.{TimeWhatIf}
+use Rattle.ror_show_find_whatif.specs.declared.whatif.WhatIf.{WhatIf}
+use Rattle.ror_show_find_whatif.specs.Findings.{AreRelationWhatIfs, AreClassWhatIfs}
 use Rattle.ror_show_text_relation.specs.Pages.{relations_text}
 use Rattle.ror_show_text_changes.specs.Pages.{changes_text}
 use Rattle.ror_show_text_classes.specs.Pages.{classes_text}
 use Rattle.ror_show_text_roll.specs.Pages.{rolls_text}
 use Rattle.ror_show_text_functions.specs.Pages.{functions_page}
 use Rattle.ror_show_text_reasons.specs.Pages.{reasons_text}
+use Rattle.ror_show_text_whatif.specs.Csv.{lines_values, times_values}
+use Rattle.ror_show_text_whatif.specs.Pages as whatifs
 use Rattle.ror_show_forms.specs.CertificatePages.{certificates_page}
 use Rattle.ror_show_forms.specs.ChangeCsv.{change_values}
 use Rattle.ror_show_forms.specs.ClassCsv.{class_values}
@@ -162,3 +168,22 @@ AreReasonsAs _ named g text = text ≡ []
 
 abbrev pub AreReasons : PageWords → Ground → List ℕ → Type 0
 AreReasons words g text = AreReasonsAs words.form words.pair g text
+
+-- ---- what hangs on each statement
+
+-- the lines that ask for the relation, and behind them the times at which classes were asked for
+abbrev pub whatifs_in : Form → Ground → List WhatIf → List TimeWhatIf → List ℕ
+whatifs_in Text g fs times = whatifs.relations_text g fs ++ whatifs.times_text g times
+whatifs_in Csv g fs times = lines_values g asks.Relation fs ++ times_values g times
+whatifs_in _ g fs times = []
+
+-- Each outcome has its answers, of which some may be too wide or not; the text has one of these.
+pub record AreWhatIfsIn (form : Form) (g : Ground) (text : List ℕ) : Type 0 where
+  pub relations : List WhatIf
+  pub are : AreRelationWhatIfs g relations
+  pub times : List TimeWhatIf
+  pub are_times : AreClassWhatIfs g times
+  pub text_is : text ≡ whatifs_in form g relations times
+
+abbrev pub AreWhatIfsAs : PageWords → Ground → List ℕ → Type 0
+AreWhatIfsAs words g text = AreWhatIfsIn words.form g text

@@ -1,5 +1,5 @@
 -- Which lines of a session are meant.
-use Rattle.std.specs.Prelude.{ℕ, Bool, true, false, ◌==◌, nat_le, Option, Some, None}
+use Rattle.std.specs.Prelude.{ℕ, Bool, true, false, ◌&&◌, ◌==◌, nat_le, Option, Some, None}
 use Rattle.ror_session.specs.declared.session.Asked.TheVariants as asked
 use Rattle.ror_session.specs.declared.session.Command.{Command}
 use Rattle.ror_session.specs.declared.session.Command.TheVariants.{Ask}
@@ -11,6 +11,12 @@ use Rattle.ror_show_find_classes.specs.Times.{keep_for}
 abbrev pub asks_relation : Command → Bool
 asks_relation (Ask asked.Relation) = true
 asks_relation _ = false
+
+-- the line asks for the relation, or for the classes of an alternative
+abbrev pub asks_for_list : Command → Bool
+asks_for_list (Ask asked.Relation) = true
+asks_for_list (Ask (asked.Classes name)) = true
+asks_for_list _ = false
 
 -- it is the line that is meant, where one is
 abbrev pub is_line : Option ℕ → ℕ → Bool
@@ -31,3 +37,8 @@ keep_for_changes command = keep_for command
 abbrev pub keep_where : Bool → Keep → Keep
 keep_where true keep = keep
 keep_where false keep = Nothing
+
+-- of a line that is meant what it asks, and else what is needed of relations and classes
+abbrev pub keep_for_whatif : Option ℕ → ℕ → Command → Keep
+keep_for_whatif None number command = keep_for_changes command
+keep_for_whatif (Some n) number command = keep_where (asks_for_list command && (n == number)) Standing

@@ -3,6 +3,7 @@ use Rattle.std.specs.Prelude.{◌≡◌, ℕ, ◌<◌, Bool, true, false, List, 
 use Rattle.std.specs.List.{AllByRecursion, AllZip}
 use Rattle.std.specs.Option.{option_map}
 use Rattle.ror_statement.specs.declared.statement.Numbered.{Numbered}
+use Rattle.ror_statement.specs.declared.statement.Statement.{Statement}
 use Rattle.ror_statement.specs.Statements.{statements_in}
 use Rattle.ror_table.specs.Table.{DecisionTable, IsTable}
 use Rattle.ror_value.specs.declared.input.Input.{Input}
@@ -30,6 +31,10 @@ use Rattle.ror_show_find_reasons.specs.declared.pairs.RelationFound.{RelationFou
 use Rattle.ror_show_find_reasons.specs.Bounds.{AreClassesFound}
 use Rattle.ror_show_find_reasons.specs.Lines.{AreLinesFound}
 use Rattle.ror_show_find_reasons.specs.Pairs.{AreRelationsFound, AreChangesFound}
+use Rattle.ror_show_find_whatif.specs.declared.cases.Case.{Case}
+use Rattle.ror_show_find_whatif.specs.declared.times.TimeWhatIf.{TimeWhatIf}
+use Rattle.ror_show_find_whatif.specs.declared.whatif.WhatIf.{WhatIf}
+use Rattle.ror_show_find_whatif.specs.Findings.{AreRelationWhatIfs, AreClassWhatIfs}
 use Rattle.ror_show_find_relation.specs.Cells.{cell_at}
 use Rattle.ror_show_find_relation.specs.Pages.{IsRelationPage}
 use Rattle.ror_show_find_relation.specs.declared.page.RelationPage.{RelationPage}
@@ -48,7 +53,7 @@ use Rattle.ror_session.specs.Sound.{IsSound, desk_name}
 use Rattle.ror_show_words.specs.declared.table.Page.{Page}
 use Rattle.ror_show_words.specs.declared.table.Page.TheVariants as pages
 use Rattle.ror_show_words.specs.declared.words.Form.{Form}
-use Rattle.ror_show_words.specs.declared.words.Form.TheVariants.{Text, Certificates}
+use Rattle.ror_show_words.specs.declared.words.Form.TheVariants.{Text, Csv, Certificates}
 use Rattle.ror_show_words.specs.Words.{PageWords}
 use Rattle.ror_show_pages.specs.Choosing.{is_line}
 use Rattle.ror_show_find_roll.specs.Choosing.{is_desk}
@@ -56,13 +61,16 @@ use Rattle.ror_show_pages.specs.Reads.{ReadsKept}
 use Rattle.ror_show_ground.specs.Grounds.{Ground, ground_in, IsJudged}
 use Rattle.ror_show_pages.specs.Pages.{page_of, keeps, IsPage}
 
--- the page names parts of what stood, which may be some of several, or one of several reasons
+-- The page names parts of what stood, which may be some of several, or one of several reasons; or it counts answers that may be too wide or
+-- not.
 abbrev pub names_parts : Page → Form → Bool
 names_parts pages.Relation Text = true
 names_parts pages.Changes Text = true
 names_parts pages.Classes Text = true
 names_parts pages.Reasons Text = true
 names_parts pages.Reasons Certificates = true
+names_parts pages.WhatIf Text = true
+names_parts pages.WhatIf Csv = true
 names_parts _ _ = false
 
 -- ---- what is found is the same but for those parts and reasons
@@ -92,6 +100,23 @@ pub record SameLine (f h : LineFound) : Type 0 where
   pub told : map (λ x. x.answer) f.told ≡ map (λ x. x.answer) h.told
   pub drops : map (λ x. x.number) f.drops ≡ map (λ x. x.number) h.drops
 
+-- what is said in place of a statement, where that has a contrary
+abbrev pub contrary_said : Case → Option Statement
+contrary_said c = option_map (λ x. x.statement) c.contrary
+
+-- of what hangs on statements at a line: its place, its alternative, whether some function agrees, each statement, and its contrary
+pub record SameWhatIf (f h : WhatIf) : Type 0 where
+  pub place : f.place ≡ h.place
+  pub alternative : f.alternative ≡ h.alternative
+  pub agreement : f.agreement ≡ h.agreement
+  pub stated : map (λ c. c.stated) f.cases ≡ map (λ c. c.stated) h.cases
+  pub contraries : map contrary_said f.cases ≡ map contrary_said h.cases
+
+-- and at a time: that, and so much at each of its lines
+pub record SameTimeWhatIf (f h : TimeWhatIf) : Type 0 where
+  pub time : f.time ≡ h.time
+  pub rows : AllZip SameWhatIf f.rows h.rows
+
 -- Of a report the lines are one list of which something is kept. These have one page, where it names no parts of what stood; and where it
 -- does, all that is found is the same but for those parts. The answers to a line have one relation.
 pub record OnePage : Type 0 where
@@ -108,6 +133,8 @@ pub record OnePage : Type 0 where
   pub classes : (sought : Bool) (g : Ground) (fs hs : List ClassesFound)
       → AreClassesFound sought g fs → AreClassesFound sought g hs → AllZip SameClasses fs hs
   pub reasons : (m : Meant) (g : Ground) (fs hs : List LineFound) → AreLinesFound m g fs → AreLinesFound m g hs → AllZip SameLine fs hs
+  pub whatifs : (g : Ground) (fs hs : List WhatIf) → AreRelationWhatIfs g fs → AreRelationWhatIfs g hs → AllZip SameWhatIf fs hs
+  pub times : (g : Ground) (fs hs : List TimeWhatIf) → AreClassWhatIfs g fs → AreClassWhatIfs g hs → AllZip SameTimeWhatIf fs hs
 
 -- ---- what is found is of a report that is judged
 

@@ -14,13 +14,14 @@ use Rattle.ror_show_forms.specs.ClassCsv.{csv_head as classes_head}
 use Rattle.ror_show_find_classes.specs.Times.{keep_for}
 use Rattle.ror_show_find_roll.specs.Choosing.{is_desk}
 use Rattle.ror_show_forms.specs.FunctionCsv.{csv_head as functions_head}
+use Rattle.ror_show_text_whatif.specs.Csv.{csv_head as whatifs_head}
 use Rattle.ror_show_words.specs.declared.table.Page.{Page}
 use Rattle.ror_show_words.specs.declared.table.Page.TheVariants as pages
 use Rattle.ror_show_words.specs.declared.words.Form.{Form}
 use Rattle.ror_show_words.specs.declared.words.Form.TheVariants.{Text, Csv, Certificates}
 use Rattle.ror_show_words.specs.Words.{PageWords}
-use Rattle.ror_show_pages.specs.Bodies.{AreRelations, AreChanges, AreClasses, AreRolls, AreFunctions, AreReasons, nothing_text}
-use Rattle.ror_show_pages.specs.Choosing.{asks_relation, is_line, is_up_to, keep_where, keep_for_changes}
+use Rattle.ror_show_pages.specs.Bodies.{AreRelations, AreChanges, AreClasses, AreRolls, AreFunctions, AreReasons, AreWhatIfsAs, nothing_text}
+use Rattle.ror_show_pages.specs.Choosing.{asks_relation, is_line, is_up_to, keep_where, keep_for_changes, keep_for_whatif}
 use Rattle.ror_show_ground.specs.Grounds.{Ground}
 
 -- What a page of a report is: what a check keeps of a line at a desk that is meant, by the line that is; which texts may stand there of
@@ -54,7 +55,7 @@ keep_for_reasons form meant number command = keep_for_people meant number comman
 
 -- Of relations the answers that are meant are kept, with what stood when they were given. What stands goes by what came of each line up to
 -- the one that is meant. Of classes it is the answers, with what stood, and what came of the lines that ask nothing; and what changed is
--- of both. Of functions it is the one line that is meant, with what stood.
+-- of both, and so is what hangs on statements, where no line is meant. Of functions it is the one line that is meant, with what stood.
 abbrev pub page_of : Page → Form → ReportPage
 page_of pages.Relation form = record {
   keep = λ meant line. keep_where (asks_relation line.command && is_line meant line.number) Standing;
@@ -91,6 +92,12 @@ page_of pages.Reasons form = record {
   Body = AreReasons;
   head = [];
   nothing = λ named. nothing_text named;
+}
+page_of pages.WhatIf form = record {
+  keep = λ meant line. keep_for_whatif meant line.number line.command;
+  Body = AreWhatIfsAs;
+  head = whatifs_head;
+  nothing = λ named. codes "no relation and no classes are answered in these lines of the session\n";
 }
 
 -- ---- what is kept

@@ -14,6 +14,7 @@ use ror_show_find_classes::{class_lines, class_times, find_class_changes};
 use ror_show_find_proofs::{FunctionsFound, find_functions};
 use ror_show_find_reasons::{RelationFound, find_changes, find_classes, find_relations};
 use ror_show_find_roll::find_rolls;
+use ror_show_find_whatif::{Asks, TimeWhatIf, WhatIf, find_class_whatifs, find_relation_whatifs};
 use ror_show_forms::{
     write_changes_csv, write_classes_csv, write_functions_csv, write_relations_csv,
     write_relations_dot,
@@ -24,6 +25,9 @@ use ror_show_text_classes::write_classes;
 use ror_show_text_functions::write_functions;
 use ror_show_text_relation::write_relations;
 use ror_show_text_roll::write_rolls;
+use ror_show_text_whatif::{
+    write_class_whatifs, write_line_values, write_relation_whatifs, write_time_values,
+};
 use ror_show_words::{Form, PageWords};
 use std::alloc::{AllocError, Global};
 
@@ -187,5 +191,63 @@ fn functions_in(
         Form::Csv => write_functions_csv(alloc, &mut text, ground, found)?,
         _ => {}
     }
+    Ok(text)
+}
+
+/// What hangs on each statement at the kept lines.
+pub(crate) fn whatifs_of(
+    alloc: Global,
+    form: Form,
+    ground: &Ground<'_>,
+) -> Result<Vec<u8>, AllocError>
+    requires { IsJudged (ground_of ground.now) }
+    ensures { IfOk result (λ text. spec.AreWhatIfsIn form (ground_of ground.now) text.items) }
+{
+    let relations = find_relation_whatifs(alloc, ground)?;
+    let times = find_class_whatifs(alloc, ground)?;
+    whatifs_in(alloc, form, ground, relations.as_slice(), times.as_slice())
+}
+
+fn whatifs_in(
+    alloc: Global,
+    form: Form,
+    ground: &Ground<'_>,
+    relations: &[WhatIf],
+    times: &[TimeWhatIf],
+) -> Result<Vec<u8>, AllocError>
+    ensures { IfOk result (λ text. text.items ≡ spec.whatifs_in form (ground_of ground.now) relations.now times.now) }
+{
+    match form {
+        Form::Text => whatif_text(alloc, ground, relations, times),
+        Form::Csv => whatif_values(alloc, ground, relations, times),
+        _ => Ok(Vec::new(alloc)),
+    }
+}
+
+fn whatif_text(
+    alloc: Global,
+    ground: &Ground<'_>,
+    relations: &[WhatIf],
+    times: &[TimeWhatIf],
+) -> Result<Vec<u8>, AllocError>
+    ensures { IfOk result (λ text. text.items ≡ spec.whatifs_in Text (ground_of ground.now) relations.now times.now) }
+{
+    let mut text = Vec::new(alloc);
+    write_relation_whatifs(alloc, &mut text, ground, relations)?;
+    write_class_whatifs(alloc, &mut text, ground, times)?;
+    Ok(text)
+}
+
+fn whatif_values(
+    alloc: Global,
+    ground: &Ground<'_>,
+    relations: &[WhatIf],
+    times: &[TimeWhatIf],
+) -> Result<Vec<u8>, AllocError>
+    ensures { IfOk result (λ text. text.items ≡ spec.whatifs_in Csv (ground_of ground.now) relations.now times.now) }
+{
+    let mut text = Vec::new(alloc);
+    write_line_values(alloc, &mut text, ground, Asks::Relation, relations)?;
+    write_time_values(alloc, &mut text, ground, times)?;
     Ok(text)
 }

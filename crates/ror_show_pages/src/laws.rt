@@ -4,7 +4,8 @@ ghost use Rattle.ror_show_pages.specs.ReadLines.{ReadsAreLines};
 ghost use Rattle.ror_show_pages.specs.PageLaws.{OnePage, ReadsAreJudged, ShownIsTrue, RelationsHaveWhatStood, AskedHaveWhatStood, ClassesAreTrue, FunctionsAreTrue, StandingIsShown, MeantLinesAreKept, SaidIsWhatStood};
 
 /// A report has one page, but that the parts of what stood that carry the arrows of a relation, what is new in one and the bounds of classes,
-/// below these as texts, may be some of several, and that an answer may have several reasons.
+/// below these as texts, may be some of several, that an answer may have several reasons, and that what hangs on statements may be too wide to say or
+/// not.
 pub fn one_page()
     ensures { OnePage }
 {}

@@ -70,6 +70,7 @@ fn keep_at_desk(page: Page, form: Form, meant: Option<u32>, line: &Line) -> Keep
         Page::Standing => keep_where(is_up_to(meant, line.number), Keep::Block),
         Page::Functions => keep_where(is_line(meant, line.number), Keep::Standing),
         Page::Reasons => keep_for_reasons(form, meant, line.number, &line.command),
+        Page::WhatIf => keep_for_whatif(meant, line.number, &line.command),
     }
 }
 
@@ -83,10 +84,29 @@ fn keep_for_changes(command: &Command) -> Keep
     }
 }
 
+/// Of a line that is meant what it asks, and else what is needed of relations and classes.
+fn keep_for_whatif(meant: Option<u32>, number: u32, command: &Command) -> Keep
+    ensures { result ≡ choosing.keep_for_whatif meant number command.now }
+{
+    match meant {
+        Some(n) => keep_where(asks_for_list(command) && n == number, Keep::Standing),
+        None => keep_for_changes(command),
+    }
+}
+
 fn asks_relation(command: &Command) -> bool
     ensures { result ≡ choosing.asks_relation command.now }
 {
     matches!(command, Command::Ask(Asked::Relation))
+}
+
+fn asks_for_list(command: &Command) -> bool
+    ensures { result ≡ choosing.asks_for_list command.now }
+{
+    matches!(
+        command,
+        Command::Ask(Asked::Relation) | Command::Ask(Asked::Classes(_))
+    )
 }
 
 fn keep_for_reasons(form: Form, meant: Option<u32>, number: u32, command: &Command) -> Keep

@@ -57,7 +57,7 @@ fn named_on(page: Page) -> Named {
             criteria: false,
             classes: true,
         },
-        Page::Standing | Page::Reasons => Named {
+        Page::Standing | Page::Reasons | Page::WhatIf => Named {
             criteria: true,
             classes: true,
         },

@@ -8,10 +8,11 @@ ghost use Rattle.ror_show_pages.specs.Pages as spec;
 ghost use Rattle.ror_show_pages.specs.Pages.{page_of};
 ghost use Rattle.ror_show_pages.specs.Bodies.{nothing_text};
 
-use crate::bodies::{changes_of, classes_of, functions_of, relations_of, rolls_of};
+use crate::bodies::{changes_of, classes_of, functions_of, relations_of, rolls_of, whatifs_of};
 use crate::reasons::reasons_of;
 use ror_show_forms::{changes_head, classes_head, functions_head, relation_head};
 use ror_show_ground::Ground;
+use ror_show_text_whatif::whatifs_head;
 use ror_show_words::{Form, Page, PageWords};
 use std::alloc::{AllocError, Global};
 
@@ -50,6 +51,7 @@ fn body_of(
         Page::Standing => rolls_of(alloc, words, ground),
         Page::Functions => functions_of(alloc, words.form, ground),
         Page::Reasons => reasons_of(alloc, words, ground),
+        Page::WhatIf => whatifs_of(alloc, words.form, ground),
     }
 }
 
@@ -89,6 +91,7 @@ fn head_of(page: Page) -> &'static [u8]
         Page::Changes => changes_head(),
         Page::Classes => classes_head(),
         Page::Functions => functions_head(),
+        Page::WhatIf => whatifs_head(),
         Page::Standing | Page::Reasons => b"",
     }
 }
@@ -105,6 +108,7 @@ fn nothing_of(page: Page, named: bool) -> &'static [u8]
         Page::Standing => b"the session has no such desk\n",
         Page::Functions => b"no question is answered in this line of the session\n",
         Page::Reasons => no_reasons(named),
+        Page::WhatIf => b"no relation and no classes are answered in these lines of the session\n",
     }
 }
 

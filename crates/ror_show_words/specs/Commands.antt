@@ -5,7 +5,7 @@ use Rattle.std.specs.List.{find, flat_map}
 use Rattle.std.specs.Str.{bytes_eq}
 use Rattle.ror_show_words.specs.declared.table.Lines.{Lines}
 use Rattle.ror_show_words.specs.declared.table.Lines.TheVariants.{NoLine, ALine, OneLine}
-use Rattle.ror_show_words.specs.declared.table.Page.TheVariants.{Relation, Changes, Classes, Standing, Functions, Reasons}
+use Rattle.ror_show_words.specs.declared.table.Page.TheVariants.{Relation, Changes, Classes, Standing, Functions, Reasons, WhatIf}
 use Rattle.ror_show_words.specs.declared.table.Shown.{Shown}
 use Rattle.ror_show_words.specs.declared.table.Shown.TheVariants.{Report, Sheet, Check, Import}
 use Rattle.ror_show_words.specs.declared.words.Form.{Form}
@@ -33,6 +33,7 @@ table = row Sheet (codes "read") NoLine false (Text ∷ [])
     ∷ row (Report Standing) (codes "standing") ALine false (Text ∷ [])
     ∷ row (Report Functions) (codes "functions") OneLine false (Text ∷ Csv ∷ [])
     ∷ row (Report Reasons) (codes "why") ALine true (Text ∷ Certificates ∷ [])
+    ∷ row (Report WhatIf) (codes "what-if") ALine false (Text ∷ Csv ∷ [])
     ∷ row Check (codes "check-why") NoLine false (Text ∷ [])
     ∷ row Import (codes "import") NoLine false (Text ∷ [])
     ∷ []

@@ -24,6 +24,8 @@ pub enum Page {
     Functions,
     /// Why the answers are what they are, and why repairs dropped what they did.
     Reasons,
+    /// What hangs on each statement: what lines would say without it, and with its contrary.
+    WhatIf,
 }
 
 /// What is shown.
@@ -63,7 +65,7 @@ pub(crate) struct Row {
     pub(crate) forms: &'static [Form],
 }
 
-const TABLE: [Row; 9] = [
+const TABLE: [Row; 10] = [
     Row {
         shown: Shown::Sheet,
         word: "read",
@@ -114,6 +116,13 @@ const TABLE: [Row; 9] = [
         forms: &[Form::Text, Form::Certificates],
     },
     Row {
+        shown: Shown::Report(Page::WhatIf),
+        word: "what-if",
+        lines: Lines::ALine,
+        pair: false,
+        forms: &[Form::Text, Form::Csv],
+    },
+    Row {
         shown: Shown::Check,
         word: "check-why",
         lines: Lines::NoLine,
@@ -133,7 +142,7 @@ const TABLE: [Row; 9] = [
 pub fn usage() -> &'static str
     ensures { result.now ≡ usage_text }
 {
-    "usage: ror_show read TABLE [SESSION] [--best-first] | ror_show relation TABLE SESSION REPORT [--best-first] [--desk NAME] [--line N] [--as text|csv|dot] | ror_show changes TABLE SESSION REPORT [--best-first] [--desk NAME] [--as text|csv] | ror_show classes TABLE SESSION REPORT [--best-first] [--desk NAME] [--as text|csv] | ror_show standing TABLE SESSION REPORT [--best-first] [--desk NAME] [--line N] | ror_show functions TABLE SESSION REPORT [--best-first] [--desk NAME] --line N [--as text|csv] | ror_show why TABLE SESSION REPORT [--best-first] [--desk NAME] [--line N] [--pair A B] [--as text|certificates] | ror_show check-why TABLE SESSION REPORT CERTIFICATES [--best-first] | ror_show import FILE [--min NAMES] [--max NAMES] [--linear NAMES]\n"
+    "usage: ror_show read TABLE [SESSION] [--best-first] | ror_show relation TABLE SESSION REPORT [--best-first] [--desk NAME] [--line N] [--as text|csv|dot] | ror_show changes TABLE SESSION REPORT [--best-first] [--desk NAME] [--as text|csv] | ror_show classes TABLE SESSION REPORT [--best-first] [--desk NAME] [--as text|csv] | ror_show standing TABLE SESSION REPORT [--best-first] [--desk NAME] [--line N] | ror_show functions TABLE SESSION REPORT [--best-first] [--desk NAME] --line N [--as text|csv] | ror_show why TABLE SESSION REPORT [--best-first] [--desk NAME] [--line N] [--pair A B] [--as text|certificates] | ror_show what-if TABLE SESSION REPORT [--best-first] [--desk NAME] [--line N] [--as text|csv] | ror_show check-why TABLE SESSION REPORT CERTIFICATES [--best-first] | ror_show import FILE [--min NAMES] [--max NAMES] [--linear NAMES]\n"
 }
 
 /// The row of the page with this word.

@@ -1,0 +1,10 @@
+pub mod Placing
+pub mod Answering
+pub mod Agreeing
+pub mod Contraries
+pub mod Changing
+pub mod Following
+pub mod Shifting
+pub mod Listing
+pub mod ClassShifting
+pub mod Meant

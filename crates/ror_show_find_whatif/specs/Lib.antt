@@ -1,0 +1,9 @@
+pub mod Changed
+pub mod Agreement
+pub mod Shifts
+pub mod ClassShifts
+pub mod Outcomes
+pub mod Cases
+pub mod Findings
+pub mod Meaning
+pub mod Laws

@@ -1,0 +1,11 @@
+pub mod Ways
+pub mod Told
+pub mod Rows
+pub mod Times
+pub mod Table
+pub mod Lists
+pub mod TimeLists
+pub mod Legends
+pub mod Pages
+pub mod Csv
+pub mod Laws
