@@ -15,6 +15,7 @@ use Rattle.ror_report.specs.Text.{report_text, IsPrintableBlock}
 use Rattle.ror_check.specs.declared.fault.CheckFault.TheVariants as checks
 use Rattle.ror_check.specs.declared.fault.RepairCheckFault.TheVariants as repairs
 use Rattle.ror_discriminate.specs.declared.fault.OptimalFault.TheVariants as optima
+use Rattle.ror_ranks.specs.declared.fault.ExtremeFault.TheVariants as extremes
 use Rattle.ror_history.specs.History.{Revisions}
 use Rattle.ror_bench.specs.Bench.{Workbench, revisions_at}
 use Rattle.ror_bench.specs.Blocks.{IsProvedBlock, passed_of, IsTrueBlock, revisions_with}
@@ -172,6 +173,7 @@ abbrev pub IsFreeOfMemory : Reason → Type 0
 IsFreeOfMemory (reasons.Answer k fault) = fault ≢ checks.Memory
 IsFreeOfMemory (reasons.Repair fault) = fault ≢ repairs.Memory
 IsFreeOfMemory (reasons.Optimal fault) = fault ≢ optima.Memory
+IsFreeOfMemory (reasons.Rank k fault) = fault ≢ extremes.Memory
 IsFreeOfMemory _ = Unit {0}
 
 -- In a report of a session's lines no answer is refused since its question is another: that is the block of another line, before

@@ -16,6 +16,7 @@ use crate::kept::{Keep, KeptLine, keep_at, push_kept, standing_for};
 use ror_check::{CheckFault, RepairCheckFault};
 use ror_discriminate::OptimalFault;
 use ror_proof::ProofFault;
+use ror_ranks::ExtremeFault;
 use ror_report::{Block, begins_end, read_block, read_end, read_header};
 use ror_session::Line;
 use ror_system::Reject;
@@ -45,6 +46,8 @@ pub enum Reason {
     Repair(RepairCheckFault),
     /// The most discriminating function of a desk that is not accepted.
     Optimal(OptimalFault),
+    /// The best or the worst rank of an alternative that is not accepted, counted from 1 in its block.
+    Rank(u32, ExtremeFault),
     /// Multipliers of a contradictory desk that are not accepted.
     Contradiction(Reject),
     /// The bytes of a report as JSON are no JSON text.

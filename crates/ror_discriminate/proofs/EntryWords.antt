@@ -85,7 +85,7 @@ two_numbers_end t place words =
     (λ total d. end_ends t place (margin.0, total.0) total.1)))
 
 -- what is expected of the words behind the first one
-behind : {Y : Type 0} (t : DecisionTable) (place : ℕ) (word : List ℕ) (reading : List (List ℕ) → Result Y ProofFault) (expected : List (List ℕ) → List Expected) (words : List (List ℕ))
+pub behind : {Y : Type 0} (t : DecisionTable) (place : ℕ) (word : List ℕ) (reading : List (List ℕ) → Result Y ProofFault) (expected : List (List ℕ) → List Expected) (words : List (List ℕ))
     → ((more : List (List ℕ)) → Ends t place (reading more) (expected more) more) → Ends t place (after_word place word words >>= reading) (the_word word ∷ expected (drop 1 words)) words
 behind t place word reading expected words ends =
     word_then_ends t place word reading (expected (drop 1 words)) words
@@ -158,18 +158,18 @@ not_some : {N : Type 0} (x : N) → None ≡ Some x → ⊥
 not_some x e = cc
 
 module _ {N Y : Type 0} (t : DecisionTable) (place : ℕ) (word_of : N → List ℕ) (names : List N) (next : N → List (List ℕ) → Result Y ProofFault) where
-  abbrev read : List (List ℕ) → Result Y ProofFault
+  abbrev pub read : List (List ℕ) → Result Y ProofFault
   read words = name_at word_of names place words >>= λ name. next name.0 name.1
 
-  nothing_ends : Ends t place (read []) (one_of (map word_of names) ∷ []) []
+  pub nothing_ends : Ends t place (read []) (one_of (map word_of names) ∷ []) []
   nothing_ends = then_ends t place (name_at word_of names place []) (λ name. next name.0 name.1) (one_of (map word_of names) ∷ []) [] [] (name_steps t place word_of names []) (λ x e. absurd (no_name word_of names place x e))
 
-  unknown_ends : (word : List ℕ) (words : List (List ℕ)) → name_of word_of names word ≡ None → Ends t place (read (word ∷ words)) (one_of (map word_of names) ∷ []) (word ∷ words)
+  pub unknown_ends : (word : List ℕ) (words : List (List ℕ)) → name_of word_of names word ≡ None → Ends t place (read (word ∷ words)) (one_of (map word_of names) ∷ []) (word ∷ words)
   unknown_ends word words none =
       then_ends t place (name_at word_of names place (word ∷ words)) (λ name. next name.0 name.1) (one_of (map word_of names) ∷ []) [] (word ∷ words) (name_steps t place word_of names (word ∷ words))
       (λ x e. absurd (not_some x.0 (sym none ∙ (name_is word_of names place word words x e).0)))
 
-  named_ends : (word : List ℕ) (words : List (List ℕ)) (name : N) (expected : List Expected) → name_of word_of names word ≡ Some name → Ends t place (next name words) expected words → Ends t place (read (word ∷ words)) (one_of (map word_of names) ∷ expected) (word ∷ words)
+  pub named_ends : (word : List ℕ) (words : List (List ℕ)) (name : N) (expected : List Expected) → name_of word_of names word ≡ Some name → Ends t place (next name words) expected words → Ends t place (read (word ∷ words)) (one_of (map word_of names) ∷ expected) (word ∷ words)
   named_ends word words name expected found ends =
       then_ends t place (name_at word_of names place (word ∷ words)) (λ name. next name.0 name.1) (one_of (map word_of names) ∷ []) expected (word ∷ words) (name_steps t place word_of names (word ∷ words))
       (λ x e.
@@ -202,14 +202,14 @@ regrouped (Ok x) f g = refl
 regrouped (Err e) f g = refl
 
 -- what follows a place on a system's path
-abbrev base_noted : ℕ → PlaceText × List (List ℕ) → Result (Place × List (ℕ × ℕ)) ProofFault
+abbrev pub base_noted : ℕ → PlaceText × List (List ℕ) → Result (Place × List (ℕ × ℕ)) ProofFault
 base_noted place text = path_at place text.1 >>= λ path. done (place_of text.0, path)
 
-base_is : (place : ℕ) (words : List (List ℕ)) → noted_at place_at place words ≡ (certificates.place_at place words >>= base_noted place)
+pub base_is : (place : ℕ) (words : List (List ℕ)) → noted_at place_at place words ≡ (certificates.place_at place words >>= base_noted place)
 unfolding noted_at place_at
 base_is place words = regrouped (certificates.place_at place words) (λ text. done (place_of text.0, text.1)) (λ number. path_at place number.1 >>= λ path. done (number.0, path))
 
-base_ends : (t : DecisionTable) (place : ℕ) (words : List (List ℕ)) → Ends t place (certificates.place_at place words >>= base_noted place) (expected_note words) words
+pub base_ends : (t : DecisionTable) (place : ℕ) (words : List (List ℕ)) → Ends t place (certificates.place_at place words >>= base_noted place) (expected_note words) words
 base_ends t place words =
     placed_ends t place (base_noted place)
     (λ text. made_ends t place (path_at place text.1) (λ (path : List (ℕ × ℕ)). (place_of text.0, path)) (expected_path text.1) text.1 (path_ends t place text.1))

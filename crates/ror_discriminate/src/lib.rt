@@ -59,5 +59,10 @@ pub use decide::{Best, discriminate, find_best};
 pub use entry::{Entry, EntryBody};
 pub use fault::{ContradictionFault, DiscriminateFault, OptimalFault};
 pub use margin::Margin;
-pub use print::{print_entry, write_entry};
-pub use read::read_entry;
+pub use notes::base_note_at;
+pub use print::{
+    print_entry, write_base_wide, write_contradiction, write_entry, write_multipliers_line,
+    write_place, write_solution,
+};
+pub use read::{multipliers_line, read_entry, solution_line};
+pub use write::write_path;

@@ -38,9 +38,13 @@ pub(crate) fn note_of(
     }
 }
 
-/// A place on a system's path, `path` and pivots.
+/// A place on a system's path, `path` and pivots, up to the end of the line.
+///
+/// # Errors
+///
+/// The fault of the first faulty word.
 #[tactic(auto, unfolding(crate::specs::Reading::noted_at))]
-fn base_note_at(alloc: Global, place: usize, words: Words<'_>) -> Result<WideNote, ProofFault>
+pub fn base_note_at(alloc: Global, place: usize, words: Words<'_>) -> Result<WideNote, ProofFault>
     ensures exact { Gives (λ note. (note.place, note.path)) proof_fault result
         (noted_at reading.place_at place words.entry) }
     ensures placed { IfErr result (IsProofFaultWithin place) }

@@ -84,7 +84,8 @@ fn write_margin(text: &mut Vec<u8>, margin: i128, total: i128) -> Result<(), All
     end_line(text)
 }
 
-fn write_solution(text: &mut Vec<u8>, solution: &Solution) -> Result<(), AllocError>
+/// The line of a solution.
+pub fn write_solution(text: &mut Vec<u8>, solution: &Solution) -> Result<(), AllocError>
     ensures ok { OnOk result (text.new.items
         ≡ text.old.items ++ line_text (solution_words solution.now.steps)) }
     ensures front { StandsInFront text.old.items text.new.items }
@@ -94,7 +95,11 @@ fn write_solution(text: &mut Vec<u8>, solution: &Solution) -> Result<(), AllocEr
     end_line(text)
 }
 
-fn write_multipliers_line(text: &mut Vec<u8>, multipliers: &Multipliers) -> Result<(), AllocError>
+/// The line of multipliers.
+pub fn write_multipliers_line(
+    text: &mut Vec<u8>,
+    multipliers: &Multipliers,
+) -> Result<(), AllocError>
     ensures ok { OnOk result (text.new.items ≡ text.old.items
         ++ line_text (multipliers_words multipliers.now.weak multipliers.now.strict)) }
     ensures front { StandsInFront text.old.items text.new.items }
@@ -112,7 +117,8 @@ fn write_none(text: &mut Vec<u8>) -> Result<(), AllocError>
     text.extend_from_slice(b"none\n")
 }
 
-fn write_contradiction(text: &mut Vec<u8>, multipliers: &Multipliers) -> Result<(), AllocError>
+/// The line of multipliers that refute a list.
+pub fn write_contradiction(text: &mut Vec<u8>, multipliers: &Multipliers) -> Result<(), AllocError>
     ensures ok { OnOk result (text.new.items ≡ text.old.items ++ line_text (codes "contradiction"
         ∷ multipliers_words multipliers.now.weak multipliers.now.strict)) }
     ensures front { StandsInFront text.old.items text.new.items }
@@ -122,7 +128,8 @@ fn write_contradiction(text: &mut Vec<u8>, multipliers: &Multipliers) -> Result<
     end_line(text)
 }
 
-fn write_base_wide(text: &mut Vec<u8>, note: &WideNote) -> Result<(), AllocError>
+/// The line of a number too wide on the path of a list's system.
+pub fn write_base_wide(text: &mut Vec<u8>, note: &WideNote) -> Result<(), AllocError>
     ensures ok { OnOk result (text.new.items ≡ text.old.items ++ base_wide_text note.now) }
     ensures front { StandsInFront text.old.items text.new.items }
 {
@@ -145,7 +152,7 @@ fn write_climb_wide(text: &mut Vec<u8>, note: &ClimbNote) -> Result<(), AllocErr
 }
 
 /// The word and the numbers of a place on a system's path.
-fn write_place(text: &mut Vec<u8>, place: Place) -> Result<(), AllocError>
+pub fn write_place(text: &mut Vec<u8>, place: Place) -> Result<(), AllocError>
     ensures ok { OnOk result (text.new.items ≡ text.old.items ++ spaced (place_words place)) }
     ensures front { StandsInFront text.old.items text.new.items }
 {

@@ -115,7 +115,11 @@ fn margin_line(bytes: &[u8], from: usize) -> Result<(i128, i128, usize), ProofFa
 
 /// The solution in the line at a place, and where the next line begins.
 #[tactic(auto, using(ror_proof::proofs::Places::placed_on), unfolding(crate::specs::Reading::solution_line_words, ror_proof::specs::Reading::ended))]
-fn solution_line(alloc: Global, bytes: &[u8], from: usize) -> Result<(Solution, usize), ProofFault>
+pub fn solution_line(
+    alloc: Global,
+    bytes: &[u8],
+    from: usize,
+) -> Result<(Solution, usize), ProofFault>
     requires { from ≤ length bytes.now }
     ensures exact { Gives (λ x. (x.0, cursor_at bytes.now x.1)) proof_fault result
         (reading.solution_line (cursor_at bytes.now from)) }
@@ -132,7 +136,7 @@ fn solution_line(alloc: Global, bytes: &[u8], from: usize) -> Result<(Solution, 
 
 /// The multipliers in the line at a place, and where the next line begins.
 #[tactic(auto, using(ror_proof::proofs::Places::placed_on), unfolding(ror_proof::specs::Reading::ended))]
-fn multipliers_line(
+pub fn multipliers_line(
     alloc: Global,
     bytes: &[u8],
     from: usize,

@@ -9,7 +9,7 @@ use ror_proof::write::{write_digits, write_number, write_word};
 use std::alloc::AllocError;
 
 /// `path` and the pivots, each by its column and its row.
-pub(crate) fn write_path(text: &mut Vec<u8>, path: &[(usize, usize)]) -> Result<(), AllocError>
+pub fn write_path(text: &mut Vec<u8>, path: &[(usize, usize)]) -> Result<(), AllocError>
     ensures ok { OnOk result (text.new.items ≡ text.old.items ++ spaced (path_words path.now)) }
     ensures front { StandsInFront text.old.items text.new.items }
 {

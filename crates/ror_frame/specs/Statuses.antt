@@ -16,6 +16,8 @@ use Rattle.ror_check.specs.declared.fault.RepairCheckFault.{RepairCheckFault}
 use Rattle.ror_check.specs.declared.fault.RepairCheckFault.TheVariants as repairs
 use Rattle.ror_discriminate.specs.declared.fault.OptimalFault.{OptimalFault}
 use Rattle.ror_discriminate.specs.declared.fault.OptimalFault.TheVariants as optima
+use Rattle.ror_ranks.specs.declared.fault.ExtremeFault.{ExtremeFault}
+use Rattle.ror_ranks.specs.declared.fault.ExtremeFault.TheVariants as extremes
 use Rattle.ror_confidence.specs.declared.fault.LevelsFault.{LevelsFault}
 use Rattle.ror_confidence.specs.declared.fault.LevelsFault.TheVariants as levels
 use Rattle.ror_table.specs.declared.fault.TableFault.{TableFault}
@@ -117,6 +119,16 @@ optimal_fault_text (optima.ColumnWide k) = codes "ColumnWide " ++ decimal k
 optimal_fault_text (optima.Column k) = codes "Column " ++ decimal k
 optimal_fault_text optima.Memory = codes "Memory"
 
+abbrev pub extreme_fault_text : ExtremeFault → List ℕ
+extreme_fault_text extremes.Ends = codes "Ends"
+extreme_fault_text extremes.Except = codes "Except"
+extreme_fault_text (extremes.Function r) = codes "function " ++ reject_text r
+extreme_fault_text (extremes.Members k) = codes "Members " ++ decimal k
+extreme_fault_text (extremes.Conflict k r) = codes "conflict " ++ decimal k ++ codes " " ++ reject_text r
+extreme_fault_text (extremes.Node k) = codes "Node " ++ decimal k
+extreme_fault_text extremes.Unfinished = codes "Unfinished"
+extreme_fault_text extremes.Memory = codes "Memory"
+
 abbrev pub reason_text : Reason → List ℕ
 reason_text reasons.TooLong = codes "TooLong"
 reason_text reasons.NotUtf8 = codes "NotUtf8"
@@ -126,6 +138,7 @@ reason_text reasons.WrongBlock = codes "WrongBlock"
 reason_text (reasons.Answer k f) = codes "answer " ++ decimal k ++ codes " " ++ fault_text f
 reason_text (reasons.Repair f) = codes "repair " ++ repair_fault_text f
 reason_text (reasons.Optimal f) = codes "optimal " ++ optimal_fault_text f
+reason_text (reasons.Rank k f) = codes "rank " ++ decimal k ++ codes " " ++ extreme_fault_text f
 reason_text (reasons.Contradiction r) = codes "contradiction " ++ reject_text r
 reason_text reasons.BadJson = codes "BadJson"
 reason_text reasons.BadShape = codes "BadShape"

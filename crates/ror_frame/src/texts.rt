@@ -6,7 +6,7 @@ ghost use Rattle.ror_frame.specs.Courses.{WritesDue};
 ghost use Rattle.ror_frame.specs.Inputs.{accepted_output};
 ghost use Rattle.ror_frame.specs.States.{sink_state};
 ghost use Rattle.ror_frame.specs.Printing.{Prints};
-ghost use Rattle.ror_frame.specs.Statuses.{kind_text, reject_text, fault_text, repair_fault_text, optimal_fault_text, reason_text, certificate_reason_text, table_line, session_line, levels_line, rejection_line, uncertified_line, status_text, accepted_text};
+ghost use Rattle.ror_frame.specs.Statuses.{kind_text, reject_text, fault_text, repair_fault_text, optimal_fault_text, extreme_fault_text, reason_text, certificate_reason_text, table_line, session_line, levels_line, rejection_line, uncertified_line, status_text, accepted_text};
 
 use crate::status::Status;
 use crate::stop::Stop;
@@ -16,6 +16,7 @@ use ror_check::{CheckFault, RepairCheckFault};
 use ror_confidence::LevelsFault;
 use ror_discriminate::OptimalFault;
 use ror_io::{Sink, SinkFault, write_all, write_pieces};
+use ror_ranks::ExtremeFault;
 use ror_session::SessionFault;
 use ror_system::Reject;
 use ror_table::{Kind, TableFault, TableKind, What};
@@ -297,6 +298,10 @@ fn write_reason<S: Sink>(sink: &mut S, reason: &Reason) -> Result<(), SinkFault>
             write_text(sink, b"optimal ")?;
             write_optimal_fault(sink, fault)
         }
+        Reason::Rank(rank, fault) => {
+            write_numbered(sink, b"rank ", *rank, b" ")?;
+            write_extreme_fault(sink, fault)
+        }
         Reason::Contradiction(reject) => write_reject(sink, b"contradiction ", b"", b"", reject),
         Reason::BadJson => write_text(sink, b"BadJson"),
         Reason::BadShape => write_text(sink, b"BadShape"),
@@ -364,6 +369,31 @@ fn write_optimal_fault<S: Sink>(sink: &mut S, fault: &OptimalFault) -> Result<()
         OptimalFault::ColumnWide(column) => write_number(sink, b"ColumnWide ", *column),
         OptimalFault::Column(column) => write_number(sink, b"Column ", *column),
         OptimalFault::Memory => write_text(sink, b"Memory"),
+    }
+}
+
+fn write_extreme_fault<S: Sink>(sink: &mut S, fault: &ExtremeFault) -> Result<(), SinkFault>
+    ensures { Prints (S.faults sink.old) (S.faults sink.new)
+        (S.written sink.old) (S.written sink.new) (extreme_fault_text fault.now) result }
+{
+    match fault {
+        ExtremeFault::Ends => write_text(sink, b"Ends"),
+        ExtremeFault::Except => write_text(sink, b"Except"),
+        ExtremeFault::Function(reject) => write_reject(sink, b"function ", b"", b"", reject),
+        ExtremeFault::Members(place) => write_number(sink, b"Members ", *place),
+        ExtremeFault::Conflict(place, reject) => {
+            let mut digits = Buffer::new();
+            write_reject(
+                sink,
+                b"conflict ",
+                digits.format(*place).as_bytes(),
+                b" ",
+                reject,
+            )
+        }
+        ExtremeFault::Node(place) => write_number(sink, b"Node ", *place),
+        ExtremeFault::Unfinished => write_text(sink, b"Unfinished"),
+        ExtremeFault::Memory => write_text(sink, b"Memory"),
     }
 }
 

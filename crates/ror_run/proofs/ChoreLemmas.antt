@@ -1,7 +1,7 @@
 -- What holds of each command: its files lead to one thing, and its refusals are its own.
 use Rattle.std.proofs.Common.{◌≡◌, ℕ, List, true, refl, inl, inr}
 use Rattle.ror_words.specs.declared.table.CommandWord.{CommandWord}
-use Rattle.ror_words.specs.declared.table.CommandWord.TheVariants.{Replay, Check, Generate, Group, CheckGroup, Discriminate, CheckDiscriminate, Levels, CheckLevels, ReplayJson, CheckJson}
+use Rattle.ror_words.specs.declared.table.CommandWord.TheVariants.{Replay, Check, Generate, Group, CheckGroup, Discriminate, CheckDiscriminate, Ranks, CheckRanks, Levels, CheckLevels, ReplayJson, CheckJson}
 use Rattle.ror_words.specs.Words.{Given, inputs_in, name_at, width_given}
 use Rattle.ror_frame.proofs.CourseLemmas.{IsDecided}
 use Rattle.ror_work.proofs.Judging.{decided_check, decided_replay}
@@ -23,6 +23,9 @@ use Rattle.ror_work_group.proofs.GroupCourses.{decided_group, decided_check_grou
 use Rattle.ror_work_discriminate.specs.Discriminate.{best_output, ProvesBest, IsBestRejection}
 use Rattle.ror_work_discriminate.specs.Discriminate as best
 use Rattle.ror_work_discriminate.proofs.Courses.{decided_discriminate, decided_check_discriminate}
+use Rattle.ror_work_ranks.specs.Ranking.{ranks_output, ProvesRanks, IsRanksRejection}
+use Rattle.ror_work_ranks.specs.Ranking as ranks
+use Rattle.ror_work_ranks.proofs.Courses.{decided_ranks, decided_check_ranks}
 use Rattle.ror_work_levels.specs.Levels.{levels_chore}
 use Rattle.ror_work_levels.proofs.LevelCourses.{decided_levels, decided_check_levels}
 use Rattle.ror_work_json.specs.Json.{json_output, ProvesJson, RejectsJson, proved_json_output}
@@ -45,6 +48,8 @@ decided_chore Group given = decided_group (inputs_in given) (width_given given)
 decided_chore CheckGroup given = decided_check_group (inputs_in given) (name_at 2 given)
 decided_chore Discriminate given = decided_discriminate (inputs_in given) (width_given given)
 decided_chore CheckDiscriminate given = decided_check_discriminate (inputs_in given) (name_at 2 given)
+decided_chore Ranks given = decided_ranks (inputs_in given) (width_given given)
+decided_chore CheckRanks given = decided_check_ranks (inputs_in given) (name_at 2 given)
 decided_chore Levels given = decided_levels (inputs_in given) (name_at 2 given) (width_given given)
 decided_chore CheckLevels given = decided_check_levels (inputs_in given) (name_at 2 given) (name_at 3 given)
 decided_chore ReplayJson given = decided_replay_json (inputs_in given) (width_given given)
@@ -59,6 +64,8 @@ judges_it Group given n may = absurd (suited_rejects_nothing IsFirstUnsuited (in
 judges_it CheckGroup given n may = refl
 judges_it Discriminate given n may = absurd (suited_rejects_nothing IsFirstUnsuited (inputs_in given) (best_output (most_of (width_given given))) n may)
 judges_it CheckDiscriminate given n may = refl
+judges_it Ranks given n may = absurd (suited_rejects_nothing IsFirstUnsuited (inputs_in given) (ranks_output (most_of (width_given given))) n may)
+judges_it CheckRanks given n may = refl
 judges_it Levels given n may = absurd (levels_reject_nothing (inputs_in given) (name_at 2 given) (width_given given) n may)
 judges_it CheckLevels given n may = refl
 judges_it ReplayJson given n may = absurd (writing_rejects_nothing (inputs_in given) (λ i s. json_output (most_of (width_given given)) (bench_for i s) s.lines) n may)
@@ -73,6 +80,8 @@ suits_it Group given line may = refl
 suits_it CheckGroup given line may = refl
 suits_it Discriminate given line may = refl
 suits_it CheckDiscriminate given line may = refl
+suits_it Ranks given line may = refl
+suits_it CheckRanks given line may = refl
 suits_it Levels given line may = refl
 suits_it CheckLevels given line may = refl
 suits_it ReplayJson given line may = absurd (writing_suits_all (inputs_in given) (λ i s. json_output (most_of (width_given given)) (bench_for i s) s.lines) line may)
@@ -87,6 +96,8 @@ levels_it Group given f may = absurd (suited_has_no_levels IsFirstUnsuited (inpu
 levels_it CheckGroup given f may = absurd (suited_judging_has_no_levels IsFirstUnsuited (inputs_in given) (name_at 2 given) ProvesGroup IsGroupRejection group.proved_output f may)
 levels_it Discriminate given f may = absurd (suited_has_no_levels IsFirstUnsuited (inputs_in given) (best_output (most_of (width_given given))) f may)
 levels_it CheckDiscriminate given f may = absurd (suited_judging_has_no_levels IsFirstUnsuited (inputs_in given) (name_at 2 given) ProvesBest IsBestRejection best.proved_output f may)
+levels_it Ranks given f may = absurd (suited_has_no_levels IsFirstUnsuited (inputs_in given) (ranks_output (most_of (width_given given))) f may)
+levels_it CheckRanks given f may = absurd (suited_judging_has_no_levels IsFirstUnsuited (inputs_in given) (name_at 2 given) ProvesRanks IsRanksRejection ranks.proved_output f may)
 levels_it Levels given f may = refl
 levels_it CheckLevels given f may = refl
 levels_it ReplayJson given f may = absurd (writing_has_no_levels (inputs_in given) (λ i s. json_output (most_of (width_given given)) (bench_for i s) s.lines) f may)

@@ -20,6 +20,7 @@ use ror_work_discriminate::{check_discriminate_files, discriminate_files};
 use ror_work_group::{check_group_files, group_files};
 use ror_work_json::{check_json_files, replay_json_files};
 use ror_work_levels::{check_levels_files, levels_files};
+use ror_work_ranks::{check_ranks_files, ranks_files};
 use std::alloc::Global;
 
 /// Runs the command that the words name, over files, standard output and standard error.
@@ -98,6 +99,8 @@ fn work_on<F: Shelf, O: Sink>(
         CommandWord::CheckDiscriminate => {
             check_discriminate_files(alloc, &inputs, third, shelf, out)
         }
+        CommandWord::Ranks => ranks_files(alloc, &inputs, bits, shelf, out),
+        CommandWord::CheckRanks => check_ranks_files(alloc, &inputs, third, shelf, out),
         CommandWord::Levels => levels_files(alloc, &inputs, third, bits, shelf, out),
         CommandWord::CheckLevels => {
             check_levels_files(alloc, &inputs, third, arguments.name(3), shelf, out)

@@ -3,7 +3,7 @@ use Rattle.std.specs.Prelude.{ℕ, Bool, true, false, List, [], ◌∷◌, ◌++
 use Rattle.std.specs.List.{find, flat_map}
 use Rattle.std.specs.Str.{bytes_eq}
 use Rattle.ror_words.specs.declared.table.CommandWord.{CommandWord}
-use Rattle.ror_words.specs.declared.table.CommandWord.TheVariants.{Replay, Check, Generate, Group, CheckGroup, Discriminate, CheckDiscriminate, Levels, CheckLevels, ReplayJson, CheckJson}
+use Rattle.ror_words.specs.declared.table.CommandWord.TheVariants.{Replay, Check, Generate, Group, CheckGroup, Discriminate, CheckDiscriminate, Ranks, CheckRanks, Levels, CheckLevels, ReplayJson, CheckJson}
 
 -- A row of it: the command, its word, what the usage line calls the names after it, in order, whether these are numbers and not
 -- names of files, and which options it takes.
@@ -61,6 +61,20 @@ table = record {
 } ∷ record {
   command = CheckDiscriminate;
   word = codes "check-discriminate";
+  names = codes "TABLE" ∷ codes "SESSION" ∷ codes "REPORT" ∷ [];
+  numbers = false;
+  bits = false;
+  best_first = true;
+} ∷ record {
+  command = Ranks;
+  word = codes "ranks";
+  names = codes "TABLE" ∷ codes "SESSION" ∷ [];
+  numbers = false;
+  bits = true;
+  best_first = true;
+} ∷ record {
+  command = CheckRanks;
+  word = codes "check-ranks";
   names = codes "TABLE" ∷ codes "SESSION" ∷ codes "REPORT" ∷ [];
   numbers = false;
   bits = false;

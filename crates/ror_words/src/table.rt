@@ -24,6 +24,10 @@ pub enum CommandWord {
     Discriminate,
     /// Such a report is checked.
     CheckDiscriminate,
+    /// The report of the best and the worst rank of each alternative, for each desk of a session, is written.
+    Ranks,
+    /// Such a report is checked.
+    CheckRanks,
     /// The report of the spans of a session's pairs over levels of confidence is written.
     Levels,
     /// Such a report is checked.
@@ -51,7 +55,7 @@ pub struct Row {
 }
 
 /// The commands. None has more than four names.
-const TABLE: [Row; 11] = [
+const TABLE: [Row; 13] = [
     Row {
         command: CommandWord::Replay,
         word: "replay",
@@ -109,6 +113,22 @@ const TABLE: [Row; 11] = [
         best_first: true,
     },
     Row {
+        command: CommandWord::Ranks,
+        word: "ranks",
+        names: &["TABLE", "SESSION"],
+        numbers: false,
+        bits: true,
+        best_first: true,
+    },
+    Row {
+        command: CommandWord::CheckRanks,
+        word: "check-ranks",
+        names: &["TABLE", "SESSION", "REPORT"],
+        numbers: false,
+        bits: false,
+        best_first: true,
+    },
+    Row {
         command: CommandWord::Levels,
         word: "levels",
         names: &["TABLE", "SESSION", "LEVELS"],
@@ -146,7 +166,7 @@ const TABLE: [Row; 11] = [
 pub fn usage() -> &'static str
     ensures { result.now ≡ usage_text }
 {
-    "usage: ror replay TABLE SESSION [--bits 15|31|63|127] [--best-first] | ror check TABLE SESSION REPORT [--best-first] | ror generate NUMBER | ror group TABLE SESSION [--bits 15|31|63|127] [--best-first] | ror check-group TABLE SESSION REPORT [--best-first] | ror discriminate TABLE SESSION [--bits 15|31|63|127] [--best-first] | ror check-discriminate TABLE SESSION REPORT [--best-first] | ror levels TABLE SESSION LEVELS [--bits 15|31|63|127] [--best-first] | ror check-levels TABLE SESSION LEVELS REPORT [--best-first] | ror replay-json TABLE SESSION [--bits 15|31|63|127] [--best-first] | ror check-json TABLE SESSION REPORT [--best-first]\n"
+    "usage: ror replay TABLE SESSION [--bits 15|31|63|127] [--best-first] | ror check TABLE SESSION REPORT [--best-first] | ror generate NUMBER | ror group TABLE SESSION [--bits 15|31|63|127] [--best-first] | ror check-group TABLE SESSION REPORT [--best-first] | ror discriminate TABLE SESSION [--bits 15|31|63|127] [--best-first] | ror check-discriminate TABLE SESSION REPORT [--best-first] | ror ranks TABLE SESSION [--bits 15|31|63|127] [--best-first] | ror check-ranks TABLE SESSION REPORT [--best-first] | ror levels TABLE SESSION LEVELS [--bits 15|31|63|127] [--best-first] | ror check-levels TABLE SESSION LEVELS REPORT [--best-first] | ror replay-json TABLE SESSION [--bits 15|31|63|127] [--best-first] | ror check-json TABLE SESSION REPORT [--best-first]\n"
 }
 
 /// The row of the command with this word.

@@ -30,3 +30,12 @@ returns-in_err-write_text-in-Optimal g c =
 pub returns-in_ok-write_text-in-Optimal : goal.returns-in_ok-write_text-in-Optimal
 returns-in_ok-write_text-in-Optimal g c =
     follow _ _ _ _ _ _ _ _ _ _ c.in_ok-write_text-in-Optimal.ensures c.write_optimal_fault.ensures (ap reason_text c.in-Optimal.is)
+
+pub returns-in_err-write_numbered-in-Rank : goal.returns-in_err-write_numbered-in-Rank
+returns-in_err-write_numbered-in-Rank g c =
+    let p = err_from_is_err_and c.from_residual-in_err-write_numbered-in-Rank.result c.from_residual-in_err-write_numbered-in-Rank.ensures.1 in
+    rw p.1 (cut _ _ _ _ _ _ _ c.in_err-write_numbered-in-Rank.ensures (ap reason_text c.in-Rank.is))
+
+pub returns-in_ok-write_numbered-in-Rank : goal.returns-in_ok-write_numbered-in-Rank
+returns-in_ok-write_numbered-in-Rank g c =
+    follow _ _ _ _ _ _ _ _ _ _ c.in_ok-write_numbered-in-Rank.ensures c.write_extreme_fault.ensures (ap reason_text c.in-Rank.is)

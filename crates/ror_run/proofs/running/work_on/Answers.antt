@@ -39,6 +39,18 @@ returns-in-CheckDiscriminate g c =
     let work = rw (ap (λ i. i.table) names, ap (λ i. i.session) names, ap (λ i. i.best_first) names, c.name-third.ensures) at c.check_discriminate_files.ensures in
     rw c.in-CheckDiscriminate.is work
 
+pub returns-in-Ranks : goal.returns-in-Ranks
+returns-in-Ranks g c =
+    let names = c.inputs-inputs.ensures in
+    let work = rw (ap (λ i. i.table) names, ap (λ i. i.session) names, ap (λ i. i.best_first) names, c.width-bits.ensures) at c.ranks_files.ensures in
+    rw c.in-Ranks.is work
+
+pub returns-in-CheckRanks : goal.returns-in-CheckRanks
+returns-in-CheckRanks g c =
+    let names = c.inputs-inputs.ensures in
+    let work = rw (ap (λ i. i.table) names, ap (λ i. i.session) names, ap (λ i. i.best_first) names, c.name-third.ensures) at c.check_ranks_files.ensures in
+    rw c.in-CheckRanks.is work
+
 pub returns-in-ReplayJson : goal.returns-in-ReplayJson
 returns-in-ReplayJson g c =
     let names = c.inputs-inputs.ensures in

@@ -1,0 +1,11 @@
+pub mod Sets
+pub mod TreeCounts
+pub mod Counting
+pub mod ConflictTruth
+pub mod RankLemmas
+pub mod FaultLemmas
+pub mod CheckLemmas
+pub mod GivenRanks
+pub mod Contradictions
+pub mod OthersLemmas
+pub mod StepLemmas

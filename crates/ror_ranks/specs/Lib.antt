@@ -1,0 +1,9 @@
+pub mod SideNames
+pub mod Ranks
+pub mod Conflicts
+pub mod Trees
+pub mod Proof
+pub mod Faults
+pub mod Steps
+pub mod Finding
+pub mod Laws

@@ -1,0 +1,9 @@
+pub mod MeetLemmas
+pub mod GrowLemmas
+pub mod ConcludeLemmas
+pub mod PackingLemmas
+pub mod SmallLemmas
+pub mod FindLemmas
+pub mod FoundLemmas
+pub mod TreeSteps
+pub mod PackingSteps

@@ -1,0 +1,2 @@
+pub mod RankingFaults
+pub mod Search

@@ -1,0 +1,4 @@
+pub mod Entries
+pub mod Ranking
+pub mod Steps
+pub mod Laws
