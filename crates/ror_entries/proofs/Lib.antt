@@ -6,3 +6,4 @@ pub mod WriteLemmas
 pub mod SpellingLemmas
 pub mod HeadedLemmas
 pub mod PairLemmas
+pub mod KeepLemmas

@@ -8,7 +8,7 @@ use Rattle.ror_bench.specs.declared.bench.Passed.{Passed}
 use Rattle.ror_bench.specs.declared.report.Reason.{Reason}
 use Rattle.ror_entries.specs.Kind.{Kind, IsKind, IsEntryText, WriteTheSame, IsSameKind}
 use Rattle.ror_entries.specs.Reports.{RejectsNext, RejectsEnd, end_misread, ends_early, entry_misread, refused, miscounted, one_too_many}
-use Rattle.ror_entries.specs.Steps.{IfRefused, IsNextEntry}
+use Rattle.ror_entries.specs.Steps.{IfRefused, IsEntryAt, IsNextEntry}
 use Rattle.ror_entries.specs.declared.check.EntryFault.{EntryFault}
 use Rattle.ror_entries.specs.declared.check.EntryFault.TheVariants as faults
 
@@ -99,6 +99,14 @@ module _ {E : Type 0} (one other : Kind E) (same : IsSameKind one other) where
     read = sym (reads_same (cursor_at bytes from)) ∙ next.read;
     proved = (same.proved place next.entry).0 next.proved;
     counted = next.counted ∙ ap (λ (f : E → Passed). f next.entry) same.writes.passed;
+  }
+
+  pub entry_same : (bytes : List ℕ) (place from : ℕ) (entry : E) (passed : Passed) (after : ℕ) → IsEntryAt one bytes place from entry passed after → IsEntryAt other bytes place from entry passed after
+  entry_same bytes place from entry passed after at = record {
+    no_end = at.no_end;
+    read = sym (reads_same (cursor_at bytes from)) ∙ at.read;
+    proved = (same.proved place entry).0 at.proved;
+    counted = at.counted ∙ ap (λ (f : E → Passed). f entry) same.writes.passed;
   }
 
   pub rejects_next_same : (bytes : List ℕ) (place from : ℕ) (reason : Reason) → RejectsNext one bytes place from reason → RejectsNext other bytes place from reason

@@ -19,7 +19,7 @@ use Rattle.ror_entries.specs.declared.write.EntriesStop.{EntriesStop}
 use Rattle.ror_entries.specs.declared.write.EntriesStop.TheVariants as stops
 
 -- one more entry at the place behind the others
-each_more : {E : Type 0} (P : ℕ → E → Type 0) (place : ℕ) (xs : List E) (x : E) → EachAt P place xs → P (place + length xs) x → EachAt P place (xs ++ x ∷ [])
+pub each_more : {E : Type 0} (P : ℕ → E → Type 0) (place : ℕ) (xs : List E) (x : E) → EachAt P place xs → P (place + length xs) x → EachAt P place (xs ++ x ∷ [])
 each_more P place [] x all one = (subst (λ n. P n x) (omega arith) one, tt)
 each_more P place (y ∷ ys) x all one =
     let here : place + length (y ∷ ys) ≡ (place + 1) + length ys = omega arith in
@@ -46,7 +46,7 @@ module _ {E : Type 0} (kind : Kind E) (Given : ℕ → E → Type 0) where
   pub none_written : (before : ℕ) (old : Option (List ℕ)) → AreWritten kind Given 0 before before old old false
   none_written before old = record { entries = []; numbered = refl; printable = tt; given = tt; wide_is = refl; faults = refl; grew = Grew-none old }
 
-  text_more : (xs : List E) (x : E) → flat_map kind.text (xs ++ x ∷ []) ≡ flat_map kind.text xs ++ kind.text x
+  pub text_more : (xs : List E) (x : E) → flat_map kind.text (xs ++ x ∷ []) ≡ flat_map kind.text xs ++ kind.text x
   text_more xs x = flat_map-append kind.text xs (x ∷ []) ∙ ap (λ (l : List ℕ). flat_map kind.text xs ++ l) (append-nil (kind.text x))
 
   given_more : (number before now : ℕ) (old new : Option (List ℕ)) (wide : Bool) (x : E) → (were : AreWritten kind Given number before now old new wide) → Given number x → EachAt Given 0 (were.entries ++ x ∷ [])

@@ -5,13 +5,19 @@ use Rattle.std.specs.Str.{IsUtf8}
 use Rattle.ror_bench.specs.declared.report.Accepted.{Accepted}
 use Rattle.ror_bench.specs.declared.report.Rejection.{Rejection}
 use Rattle.ror_entries.specs.Kind.{Kind, HasOneReason}
-use Rattle.ror_entries.specs.Reports.{accepted_of, entries_text, IsProvedEntries, IsRejectedEntries}
+use Rattle.ror_entries.specs.Reports.{accepted_of, entries_text, AreProvedEntries, IsProvedEntries, IsRejectedEntries}
 use Rattle.ror_entries.specs.Writing.{IsWholeText}
 
 -- two lists of entries have two texts
 abbrev pub EntriesHaveOneText : {E : Type 0} → Kind E → Type 0
 EntriesHaveOneText {E} kind = (xs ys : List E) → AllByRecursion kind.IsPrintable xs
     → AllByRecursion kind.IsPrintable ys → entries_text kind xs ≡ entries_text kind ys → xs ≡ ys
+
+-- entries that are kept of bytes are what a check of these accepts, and the bytes have one such list
+pub record KeptAreProved {E : Type 0} (kind : Kind E) : Type 0 where
+  pub proved : (bytes : List ℕ) (entries : List E) → AreProvedEntries kind bytes entries
+      → IsProvedEntries kind bytes (accepted_of kind entries)
+  pub one_list : (bytes : List ℕ) (xs ys : List E) → AreProvedEntries kind bytes xs → AreProvedEntries kind bytes ys → xs ≡ ys
 
 -- what is rejected is not proved
 abbrev pub RejectedIsNotProved : {E : Type 0} → Kind E → Type 0

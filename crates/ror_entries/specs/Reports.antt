@@ -38,6 +38,13 @@ pub record IsProvedEntries {E : Type 0} (kind : Kind E) (bytes : List ℕ) (acce
   pub proved : EachAt kind.IsProved 0 entries
   pub counted : accepted ≡ accepted_of kind entries
 
+-- The bytes are the text of these entries, as many as are due, each proved at its place but for what is too wide, and the last line.
+pub record AreProvedEntries {E : Type 0} (kind : Kind E) (bytes : List ℕ) (entries : List E) : Type 0 where
+  pub all_due : length entries ≡ kind.count
+  pub text : bytes ≡ entries_text kind entries
+  pub printable : AllByRecursion kind.IsPrintable entries
+  pub proved : EachAt kind.IsProved 0 entries
+
 -- each entry is true at its place
 abbrev pub AreTrueEntries : {E : Type 0} → Kind E → List E → Type 0
 AreTrueEntries kind entries = EachAt kind.IsTrue 0 entries

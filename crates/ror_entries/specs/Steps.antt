@@ -23,6 +23,13 @@ abbrev pub IfRefused : (Reason → Type 0) → EntryFault → Type 0
 IfRefused P (faults.Refused reason) = P reason
 IfRefused P faults.Memory = Unit {0}
 
+-- the entry stands at the byte and ends at the other, it is proved at its place, and so many of its answers have a proof
+pub record IsEntryAt {E : Type 0} (kind : Kind E) (bytes : List ℕ) (place from : ℕ) (entry : E) (passed : Passed) (after : ℕ) : Type 0 where
+  pub no_end : begins_end (drop from bytes) ≡ false
+  pub read : kind.reads (cursor_at bytes from) ≡ Ok (entry, cursor_at bytes after)
+  pub proved : kind.IsProved place entry
+  pub counted : passed ≡ kind.passed entry
+
 -- an entry stands at the byte and ends at the other, it is proved at its place, and so many of its answers have a proof
 pub record IsNextEntry {E : Type 0} (kind : Kind E) (bytes : List ℕ) (place from : ℕ) (passed : Passed) (after : ℕ) : Type 0 where
   pub entry : E

@@ -8,7 +8,7 @@ ghost use Rattle.ror_report.specs.Text.{end_text};
 ghost use Rattle.ror_bench.specs.Reports.{IfRejected, IsFreeOfMemory, HoldsNoMemory};
 ghost use Rattle.ror_entries.specs.Kind.{Kind, IsKind, IsSameKind};
 ghost use Rattle.ror_entries.specs.Reports.{IsProvedEntries, IsAcceptedEntries, IsRejectedEntries, RejectsNext, RejectsEnd};
-ghost use Rattle.ror_entries.specs.Steps.{IfRefused, IsNextEntry, IsLateEntry, refused_error};
+ghost use Rattle.ror_entries.specs.Steps.{IfRefused, IsEntryAt, IsNextEntry, IsLateEntry, refused_error};
 
 use ror_bench::{
     Accepted, MOST_REPORT_BYTES, Passed, Reason, Rejection, ReportError, early_end, misread,
@@ -135,13 +135,41 @@ fn check_next<J: Judge>(
     ensures same { IsSameKind (J.kind judge.new) (J.kind judge.old) }
     ensures report { J.report judge.new ≡ J.report judge.old }
 {
+    match next_entry(alloc, judge, place, from) {
+        Ok((_, passed, after)) => Ok((passed, after)),
+        Err(error) => Err(error),
+    }
+}
+
+/// Reads the entry that stands at a byte and judges it for a place: the entry, what of it passed, and where it ends.
+pub(crate) fn next_entry<J: Judge>(
+    alloc: Global,
+    judge: &mut J,
+    place: u32,
+    from: usize,
+) -> Result<(J::Entry, Passed, usize), ReportError>
+    requires lawful { IsKind (J.kind judge.old) }
+    requires due { place < (J.kind judge.old).count }
+    requires few { place ≤ from }
+    requires within { from ≤ length (J.report judge.old) }
+    requires length { length (J.report judge.old) ≤ MOST_REPORT_BYTES }
+    ensures next { IfOk result
+        (λ x. IsEntryAt (J.kind judge.old) (J.report judge.old) place from x.0 x.1 x.2) }
+    ensures onward { IfOk result (λ x. from < x.2) }
+    ensures within { IfOk result (λ x. x.2 ≤ length (J.report judge.old)) }
+    ensures rejected { IfErr result (IfRejected (λ rejection. (rejection.block ≡ place + 1)
+        × RejectsNext (J.kind judge.old) (J.report judge.old) place from rejection.reason)) }
+    ensures pure { IfErr result HoldsNoMemory }
+    ensures same { IsSameKind (J.kind judge.new) (J.kind judge.old) }
+    ensures report { J.report judge.new ≡ J.report judge.old }
+{
     let block = place + 1;
     if begins_end(judge.bytes(), from) {
         return Err(early_end(judge.bytes(), from, block));
     }
     match judge.read(alloc, from) {
         Ok((found, after)) => match judge.check(alloc, place, &found) {
-            Ok(passed) => Ok((passed, after)),
+            Ok(passed) => Ok((found, passed, after)),
             Err(fault) => Err(refused_entry(block, fault)),
         },
         Err(fault) => Err(misread(judge.bytes(), block, fault)),
@@ -149,7 +177,7 @@ fn check_next<J: Judge>(
 }
 
 /// Checks that the last line stands at a byte, with the number of entries, and nothing after it.
-fn check_end<J: Judge>(
+pub(crate) fn check_end<J: Judge>(
     alloc: Global,
     judge: &mut J,
     count: u32,

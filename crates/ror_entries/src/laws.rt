@@ -1,7 +1,7 @@
 //! Laws of the kinds of entries, each the clause of a function that does nothing.
 
 ghost use Rattle.ror_entries.specs.Kind.{IsKind};
-ghost use Rattle.ror_entries.specs.Laws.{EntriesHaveOneText, RejectedIsNotProved, HasOneCount, HasOneRejection, EntriesAreUtf8, GivenAreProved};
+ghost use Rattle.ror_entries.specs.Laws.{EntriesHaveOneText, KeptAreProved, RejectedIsNotProved, HasOneCount, HasOneRejection, EntriesAreUtf8, GivenAreProved};
 
 use crate::check::Judge;
 use crate::write::Maker;
@@ -9,6 +9,11 @@ use crate::write::Maker;
 /// Two lists of entries that have a text have two.
 pub fn one_spelling<J: Judge>()
     ensures { (judge : J) → IsKind (J.kind judge) → EntriesHaveOneText (J.kind judge) }
+{}
+
+/// What is kept is proved, and bytes are the text of one list of proved entries.
+pub fn kept_are_proved<J: Judge>()
+    ensures { (judge : J) → IsKind (J.kind judge) → KeptAreProved (J.kind judge) }
 {}
 
 /// What is rejected for a first fault is not the text of proved entries.

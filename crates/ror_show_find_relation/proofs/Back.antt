@@ -1,12 +1,12 @@
 -- Changes, seen backwards.
-use Rattle.std.proofs.Common.{◌≡◌, ◌≢◌, ℕ, Bool, true, false, not, ◌&&◌, Option, Some, None, refl, sym, ap, ◌∙◌, subst}
+use Rattle.std.proofs.Common.{◌≡◌, ◌≢◌, ℕ, Bool, true, false, not, ◌&&◌, Some, None, refl, sym, ap, ◌∙◌, subst}
 use Rattle.std.specs.Prelude.{◌==◌, if◌then◌else◌}
 use Rattle.std.proofs.lemmas.Bool.{eqb-true, eqb-false}
 use Rattle.ror_show_find_relation.specs.Relations.{Square, holds}
 use Rattle.ror_show_find_relation.specs.declared.change.Change.{Change}
 use Rattle.ror_show_find_relation.specs.declared.change.Change.TheVariants as changes
 use Rattle.ror_show_find_relation.specs.Changes.{alone, change_by, change_of}
-use Rattle.ror_show_find_relation.specs.ChangeLaws.{backwards, BackOf, ChangesBack}
+use Rattle.ror_show_find_relation.specs.ChangeLaws.{backwards, ChangesBack}
 
 same_test : (a b : ℕ) → (a == b) ≡ (b == a)
 same_test a b = by (a == b) refl (b == a) refl

@@ -20,7 +20,7 @@ use Rattle.ror_show_find_relation.proofs.Mirror.{mirrored}
 
 -- ---- of one pair
 
-abbrev once : Bool → ℕ
+abbrev pub once : Bool → ℕ
 once b = if b then 1 else 0
 
 -- the cell is counted in one of the four ways
@@ -87,11 +87,11 @@ four-counts p q r s (suc n) each =
     let here = each n (omega arith) in
     omega (arith, before, here)
 
-abbrev triangle : ℕ → ℕ
+abbrev pub triangle : ℕ → ℕ
 triangle zero = 0
 triangle (suc n) = n + triangle n
 
-doubled : (n : ℕ) → triangle n * 2 ≡ n * (n - 1)
+pub doubled : (n : ℕ) → triangle n * 2 ≡ n * (n - 1)
 doubled zero = omega arith
 doubled (suc zero) = omega arith
 doubled (suc (suc k)) =
@@ -101,7 +101,7 @@ doubled (suc (suc k)) =
     let here : (suc k + triangle (suc k)) * 2 ≡ suc (suc k) * suc k = omega (arith, before) in
     here ∙ ap (λ (j : ℕ). suc (suc k) * j) (sym one)
 
-half : (x y : ℕ) → y * 2 ≡ x → x / 2 ≡ y
+pub half : (x y : ℕ) → y * 2 ≡ x → x / 2 ≡ y
 half x y is = omega (arith, is)
 
 module _ (n : ℕ) (xs : List Answer) where

@@ -50,7 +50,7 @@ known-at = marks-at is_over
 
 -- ---- what a mark says
 
-says-over : (t : DecisionTable) (list : List Statement) (c : Cell) (a b : ℕ) → is_over c ≡ true → Says t list c a b → IsOver t list a b
+pub says-over : (t : DecisionTable) (list : List Statement) (c : Cell) (a b : ℕ) → is_over c ≡ true → Says t list c a b → IsOver t list a b
 says-over t list cells.Itself a b over says = λ w compatible. (let same : value t w a ≡ value t w b = ap (value t w) says in omega (arith, ints))
 says-over t list cells.AlwaysBetter a b over says = λ w compatible. (let more : value t w b <ℤ value t w a = says.more w compatible in omega (arith, ints))
 says-over t list cells.AtLeastAsGood a b over says = says.at_least
@@ -77,7 +77,7 @@ says-not-over t list cells.NeverAsGood a b some known over says is =
 says-not-over t list cells.Contradiction a b some known over says is = says some.0 some.1
 says-not-over t list cells.Unknown a b some known over says is = known refl
 
-over-transitive : (t : DecisionTable) (list : List Statement) (a b c : ℕ) → IsOver t list a b → IsOver t list b c → IsOver t list a c
+pub over-transitive : (t : DecisionTable) (list : List Statement) (a b c : ℕ) → IsOver t list a b → IsOver t list b c → IsOver t list a c
 over-transitive t list a b c p q = λ w compatible. (let first : value t w b ≤ℤ value t w a = p w compatible in let second : value t w c ≤ℤ value t w b = q w compatible in omega (arith, ints))
 
 pub known-sound : (t : DecisionTable) (list : List Statement) (xs : List Answer) (n a b : ℕ) → AreTrueAnswers t list xs → holds (known (cell_rows n xs)) a b ≡ true → IsOver t list a b
@@ -96,7 +96,7 @@ known-complete t list xs n a b all whole row column is = by (is_over (cell_at n 
 
 -- ---- the strict part
 
-strict-says : (t : DecisionTable) (list : List Statement) (c : Cell) (a b : ℕ) → is_over c ≡ true → is_over (mirror c) ≡ false → Says t list c a b → IsOver t list b a → ⊥
+pub strict-says : (t : DecisionTable) (list : List Statement) (c : Cell) (a b : ℕ) → is_over c ≡ true → is_over (mirror c) ≡ false → Says t list c a b → IsOver t list b a → ⊥
 strict-says t list cells.Itself a b over not_back says is = cc
 strict-says t list cells.AlwaysBetter a b over not_back says is =
     let some = says.consistent in
@@ -173,10 +173,8 @@ whole-of t list xs n all whole = record {
 
 -- ---- how large the marks are
 
-pub marks-few : (mark : Cell → Bool) (n : ℕ) (xs : List Answer) (rows : List (List Cell)) (made : Square) → n ≤ 200 → rows ≡ cell_rows n xs → made ≡ marks mark rows → length made ≤ 200
-marks-few mark n xs rows made few is of_rows =
-    let many : length (cell_rows n xs) ≡ n = length-map-range_with_len (cells_from n xs) 0 n in
+pub marks-few : (mark : Cell → Bool) (rows : List (List Cell)) (made : Square) → length rows ≤ 200 → made ≡ marks mark rows → length made ≤ 200
+marks-few mark rows made few of_rows =
     let as_many : length (marks mark rows) ≡ length rows = length-map rows (map mark) in
-    let same_rows : length rows ≡ length (cell_rows n xs) = ap (λ (r : List (List Cell)). length r) is in
     let same : length made ≡ length (marks mark rows) = ap (λ (r : Square). length r) of_rows in
     omega arith

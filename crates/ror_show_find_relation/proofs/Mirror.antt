@@ -56,7 +56,7 @@ choice-mirrored true false x y is = refl
 choice-mirrored false true x y is = refl
 choice-mirrored false false x y is = is
 
-cell-mirrored : (there back : PairSaid) → cell_of back there ≡ mirror (cell_of there back)
+pub cell-mirrored : (there back : PairSaid) → cell_of back there ≡ mirror (cell_of there back)
 cell-mirrored there back =
     choice-mirrored (has_contradiction there) (has_contradiction back) (cell_of_necessary there back there.necessary back.necessary) (cell_of_necessary back there back.necessary there.necessary)
     (necessary-mirrored there back there.necessary back.necessary)

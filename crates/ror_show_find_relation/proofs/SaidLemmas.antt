@@ -26,7 +26,7 @@ IsTrueSaid t list q No = Answers t list q conclusions.No
 IsTrueSaid t list q Contradiction = Answers t list q conclusions.Contradiction
 IsTrueSaid t list q Nothing = Unit {0}
 
-verdict_true : (t : DecisionTable) (list : List Statement) (q : Question) (v : Verdict) → IsWideOrTrue t list q v → IsTrueSaid t list q (said_by v)
+pub verdict_true : (t : DecisionTable) (list : List Statement) (q : Question) (v : Verdict) → IsWideOrTrue t list q v → IsTrueSaid t list q (said_by v)
 verdict_true t list q (verdicts.Yes proof) is = is
 verdict_true t list q (verdicts.No proof) is = is
 verdict_true t list q (verdicts.Contradiction proof) is = is
@@ -54,7 +54,7 @@ asked_possible t list a b x y s is = by (x == a && y == b) refl
         subst (λ (v : ℕ). IsTrueSaid t list (Possible v b) s) (eqb-true x a parts.0) (subst (λ (v : ℕ). IsTrueSaid t list (Possible x v) s) (eqb-true y b parts.1) is)
     by false same = tt
 
-if_necessary-true : (t : DecisionTable) (list : List Statement) (a b : ℕ) (q : Question) (s : Said) → IsTrueSaid t list q s → IsTrueSaid t list (Necessary a b) (if_necessary a b q s)
+pub if_necessary-true : (t : DecisionTable) (list : List Statement) (a b : ℕ) (q : Question) (s : Said) → IsTrueSaid t list q s → IsTrueSaid t list (Necessary a b) (if_necessary a b q s)
 if_necessary-true t list a b Consistent s is = tt
 if_necessary-true t list a b (Necessary x y) s is = asked_necessary t list a b x y s is
 if_necessary-true t list a b (Possible x y) s is = tt
@@ -63,7 +63,7 @@ if_necessary-true t list a b (PossibleStrength p q scope) s is = tt
 if_necessary-true t list a b (PossibleClass x h) s is = tt
 if_necessary-true t list a b (NecessaryClass x h) s is = tt
 
-if_possible-true : (t : DecisionTable) (list : List Statement) (a b : ℕ) (q : Question) (s : Said) → IsTrueSaid t list q s → IsTrueSaid t list (Possible a b) (if_possible a b q s)
+pub if_possible-true : (t : DecisionTable) (list : List Statement) (a b : ℕ) (q : Question) (s : Said) → IsTrueSaid t list q s → IsTrueSaid t list (Possible a b) (if_possible a b q s)
 if_possible-true t list a b Consistent s is = tt
 if_possible-true t list a b (Necessary x y) s is = tt
 if_possible-true t list a b (Possible x y) s is = asked_possible t list a b x y s is

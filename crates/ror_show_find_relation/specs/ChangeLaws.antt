@@ -1,5 +1,5 @@
 -- What holds of the changes from one relation to another, for all relations.
-use Rattle.std.specs.Prelude.{◌≡◌, ◌≢◌, ◌↔◌, ◌⊎◌, ℕ, true, Option, Some, None, Contains}
+use Rattle.std.specs.Prelude.{◌≡◌, ◌≢◌, ◌↔◌, ◌⊎◌, ℕ, true, Some, Contains}
 use Rattle.ror_show_find_relation.specs.Relations.{Square, holds}
 use Rattle.ror_show_find_relation.specs.declared.change.Change.{Change}
 use Rattle.ror_show_find_relation.specs.declared.change.Change.TheVariants as changes

@@ -1,5 +1,5 @@
 -- What a cell says of all value functions that are compatible with the statements, in the field's words.
-use Rattle.std.specs.Prelude.{◌≡◌, ℕ, List, ℤ, ◌≤ℤ◌, ◌<ℤ◌}
+use Rattle.std.specs.Prelude.{◌≡◌, ℕ, List, ◌≤ℤ◌, ◌<ℤ◌}
 use Rattle.ror_statement.specs.declared.statement.Statement.{Statement}
 use Rattle.ror_table.specs.Table.{DecisionTable}
 use Rattle.ror_value.specs.Value.{value}

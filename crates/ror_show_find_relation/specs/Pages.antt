@@ -21,10 +21,14 @@ known rows = marks is_over rows
 -- The page shows the cell of each two alternatives, the levels and the arrows of what is known, and of how many pairs of
 -- different alternatives one is known to be at least as good as the other, how many are open, and of how many one dominates
 -- the other.
-pub record IsRelationPage (t : DecisionTable) (xs : List Answer) (page : RelationPage) : Type 0 where
-  pub rows : page.rows ≡ cell_rows (length t.alternatives) xs
+pub record IsPageOfCells (t : DecisionTable) (cells : List (List Cell)) (page : RelationPage) : Type 0 where
+  pub rows : page.rows ≡ cells
   pub levels : AreLevels (known page.rows) page.levels
   pub arrows : page.arrows ≡ arrows (known page.rows)
   pub decided : page.counts.decided ≡ decided_pairs (known page.rows)
   pub open_pairs : page.counts.open ≡ decided_pairs (marks is_open page.rows)
   pub by_dominance : page.counts.by_dominance ≡ decided_pairs (dominance t)
+
+-- those of the answers to all questions on a relation of the table's alternatives
+abbrev pub IsRelationPage : DecisionTable → List Answer → RelationPage → Type 0
+IsRelationPage t xs page = IsPageOfCells t (cell_rows (length t.alternatives) xs) page

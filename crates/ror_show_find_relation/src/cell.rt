@@ -95,8 +95,8 @@ pub(crate) fn cell_at(size: usize, answers: &[Answer], a: usize, b: usize) -> Ce
     )
 }
 
-/// The cell of a row against a column, by what is said of the row over the column and back.
-pub(crate) fn cell_of(there: PairSaid, back: PairSaid) -> Cell
+/// The cell of a row against another column, by what is said of the row over the column and back.
+pub fn cell_of(there: PairSaid, back: PairSaid) -> Cell
     ensures { result ≡ spec.cell_of there back }
 {
     if has_contradiction(there) || has_contradiction(back) {

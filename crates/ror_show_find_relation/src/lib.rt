@@ -30,7 +30,7 @@ mod pair;
 mod places;
 mod relation;
 
-pub use cell::Cell;
+pub use cell::{Cell, cell_of};
 pub use change::{Change, change_of};
 pub use counting::decided_pairs;
 pub use differences::{Differences, brought, differences_between};
@@ -38,8 +38,8 @@ pub use dominance::dominates;
 pub use hasse::arrows;
 pub use level::levels;
 pub use list::changed_pairs;
-pub use page::{Counts, RelationPage, known_relation, relation_page};
-pub use pair::PairSaid;
+pub use page::{Counts, RelationPage, known_relation, page_of_cells, relation_page};
+pub use pair::{PairSaid, necessary_by, place_of_pair, possible_by};
 pub use places::{
     cell_in, contradictory_pairs, is_contradictory, over_count, under_count, unknown_pairs,
 };

@@ -1,9 +1,9 @@
 //! What a relation shows: its cells, what is known of it, and how many pairs are decided.
 
-ghost use Rattle.std.specs.Prelude.{◌≡◌, ◌<◌, ◌≤◌, map, IfOk};
+ghost use Rattle.std.specs.Prelude.{◌≡◌, ◌<◌, ◌≤◌, length, map, IfOk};
 ghost use Rattle.ror_show_find_relation.specs.Cells as spec;
 ghost use Rattle.ror_show_find_relation.specs.Cells.{cell_rows};
-ghost use Rattle.ror_show_find_relation.specs.Pages.{IsRelationPage, marks, known};
+ghost use Rattle.ror_show_find_relation.specs.Pages.{IsPageOfCells, IsRelationPage, marks, known};
 
 use crate::cell::{Cell, cell_at};
 use crate::counting::decided_pairs;
@@ -52,6 +52,23 @@ pub fn relation_page(
     ensures { IfOk result (IsRelationPage table.now answers.now) }
 {
     let rows = cell_rows(alloc, table.alternatives(), answers)?;
+    page_of_cells(alloc, table, rows)
+}
+
+/// The page of a relation with these cells, one for each two alternatives, row by row.
+///
+/// # Errors
+///
+/// Only want of memory.
+pub fn page_of_cells(
+    alloc: Global,
+    table: &Table,
+    rows: Vec<Items<Cell>>,
+) -> Result<RelationPage, AllocError>
+    requires { length rows.items ≤ 200 }
+    ensures { IfOk result (IsPageOfCells table.now rows.items) }
+{
+    prove!(table.alternatives() <= 200);
     let over = known_relation(alloc, &rows)?;
     let open = open_of(alloc, &rows)?;
     let dominance = dominance(alloc, table)?;

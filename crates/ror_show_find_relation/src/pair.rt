@@ -30,8 +30,8 @@ pub(crate) fn said_of_pair(size: usize, answers: &[Answer], a: usize, b: usize) 
     }
 }
 
-/// Where the pair stands among the ordered pairs of different alternatives.
-fn place_of_pair(size: usize, a: usize, b: usize) -> usize
+/// Where the pair of different ones of so many alternatives, at most 200, stands among their ordered pairs.
+pub fn place_of_pair(size: usize, a: usize, b: usize) -> usize
     requires few { size ≤ 200 }
     requires first { a < size }
     requires second { b < size }
@@ -42,8 +42,9 @@ fn place_of_pair(size: usize, a: usize, b: usize) -> usize
     a * (size - 1) + other
 }
 
-/// What the answer at a place says to whether the first is necessarily at least as good.
-fn necessary_by(a: usize, b: usize, answers: &[Answer], place: usize) -> Said
+/// What the answer at a place says to whether the first is necessarily at least as good as the second; nothing where it is to
+/// another question, and where there is none.
+pub fn necessary_by(a: usize, b: usize, answers: &[Answer], place: usize) -> Said
     ensures { result ≡ spec.necessary_by a b (slice_get answers.now place) }
 {
     let Some(answer) = answers.get(place) else {
@@ -56,7 +57,7 @@ fn necessary_by(a: usize, b: usize, answers: &[Answer], place: usize) -> Said
 }
 
 /// The same to whether it is possibly.
-fn possible_by(a: usize, b: usize, answers: &[Answer], place: usize) -> Said
+pub fn possible_by(a: usize, b: usize, answers: &[Answer], place: usize) -> Said
     ensures { result ≡ spec.possible_by a b (slice_get answers.now place) }
 {
     let Some(answer) = answers.get(place) else {

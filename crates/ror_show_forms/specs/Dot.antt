@@ -24,9 +24,11 @@ abbrev pub graph_head : ℕ → List ℕ
 graph_head line = codes "digraph \"line " ++ decimal line ++ codes "\" {\n"
 
 -- each alternative, and then each arrow
+abbrev pub graph_body : DecisionTable → List (ℕ × ℕ) → List ℕ
+graph_body t arrows = flat_map (node t) (range_with_len 0 (length t.alternatives)) ++ flat_map (arrow t) arrows ++ codes "}\n"
+
 abbrev pub dot_text : DecisionTable → ℕ → List (ℕ × ℕ) → List ℕ
-dot_text t line arrows = graph_head line ++ flat_map (node t) (range_with_len 0 (length t.alternatives))
-    ++ flat_map (arrow t) arrows ++ codes "}\n"
+dot_text t line arrows = graph_head line ++ graph_body t arrows
 
 -- that of a kept line
 abbrev pub line_graph : Ground → List (ℕ × ℕ) → KeptLine → List ℕ

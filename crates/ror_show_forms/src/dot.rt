@@ -61,6 +61,21 @@ fn write_dot(
     ensures { OnOk result (text.new.items ≡ text.old.items ++ spec.dot_text table.now line arrows.now) }
 {
     write_head(text, line)?;
+    write_graph_body(text, table, arrows)
+}
+
+/// Adds what stands behind the head of a graph: each alternative, and then each arrow, by places from 0.
+///
+/// # Errors
+///
+/// Only want of memory.
+pub fn write_graph_body(
+    text: &mut Vec<u8>,
+    table: &Table,
+    arrows: &[(usize, usize)],
+) -> Result<(), AllocError>
+    ensures { OnOk result (text.new.items ≡ text.old.items ++ spec.graph_body table.now arrows.now) }
+{
     write_nodes(text, table)?;
     write_arrows(text, table, arrows)?;
     text.extend_from_slice(b"}\n")

@@ -35,7 +35,7 @@ pub use certificate::Certificate;
 pub use change_csv::{changes_head, write_changes_csv};
 pub use check::check_certificates;
 pub use class_csv::{classes_head, write_classes_csv};
-pub use dot::write_relations_dot;
+pub use dot::{write_graph_body, write_relations_dot};
 pub use function_csv::{functions_head, write_functions_csv};
 pub use head::header;
 pub use list::read_certificates;

@@ -1,4 +1,5 @@
 pub mod Sheets
 pub mod Showing
+pub mod Groups
 pub mod ChoreLemmas
 pub mod Saying

@@ -88,7 +88,7 @@ fn told_of_kept(
 
 fn names_of<'a>(asked: &Asked<'a>) -> Names<'a> {
     match asked {
-        Asked::OfReport(_, words) => names_in(words),
+        Asked::OfReport(_, words) | Asked::OfGroup(words) => names_in(words),
         Asked::OfCheck(words) => Names {
             table: words.table,
             session: words.session,

@@ -11,6 +11,7 @@
 //! ```text
 //! run   of read t s, where s has a line `Prefer a b`                   BadSession, and on standard error `capital letters: write prefer`
 //! run   of relation t s r, where r is an accepted report of s over t   Done, and the page on standard output
+//! run   of group t s g, where g is an accepted report of the group     Done, and what the judges say together
 //! run   of why t s r --line 6                                          Done, and the reasons of the answers to line 6
 //! run   of check-why t s r c                                           Done, and `accepted 2`, of two such certificates in the file c
 //! run   of import f, where f is a spreadsheet                          Done, and its table; on standard error, how it was read
@@ -18,6 +19,7 @@
 //! ```
 #![tactic(auto)]
 
+mod group;
 mod helping;
 mod keeping;
 mod report;

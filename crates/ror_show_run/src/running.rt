@@ -12,6 +12,7 @@ ghost use Rattle.ror_show_words.specs.Named.{asked_with};
 ghost use Rattle.ror_show_run.specs.Chores.{chore_of, status_line};
 ghost use Rattle.ror_show_run.specs.Saying.{GrowsApart, SaysFirst, is_import, wants_help};
 
+use crate::group::show_group;
 use crate::helping::help_on;
 use crate::keeping::KeepingShelf;
 use crate::sheet::{SheetFiles, show_sheet};
@@ -138,6 +139,7 @@ fn work_on<F: Shelf, O: Sink>(
 {
     match asked {
         Asked::OfReport(page, words) => show_page(alloc, *page, words, shelf, out),
+        Asked::OfGroup(words) => show_group(alloc, words, shelf, out),
         Asked::OfFiles(words) => {
             let files = SheetFiles {
                 table: words.table,

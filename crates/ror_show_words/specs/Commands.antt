@@ -7,7 +7,7 @@ use Rattle.ror_show_words.specs.declared.table.Lines.{Lines}
 use Rattle.ror_show_words.specs.declared.table.Lines.TheVariants.{NoLine, ALine, OneLine}
 use Rattle.ror_show_words.specs.declared.table.Page.TheVariants.{Relation, Changes, Classes, Standing, Functions, Reasons, WhatIf}
 use Rattle.ror_show_words.specs.declared.table.Shown.{Shown}
-use Rattle.ror_show_words.specs.declared.table.Shown.TheVariants.{Report, Sheet, Check, Import}
+use Rattle.ror_show_words.specs.declared.table.Shown.TheVariants.{Report, Sheet, Group, Check, Import}
 use Rattle.ror_show_words.specs.declared.words.Form.{Form}
 use Rattle.ror_show_words.specs.declared.words.Form.TheVariants.{Text, Csv, Dot, Certificates}
 
@@ -34,6 +34,7 @@ table = row Sheet (codes "read") NoLine false (Text ∷ [])
     ∷ row (Report Functions) (codes "functions") OneLine false (Text ∷ Csv ∷ [])
     ∷ row (Report Reasons) (codes "why") ALine true (Text ∷ Certificates ∷ [])
     ∷ row (Report WhatIf) (codes "what-if") ALine false (Text ∷ Csv ∷ [])
+    ∷ row Group (codes "group") NoLine false (Text ∷ Csv ∷ Dot ∷ [])
     ∷ row Check (codes "check-why") NoLine false (Text ∷ [])
     ∷ row Import (codes "import") NoLine false (Text ∷ [])
     ∷ []
@@ -54,6 +55,7 @@ form_text Certificates = codes "certificates"
 abbrev pub names_usage : Shown → List ℕ
 names_usage Sheet = codes " TABLE [SESSION] [--best-first]"
 names_usage (Report page) = codes " TABLE SESSION REPORT [--best-first] [--desk NAME]"
+names_usage Group = codes " TABLE SESSION REPORT [--best-first]"
 names_usage Check = codes " TABLE SESSION REPORT CERTIFICATES [--best-first]"
 names_usage Import = codes " FILE [--min NAMES] [--max NAMES] [--linear NAMES]"
 

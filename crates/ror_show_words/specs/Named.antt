@@ -9,7 +9,7 @@ use Rattle.ror_show_words.specs.declared.words.CheckWords as checks
 use Rattle.ror_show_words.specs.declared.words.SheetWords as sheets
 use Rattle.ror_show_words.specs.declared.words.ImportWords as imports
 use Rattle.ror_show_words.specs.Commands.{Row}
-use Rattle.ror_show_words.specs.Words.{PageWords, PairWords, CheckWords, SheetWords, ImportWords, Asked, OfReport, OfFiles, OfCheck, OfSpreadsheet}
+use Rattle.ror_show_words.specs.Words.{PageWords, PairWords, CheckWords, SheetWords, ImportWords, Asked, OfReport, OfGroup, OfFiles, OfCheck, OfSpreadsheet}
 
 abbrev pub row_with : rows.Row → Row
 row_with row = record {
@@ -61,6 +61,7 @@ import_words_of given = record {
 
 abbrev pub asked_with : given.Asked → Asked
 asked_with (asked.OfReport page words) = OfReport page (page_words_of words)
+asked_with (asked.OfGroup words) = OfGroup (page_words_of words)
 asked_with (asked.OfFiles words) = OfFiles (sheet_words_of words)
 asked_with (asked.OfCheck words) = OfCheck (check_words_of words)
 asked_with (asked.OfSpreadsheet words) = OfSpreadsheet (import_words_of words)

@@ -1,5 +1,5 @@
 -- The words of a command line. Which words a page takes, and what they give, is what `clap` says of its command.
-use Rattle.std.specs.Prelude.{ℕ, Bool, true, false, ◌&&◌, List, [], ◌∷◌, length, ◌==◌, Option, Some, None, codes, unwrap_or, if◌then◌else◌}
+use Rattle.std.specs.Prelude.{ℕ, Bool, true, false, not, is_some, ◌&&◌, List, [], ◌∷◌, length, ◌==◌, Option, Some, None, codes, unwrap_or, if◌then◌else◌}
 use Rattle.std.specs.Option.{option_map, option_and_then, option_map_or}
 use Rattle.std.specs.List.{find, list_any}
 use Rattle.std.specs.Str.{bytes_eq}
@@ -13,7 +13,7 @@ use Rattle.ror_show_words.specs.declared.table.Page.{Page}
 use Rattle.ror_show_words.specs.declared.words.Form.{Form}
 use Rattle.ror_show_words.specs.declared.words.Form.TheVariants as forms
 use Rattle.ror_show_words.specs.declared.table.Shown.{Shown}
-use Rattle.ror_show_words.specs.declared.table.Shown.TheVariants.{Report, Sheet, Check, Import}
+use Rattle.ror_show_words.specs.declared.table.Shown.TheVariants.{Report, Sheet, Group, Check, Import}
 use Rattle.ror_show_words.specs.Commands.{Row, row_for, form_text}
 
 -- ---- what a page takes
@@ -110,9 +110,10 @@ pub record ImportWords : Type 0 where
   pub max : Option (List ℕ)
   pub linear : Option (List ℕ)
 
--- what words ask for: a page of a report, what was read of files, whether certificates are proved, or the table of a spreadsheet
+-- what words ask for: a page of a report, of a group's report, what was read of files, whether certificates are proved, or the table of a spreadsheet
 pub data Asked : Type 0 where
   OfReport : Page → PageWords → Asked
+  OfGroup : PageWords → Asked
   OfFiles : SheetWords → Asked
   OfCheck : CheckWords → Asked
   OfSpreadsheet : ImportWords → Asked
@@ -241,9 +242,14 @@ fits row words = fits_line row.lines words.line && fits_pair row.pair words.form
 abbrev pub of_report : Row → Page → PageWords → Option Asked
 of_report row page words = if fits row words then Some (OfReport page words) else None
 
+-- that of a group's report is of no one desk
+abbrev pub of_group : Row → PageWords → Option Asked
+of_group row words = if fits row words && not (is_some words.desk) then Some (OfGroup words) else None
+
 abbrev pub asked_by : Row → Shown → List (List ℕ) → Option Asked
 asked_by row (Report page) words = option_and_then (of_report row page) (given_in words)
 asked_by row Sheet words = option_map OfFiles (sheet_in words)
+asked_by row Group words = option_and_then (of_group row) (given_in words)
 asked_by row Check words = option_map OfCheck (check_in words)
 asked_by row Import words = option_map OfSpreadsheet (import_in words)
 

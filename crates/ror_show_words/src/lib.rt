@@ -1,9 +1,9 @@
 //! The words of a command line: which page they ask for, and of what.
 //!
-//! [`read_words`] gives what words ask for ([`Asked`]), as `clap` reads them: a [`Page`] of a report with its [`PageWords`], the page of
-//! what was read with its [`SheetWords`], the check of certificates with its [`CheckWords`], or the table of a spreadsheet with its
-//! [`ImportWords`]. A table says of each page its word, its
-//! forms, of which lines it is, and whether it may be of two alternatives.
+//! [`read_words`] gives what words ask for ([`Asked`]), as `clap` reads them: a [`Page`] of a report or the page of a group's report with
+//! [`PageWords`], the page of what was read with its [`SheetWords`], the check of certificates with its [`CheckWords`], or the table of a
+//! spreadsheet with its [`ImportWords`]. A table says of each page its word, its forms, of which lines it is, and whether it may be of
+//! two alternatives.
 //!
 //! ```text
 //! relation t s r --as=csv           the page of the relation, of the files t, s and r, as csv
@@ -13,6 +13,7 @@
 //! relation t s, relation t s r q    Err(Unknown): these words ask for nothing
 //! changes t s r --line 3            the same: what changed is of no one line
 //! relation t s r --pair a b         the same: that page isn't of two alternatives
+//! group t s r --desk anna           the same: that page is of all desks
 //! ```
 #![tactic(auto)]
 

@@ -35,6 +35,8 @@ pub(crate) enum Shown {
     Report(Page),
     /// What was read of a table, and of a session.
     Sheet,
+    /// What the judges of a group's report say together.
+    Group,
     /// Whether certificates of reasons are proved.
     Check,
     /// The plain table that a spreadsheet leads to.
@@ -65,7 +67,7 @@ pub(crate) struct Row {
     pub(crate) forms: &'static [Form],
 }
 
-const TABLE: [Row; 10] = [
+const TABLE: [Row; 11] = [
     Row {
         shown: Shown::Sheet,
         word: "read",
@@ -123,6 +125,13 @@ const TABLE: [Row; 10] = [
         forms: &[Form::Text, Form::Csv],
     },
     Row {
+        shown: Shown::Group,
+        word: "group",
+        lines: Lines::NoLine,
+        pair: false,
+        forms: &[Form::Text, Form::Csv, Form::Dot],
+    },
+    Row {
         shown: Shown::Check,
         word: "check-why",
         lines: Lines::NoLine,
@@ -142,7 +151,7 @@ const TABLE: [Row; 10] = [
 pub fn usage() -> &'static str
     ensures { result.now ≡ usage_text }
 {
-    "usage: ror_show read TABLE [SESSION] [--best-first] | ror_show relation TABLE SESSION REPORT [--best-first] [--desk NAME] [--line N] [--as text|csv|dot] | ror_show changes TABLE SESSION REPORT [--best-first] [--desk NAME] [--as text|csv] | ror_show classes TABLE SESSION REPORT [--best-first] [--desk NAME] [--as text|csv] | ror_show standing TABLE SESSION REPORT [--best-first] [--desk NAME] [--line N] | ror_show functions TABLE SESSION REPORT [--best-first] [--desk NAME] --line N [--as text|csv] | ror_show why TABLE SESSION REPORT [--best-first] [--desk NAME] [--line N] [--pair A B] [--as text|certificates] | ror_show what-if TABLE SESSION REPORT [--best-first] [--desk NAME] [--line N] [--as text|csv] | ror_show check-why TABLE SESSION REPORT CERTIFICATES [--best-first] | ror_show import FILE [--min NAMES] [--max NAMES] [--linear NAMES]\n"
+    "usage: ror_show read TABLE [SESSION] [--best-first] | ror_show relation TABLE SESSION REPORT [--best-first] [--desk NAME] [--line N] [--as text|csv|dot] | ror_show changes TABLE SESSION REPORT [--best-first] [--desk NAME] [--as text|csv] | ror_show classes TABLE SESSION REPORT [--best-first] [--desk NAME] [--as text|csv] | ror_show standing TABLE SESSION REPORT [--best-first] [--desk NAME] [--line N] | ror_show functions TABLE SESSION REPORT [--best-first] [--desk NAME] --line N [--as text|csv] | ror_show why TABLE SESSION REPORT [--best-first] [--desk NAME] [--line N] [--pair A B] [--as text|certificates] | ror_show what-if TABLE SESSION REPORT [--best-first] [--desk NAME] [--line N] [--as text|csv] | ror_show group TABLE SESSION REPORT [--best-first] [--as text|csv|dot] | ror_show check-why TABLE SESSION REPORT CERTIFICATES [--best-first] | ror_show import FILE [--min NAMES] [--max NAMES] [--linear NAMES]\n"
 }
 
 /// The row of the page with this word.

@@ -1,11 +1,11 @@
 //! The words of a command line, and what they ask for.
 
-ghost use Rattle.std.specs.Prelude.{◌≡◌, ◌≢◌, MatchResult, Some, None, map};
+ghost use Rattle.std.specs.Prelude.{◌≡◌, ◌≢◌, MatchResult, Some, None, map, is_some};
 ghost use Rattle.std.specs.Option.{option_map};
 ghost use Rattle.std.specs.String.{string_bytes};
 ghost use Rattle.clap.specs.declared.error.kind.ErrorKind.TheVariants.{OutOfMemory};
 ghost use Rattle.clap.specs.Words.{found_of, first_value, matched_of, raw_values, kind_of};
-ghost use Rattle.ror_show_words.specs.declared.table.Shown.TheVariants.{Report};
+ghost use Rattle.ror_show_words.specs.declared.table.Shown.TheVariants.{Report, Group};
 ghost use Rattle.ror_show_words.specs.Commands as commands;
 ghost use Rattle.ror_show_words.specs.Words as spec;
 ghost use Rattle.ror_show_words.specs.Words.{line_of, form_of, if_given, words_of, given_in, sheet_in, fits, check_in, import_in, asked_by, asked};
@@ -106,6 +106,8 @@ pub struct ImportWords<'a> {
 pub enum Asked<'a> {
     /// A page of a report.
     OfReport(Page, PageWords<'a>),
+    /// What the judges of a group's report say together.
+    OfGroup(PageWords<'a>),
     /// What was read of files.
     OfFiles(SheetWords<'a>),
     /// Whether certificates are proved.
@@ -151,6 +153,7 @@ pub fn read_words(alloc: Global, words: &[String]) -> Result<Asked<'_>, WordsFau
     };
     match row.shown {
         Shown::Report(page) => report_asked(alloc, &row, page, rest),
+        Shown::Group => group_asked(alloc, &row, rest),
         Shown::Sheet => Ok(Asked::OfFiles(sheet_words(alloc, rest)?)),
         Shown::Check => Ok(Asked::OfCheck(check_words(alloc, rest)?)),
         Shown::Import => Ok(Asked::OfSpreadsheet(import_words(alloc, rest)?)),
@@ -172,6 +175,28 @@ fn report_asked<'w>(
         return Err(WordsFault::Unknown);
     }
     Ok(Asked::OfReport(page, words))
+}
+
+/// What the words after that of the page of a group's report ask for, whose row this is.
+fn group_asked<'w>(alloc: Global, row: &Row, words: &'w [String]) -> Result<Asked<'w>, WordsFault>
+    ensures { MatchResult result (λ a. asked_by (row_with row.now) Group (map string_bytes words.now) ≡ Some (asked_with a))
+        (λ e. e ≡ Unknown → asked_by (row_with row.now) Group (map string_bytes words.now) ≡ None) }
+{
+    let words = page_words(alloc, words)?;
+    if !fits(row, &words) || names_desk(&words) {
+        return Err(WordsFault::Unknown);
+    }
+    Ok(Asked::OfGroup(words))
+}
+
+/// Whether the words name a desk.
+fn names_desk(words: &PageWords<'_>) -> bool
+    ensures { result ≡ is_some (page_words_of words.now).desk }
+{
+    match words.desk {
+        Some(_) => true,
+        None => false,
+    }
 }
 
 /// Whether the page of this row takes these.

@@ -24,13 +24,15 @@ use Rattle.ror_frame.proofs.CourseLemmas.{IsDecided}
 use Rattle.ror_frame.proofs.InputLemmas.{decided_suited}
 use Rattle.ror_frame.proofs.Desks.{lawful_desks}
 use Rattle.ror_entries.specs.Kind.{IsKind}
-use Rattle.ror_entries.specs.Reports.{IsProvedEntries, IsRejectedEntries}
+use Rattle.ror_entries.specs.Reports.{AreProvedEntries, IsProvedEntries, IsRejectedEntries}
+use Rattle.ror_entries.proofs.KeepLemmas.{one_kept}
 use Rattle.ror_entries.proofs.SpellingLemmas.{one_count, one_rejection}
 use Rattle.ror_entries.proofs.RestLemmas.{rejected_not_proved}
+use Rattle.ror_group.specs.declared.entry.Entry.{Entry}
 use Rattle.ror_group.specs.declared.head.HeadFault.{HeadFault}
 use Rattle.ror_group.specs.Head.{IsHeadText}
 use Rattle.ror_work_group.specs.Entries.{group_kind}
-use Rattle.ror_work_group.specs.Group.{ProvesGroup, IsGroupRejection, too_long, not_utf8, in_head, in_entries, head_reason, RefusesGroup, group_output, group_chore, proved_output, check_group_chore}
+use Rattle.ror_work_group.specs.Group.{ProvesGroup, KeepsGroup, IsGroupRejection, too_long, not_utf8, in_head, in_entries, head_reason, RefusesGroup, group_output, group_chore, proved_output, check_group_chore}
 use Rattle.ror_work_group.proofs.KindLemmas.{are_kind, one_reason}
 use Rattle.ror_group.proofs.HeadLemmas.{whole_again, whole_is_text}
 use Rattle.ror_work_group.proofs.HeadLemmas.{proved_no_desk, proved_utf8, behind_head, one_head}
@@ -56,6 +58,13 @@ module _ (i : Input) (s : Session) (table : IsTable i.table) (lawful : IsLawfulI
         let b = q.1 in
         let same = behind (λ lists body. IsProvedEntries (group_kind i.table lists) body y) a.after b.after a.lists b.lists a.head b.head a.closing b.closing b.body in
         one_count (group_kind i.table a.lists) (kind_of_lists a.lists a.closing) a.after.rest x y a.body same
+
+    pub kept_once : (xs ys : List Entry) → KeepsGroup i s bytes xs → KeepsGroup i s bytes ys → xs ≡ ys
+    kept_once xs ys p q =
+        let a = p.1 in
+        let b = q.1 in
+        let same = behind (λ lists body. AreProvedEntries (group_kind i.table lists) body ys) a.after b.after a.lists b.lists a.head b.head a.closing b.closing b.body in
+        one_kept (group_kind i.table a.lists) (kind_of_lists a.lists a.closing) a.after.rest xs ys a.body same
 
     -- what is rejected is not proved
     pub not_both : (r : Rejection) (x : Accepted) → IsGroupRejection i s bytes r → ProvesGroup i s bytes x → ⊥
@@ -97,7 +106,7 @@ module _ (i : Input) (s : Session) (table : IsTable i.table) (lawful : IsLawfulI
         let same = subst (λ (l : List (List Statement)). IsRejectedEntries (group_kind i.table l) bytes after.place r) (one_lists ys xs second first) here in
         one_rejection (group_kind i.table xs) (kind_of_lists xs first) (one_reason i.table xs) bytes after.place q r rejects same
 
-    refused_once : (q r : Refusal) → RefusesGroup i s bytes q → RefusesGroup i s bytes r → q ≡ r
+    pub refused_once : (q r : Refusal) → RefusesGroup i s bytes q → RefusesGroup i s bytes r → q ≡ r
     refused_once q r a b = a.1 ∙ ap refusals.Rejected (rejected_once a.0 b.0 a.2 b.2) ∙ sym b.1
 
 -- ---- the two commands

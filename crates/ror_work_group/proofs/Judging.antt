@@ -26,7 +26,8 @@ use Rattle.ror_group.specs.Head.{is_visible_name, head_fault, whole_head_at}
 use Rattle.ror_entries.specs.declared.check.EntryFault.{EntryFault}
 use Rattle.ror_entries.specs.declared.check.EntryFault.TheVariants as entry_faults
 use Rattle.ror_entries.specs.Steps.{IfRefused}
-use Rattle.ror_entries.specs.Reports.{IsProvedEntries, IsRejectedEntries}
+use Rattle.ror_entries.specs.Reports.{accepted_of, AreProvedEntries, IsProvedEntries, IsRejectedEntries}
+use Rattle.ror_entries.proofs.KeepLemmas.{kept_is_proved}
 use Rattle.ror_entries.proofs.EachLemmas.{proved_is_accepted}
 use Rattle.ror_frame.specs.declared.stop.Refusal.{Refusal}
 use Rattle.ror_frame.specs.declared.stop.Refusal.TheVariants as refusals
@@ -38,7 +39,7 @@ use Rattle.ror_frame.specs.Inputs.{bench_for}
 use Rattle.ror_frame.proofs.Desks.{clean_control}
 use Rattle.ror_work_group.specs.Entries.{group_kind, IsOnPairAt, RefusesEntry, at_fault}
 use Rattle.ror_work_group.specs.Steps.{RefusesPair}
-use Rattle.ror_work_group.specs.Group.{ProvesGroup, IsAcceptedGroup, too_long, not_utf8, in_head, in_entries, RefusesGroup, head_reason}
+use Rattle.ror_work_group.specs.Group.{ProvesGroup, KeepsGroup, IsAcceptedGroup, too_long, not_utf8, in_head, in_entries, RefusesGroup, head_reason}
 use Rattle.ror_group.proofs.HeadLemmas.{whole_is_text}
 use Rattle.ror_work_group.proofs.GroupCourses.{kind_of_lists}
 
@@ -53,26 +54,42 @@ refused_on t lists place x entry_faults.Memory on h = tt
 pub long_group : (i : Input) (s : Session) (bytes : List ℕ) (r : Refusal) → IsTooLong MOST_REPORT_BYTES (refusals.Rejected (record { block = 0; reason = reasons.TooLong })) bytes r → RefusesGroup i s bytes r
 long_group i s bytes r long = (record { block = 0; reason = reasons.TooLong }, long.0, too_long long.1 refl)
 
-module _ (i : Input) (s : Session) (bytes : List ℕ) (few : length bytes ≤ MOST_REPORT_BYTES) where
-  pub no_text : ¬ (IsUtf8 bytes) → ReadAs {A = Accepted} last (ProvesGroup i s) (RefusesGroup i s) bytes (Err (stops.At (refusals.Rejected (record { block = 0; reason = reasons.NotUtf8 }))))
+-- a stop says nothing of what would have been read
+pub any_read : {A B : Type 0} (P : List ℕ → A → Type 0) (Q : List ℕ → B → Type 0) (Refuses : List ℕ → Refusal → Type 0) (bytes : List ℕ) (stop : Stop) → ReadAs last P Refuses bytes (Err stop) → ReadAs last Q Refuses bytes (Err stop)
+any_read P Q Refuses bytes (stops.At r) had = had
+any_read P Q Refuses bytes stops.ReadFault had = had
+any_read P Q Refuses bytes stops.WriteFault had = had
+any_read P Q Refuses bytes stops.Memory had = had
+
+module _ {A : Type 0} (P : List ℕ → A → Type 0) (i : Input) (s : Session) (bytes : List ℕ) (few : length bytes ≤ MOST_REPORT_BYTES) where
+  pub no_text : ¬ (IsUtf8 bytes) → ReadAs last P (RefusesGroup i s) bytes (Err (stops.At (refusals.Rejected (record { block = 0; reason = reasons.NotUtf8 }))))
   no_text bad = (refl, tt, (record { block = 0; reason = reasons.NotUtf8 }, refl, not_utf8 few bad refl))
 
-  head_refused : (f : HeadFault) (stop : Stop) → IsUtf8 bytes → whole_head_at s.desks bytes ≡ Err f → stop ≡ stops.At (refusals.Rejected (record { block = 0; reason = head_reason bytes f })) → ReadAs {A = Accepted} last (ProvesGroup i s) (RefusesGroup i s) bytes (Err (stops.At (refusals.Rejected (record { block = 0; reason = head_reason bytes f })))) → ReadAs {A = Accepted} last (ProvesGroup i s) (RefusesGroup i s) bytes (Err stop)
-  head_refused f stop utf8 read is had = subst (λ (x : Stop). ReadAs {A = Accepted} last (ProvesGroup i s) (RefusesGroup i s) bytes (Err x)) (sym is) had
+  head_refused : (f : HeadFault) (stop : Stop) → stop ≡ stops.At (refusals.Rejected (record { block = 0; reason = head_reason bytes f })) → ReadAs last P (RefusesGroup i s) bytes (Err (stops.At (refusals.Rejected (record { block = 0; reason = head_reason bytes f })))) → ReadAs last P (RefusesGroup i s) bytes (Err stop)
+  head_refused f stop is had = subst (λ (x : Stop). ReadAs last P (RefusesGroup i s) bytes (Err x)) (sym is) had
 
-  pub refused_head : (fault : HeadFault) (stop : Stop) → IsUtf8 bytes → IfSome (head_fault fault) (λ f. whole_head_at s.desks bytes ≡ Err f) → IfSome (head_fault fault) (λ f. stop ≡ stops.At (refusals.Rejected (record { block = 0; reason = head_reason bytes f }))) → (head_fault fault ≡ None → stop ≡ stops.Memory) → ReadAs {A = Accepted} last (ProvesGroup i s) (RefusesGroup i s) bytes (Err stop)
-  refused_head (heads.Line (lines.BadLine p)) stop utf8 read is none = head_refused (heads.Line (lines.BadLine p)) stop utf8 read is (refl, tt, (record { block = 0; reason = head_reason bytes (heads.Line (lines.BadLine p)) }, refl, in_head few utf8 (heads.Line (lines.BadLine p)) read refl))
-  refused_head (heads.Line (lines.BadNumber p)) stop utf8 read is none = head_refused (heads.Line (lines.BadNumber p)) stop utf8 read is (refl, tt, (record { block = 0; reason = head_reason bytes (heads.Line (lines.BadNumber p)) }, refl, in_head few utf8 (heads.Line (lines.BadNumber p)) read refl))
-  refused_head (heads.Line lines.Memory) stop utf8 read is none = subst (λ (x : Stop). ReadAs {A = Accepted} last (ProvesGroup i s) (RefusesGroup i s) bytes (Err x)) (sym (none refl)) tt
-  refused_head heads.WrongBlock stop utf8 read is none = head_refused heads.WrongBlock stop utf8 read is (refl, tt, (record { block = 0; reason = reasons.WrongBlock }, refl, in_head few utf8 heads.WrongBlock read refl))
+  pub refused_head : (fault : HeadFault) (stop : Stop) → IsUtf8 bytes → IfSome (head_fault fault) (λ f. whole_head_at s.desks bytes ≡ Err f) → IfSome (head_fault fault) (λ f. stop ≡ stops.At (refusals.Rejected (record { block = 0; reason = head_reason bytes f }))) → (head_fault fault ≡ None → stop ≡ stops.Memory) → ReadAs last P (RefusesGroup i s) bytes (Err stop)
+  refused_head (heads.Line (lines.BadLine p)) stop utf8 read is none = head_refused (heads.Line (lines.BadLine p)) stop is (refl, tt, (record { block = 0; reason = head_reason bytes (heads.Line (lines.BadLine p)) }, refl, in_head few utf8 (heads.Line (lines.BadLine p)) read refl))
+  refused_head (heads.Line (lines.BadNumber p)) stop utf8 read is none = head_refused (heads.Line (lines.BadNumber p)) stop is (refl, tt, (record { block = 0; reason = head_reason bytes (heads.Line (lines.BadNumber p)) }, refl, in_head few utf8 (heads.Line (lines.BadNumber p)) read refl))
+  refused_head (heads.Line lines.Memory) stop utf8 read is none = subst (λ (x : Stop). ReadAs last P (RefusesGroup i s) bytes (Err x)) (sym (none refl)) tt
+  refused_head heads.WrongBlock stop utf8 read is none = head_refused heads.WrongBlock stop is (refl, tt, (record { block = 0; reason = head_reason bytes heads.WrongBlock }, refl, in_head few utf8 heads.WrongBlock read refl))
 
-  module _ (after : Cursor) (lists : List (List Statement)) (utf8 : IsUtf8 bytes) (read : whole_head_at s.desks bytes ≡ Ok after) (closing : AreClosingLists (bench_for i s) s.lines lists) where
-    pub entries_refused : (e : ReportError) → IfRejected (IsRejectedEntries (group_kind i.table lists) bytes after.place) e → HoldsNoMemory e → ReadAs {A = Accepted} last (ProvesGroup i s) (RefusesGroup i s) bytes (Err (stop_at_report e))
-    entries_refused (report_errors.Rejected r) why pure = (refl, pure, (r, refl, in_entries few utf8 after read lists closing why))
-    entries_refused report_errors.Memory why pure = tt
+  pub entries_refused : (after : Cursor) (lists : List (List Statement)) (utf8 : IsUtf8 bytes) (read : whole_head_at s.desks bytes ≡ Ok after) (closing : AreClosingLists (bench_for i s) s.lines lists) (e : ReportError) → IfRejected (IsRejectedEntries (group_kind i.table lists) bytes after.place) e → HoldsNoMemory e → ReadAs last P (RefusesGroup i s) bytes (Err (stop_at_report e))
+  entries_refused after lists utf8 read closing (report_errors.Rejected r) why pure = (refl, pure, (r, refl, in_entries few utf8 after read lists closing why))
+  entries_refused after lists utf8 read closing report_errors.Memory why pure = tt
 
-    pub entries_proved : (x : Accepted) → IsProvedEntries (group_kind i.table lists) after.rest x → ProvesGroup i s bytes x
-    entries_proved x proved = (few, record { after = after; head = (whole_is_text s.desks bytes after read).0; lists = lists; closing = closing; body = proved })
+module _ (i : Input) (s : Session) (bytes : List ℕ) (few : length bytes ≤ MOST_REPORT_BYTES) (after : Cursor) (lists : List (List Statement)) (read : whole_head_at s.desks bytes ≡ Ok after) (closing : AreClosingLists (bench_for i s) s.lines lists) where
+  pub entries_proved : (x : Accepted) → IsProvedEntries (group_kind i.table lists) after.rest x → ProvesGroup i s bytes x
+  entries_proved x proved = (few, record { after = after; head = (whole_is_text s.desks bytes after read).0; lists = lists; closing = closing; body = proved })
+
+  pub entries_kept : (entries : List Entry) → AreProvedEntries (group_kind i.table lists) after.rest entries → KeepsGroup i s bytes entries
+  entries_kept entries proved = (few, record { after = after; head = (whole_is_text s.desks bytes after read).0; lists = lists; closing = closing; body = proved })
+
+-- what is kept is proved, in as many answers as it has
+pub kept_proved : (i : Input) (s : Session) (bytes : List ℕ) (entries : List Entry) → (kept : KeepsGroup i s bytes entries) → ProvesGroup i s bytes (accepted_of (group_kind i.table kept.1.lists) entries)
+kept_proved i s bytes entries kept =
+    let k = kept.1 in
+    (kept.0, record { after = k.after; head = k.head; lists = k.lists; closing = k.closing; body = kept_is_proved (group_kind i.table k.lists) k.after.rest entries k.body })
 
 -- what is proved over a lawful input is true
 pub accepted_too : (i : Input) (s : Session) (bytes : List ℕ) (x : Accepted) → IsTable i.table → IsLawfulIn i.table i.opening → ProvesGroup i s bytes x → IsAcceptedGroup i s bytes x

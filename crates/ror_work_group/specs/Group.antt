@@ -1,7 +1,7 @@
 -- What a group's report is, and what a check of one accepts and rejects.
 use Rattle.std.specs.Prelude.{◌≡◌, ℕ, ◌<◌, ◌≤◌, Bool, true, List, length, None, Result, Ok, Err, nat_lt}
 use Rattle.std.specs.Str.{IsUtf8}
-use Rattle.ror_text.specs.Cursor.{Cursor}
+use Rattle.ror_text.specs.Cursor.{Cursor, cursor_at}
 use Rattle.ror_statement.specs.declared.statement.Statement.{Statement}
 use Rattle.ror_table.specs.Table.{DecisionTable}
 use Rattle.ror_value.specs.declared.input.Input.{Input}
@@ -19,10 +19,11 @@ use Rattle.ror_group.specs.declared.entry.Entry.{Entry}
 use Rattle.ror_group.specs.declared.head.HeadFault.{HeadFault}
 use Rattle.ror_group.specs.declared.head.HeadFault.TheVariants as heads
 use Rattle.ror_group.specs.Head.{IsHeadText, whole_head_at}
+use Rattle.ror_frame.specs.declared.stop.Stop.{Stop}
 use Rattle.ror_frame.specs.declared.stop.Stop.TheVariants as stops
 use Rattle.ror_frame.specs.States.{SinkState}
-use Rattle.ror_frame.specs.Stops.{Outcome}
-use Rattle.ror_entries.specs.Reports.{IsProvedEntries, IsAcceptedEntries, IsRejectedEntries}
+use Rattle.ror_frame.specs.Stops.{Outcome, last}
+use Rattle.ror_entries.specs.Reports.{AreProvedEntries, IsProvedEntries, IsAcceptedEntries, IsRejectedEntries}
 use Rattle.ror_entries.specs.Writing.{IsWholeText, IsBegunText}
 use Rattle.ror_entries.specs.Headed.{WritesHeaded}
 use Rattle.ror_entries.specs.declared.write.EntriesStop.{EntriesStop}
@@ -30,7 +31,7 @@ use Rattle.ror_entries.specs.declared.write.EntriesStop.TheVariants as entry_sto
 use Rattle.ror_words.specs.Words.{InputNames}
 use Rattle.ror_frame.specs.declared.stop.Refusal.{Refusal}
 use Rattle.ror_frame.specs.declared.stop.Refusal.TheVariants as refusals
-use Rattle.ror_frame.specs.Courses.{Output, Chore}
+use Rattle.ror_frame.specs.Courses.{Output, Chore, ReadAs}
 use Rattle.ror_frame.specs.Inputs.{bench_for, accepted_output, suited_writing_chore, suited_judging_chore}
 use Rattle.ror_work_group.specs.Entries.{group_kind, IsGivenEntry}
 
@@ -48,6 +49,11 @@ pub record OverClosing (i : Input) (s : Session) (bytes : List ℕ) (P : List (L
 abbrev pub ProvesGroup : Input → Session → List ℕ → Accepted → Type 0
 ProvesGroup i s bytes accepted = (length bytes ≤ MOST_REPORT_BYTES)
     × OverClosing i s bytes (λ lists body. IsProvedEntries (group_kind i.table lists) body accepted)
+
+-- the same of these entries
+abbrev pub KeepsGroup : Input → Session → List ℕ → List Entry → Type 0
+KeepsGroup i s bytes entries = (length bytes ≤ MOST_REPORT_BYTES)
+    × OverClosing i s bytes (λ lists body. AreProvedEntries (group_kind i.table lists) body entries)
 
 -- the same, and each answer that isn't too wide is true of all value functions that are compatible with its desk's list, and each
 -- word that isn't is the group's answer
@@ -90,6 +96,17 @@ pub data IsGroupRejection (i : Input) (s : Session) (bytes : List ℕ) (rejectio
 abbrev pub RefusesGroup : Input → Session → List ℕ → Refusal → Type 0
 RefusesGroup i s bytes r = (rejection : Rejection) × (r ≡ refusals.Rejected rejection)
     × IsGroupRejection i s bytes rejection
+
+-- ---- steps of a check
+
+-- the bytes are a text, and behind the head of the session's desks the entries begin at this byte
+pub record IsStart (s : Session) (bytes : List ℕ) (start : ℕ) : Type 0 where
+  pub utf8 : IsUtf8 bytes
+  pub head : whole_head_at s.desks bytes ≡ Ok (cursor_at bytes start)
+
+-- the stop at what stands before the entries, over any table
+abbrev pub StopsBefore : Session → List ℕ → Stop → Type 0
+StopsBefore s bytes stop = (i : Input) → ReadAs {A = ℕ} last (λ read start. Unit {0}) (RefusesGroup i s) bytes (Err stop)
 
 -- ---- the two commands
 

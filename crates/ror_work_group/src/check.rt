@@ -1,16 +1,15 @@
 //! The check of a group's report: the three files are fetched in order, and the report is accepted or rejected.
 
-ghost use Rattle.std.specs.Prelude.{◌≡◌, ◌≤◌, None, length, IfOk, IfSome};
+ghost use Rattle.std.specs.Prelude.{◌≡◌, ◌≤◌, None, length, IfOk, IfErr, IfSome};
 ghost use Rattle.ror_group.specs.Head.{head_fault};
-ghost use Rattle.ror_frame.specs.Inputs.{bench_for};
 ghost use Rattle.ror_session.specs.Sound.{IsSound};
 ghost use Rattle.ror_value.specs.Over.{IsLawfulIn};
-ghost use Rattle.ror_closing.specs.Closing.{AreSuited, AreClosingLists};
+ghost use Rattle.ror_closing.specs.Closing.{AreSuited};
 ghost use Rattle.ror_words.specs.Named.{inputs_of};
 ghost use Rattle.ror_frame.specs.States.{shelf_state, sink_state};
 ghost use Rattle.ror_frame.specs.Courses.{ReadAs, IsWork};
 ghost use Rattle.ror_frame.specs.Stops.{last};
-ghost use Rattle.ror_work_group.specs.Group.{ProvesGroup, RefusesGroup, check_group_chore, head_reason};
+ghost use Rattle.ror_work_group.specs.Group.{ProvesGroup, RefusesGroup, IsStart, StopsBefore, check_group_chore, head_reason};
 
 use crate::judge::GroupJudge;
 use ror_bench::{Accepted, MOST_REPORT_BYTES, Reason, Rejection, misread};
@@ -22,7 +21,7 @@ use ror_session::Session;
 use ror_text::lines::is_utf8;
 use ror_words::FileNames;
 use ror_xmcda::Input;
-use std::alloc::{AllocError, Global};
+use std::alloc::Global;
 
 /// Fetches the three files in order, each once those before it were read, and writes the line of a group's report that is
 /// accepted. It says whether anything is too wide.
@@ -65,33 +64,26 @@ fn answers_in(
     requires within { length bytes.now ≤ MOST_REPORT_BYTES }
     ensures { ReadAs last (ProvesGroup input session.now) (RefusesGroup input session.now) bytes.now result }
 {
-    if !is_utf8(bytes) {
-        return Err(rejected(Reason::NotUtf8));
-    }
-    let start = match check_whole_head(bytes, session.desks.as_slice()) {
-        Ok(start) => start,
-        Err(fault) => return Err(stop_at_head(bytes, fault)),
-    };
-    let mut judge = judge_of(alloc, input, session, bytes)?;
+    let start = entries_start(session, bytes)?;
+    let (bench, lists) = closed_desks(alloc, input, session)?;
+    let mut judge = GroupJudge::new(alloc, bench.table(), lists.as_slice(), bytes)?;
     Ok(check_entries(alloc, &mut judge, start)?)
 }
 
-/// The judge of the entries of these bytes over the closing lists of the session's desks. Its one error is want of memory.
-fn judge_of<'a>(
-    alloc: Global,
-    input: Input,
-    session: &Session,
-    bytes: &'a [u8],
-) -> Result<GroupJudge<'a>, AllocError>
-    requires lawful { IsLawfulIn input.table input.opening }
-    requires sound { IsSound session.now }
-    requires suited { AreSuited session.now.lines }
-    ensures table { IfOk result (λ judge. judge.table ≡ input.table) }
-    ensures lists { IfOk result (λ judge. AreClosingLists (bench_for input session.now) session.now.lines judge.lists) }
-    ensures report { IfOk result (λ judge. judge.report ≡ bytes.now) }
+/// Where the entries begin, behind the head of a report on the session's desks.
+pub(crate) fn entries_start(session: &Session, bytes: &[u8]) -> Result<usize, Stop>
+    requires { length bytes.now ≤ MOST_REPORT_BYTES }
+    ensures start { IfOk result (IsStart session.now bytes.now) }
+    ensures within { IfOk result (λ start. start ≤ length bytes.now) }
+    ensures refused { IfErr result (StopsBefore session.now bytes.now) }
 {
-    let (bench, lists) = closed_desks(alloc, input, session)?;
-    GroupJudge::new(alloc, bench, lists.as_slice(), bytes)
+    if !is_utf8(bytes) {
+        return Err(rejected(Reason::NotUtf8));
+    }
+    match check_whole_head(bytes, session.desks.as_slice()) {
+        Ok(start) => Ok(start),
+        Err(fault) => Err(stop_at_head(bytes, fault)),
+    }
 }
 
 /// The stop at a report that is rejected before its first entry.

@@ -10,7 +10,7 @@ ghost use Rattle.ror_entries.specs.Steps.{IfRefused};
 ghost use Rattle.ror_work_group.specs.Steps.{RefusesPair};
 ghost use Rattle.ror_work_group.specs.Steps as steps;
 
-use ror_bench::{Bench, Passed, Reason};
+use ror_bench::{Passed, Reason};
 use ror_entries::{EntryFault, pair_at};
 use ror_group::{Entry, EntryReader, GroupFault, Judge, check_pair_by};
 use ror_proof::ProofFault;
@@ -21,10 +21,10 @@ use ror_text::Items;
 use std::alloc::{AllocError, Global};
 use std::marker::Model;
 
-/// Judges the entries of a group's report over a bench's table, by the lists of its desks.
+/// Judges the entries of a group's report over a table, by the lists of its desks.
 #[derive(Drop)]
 pub(crate) struct GroupJudge<'a> {
-    bench: Bench,
+    table: &'a Table,
     pairs: Vec<(usize, usize)>,
     judges: Vec<Judge>,
     reader: EntryReader<'a>,
@@ -37,34 +37,33 @@ impl<'a> Model for GroupJudge<'a> {
     ghost Value = { GroupJudging };
 
     ghost view = { λ j. record {
-      table = j.bench.table;
+      table = j.table.now;
       lists = lists_of j.judges.items;
       report = j.reader;
     } };
 
-    ghost invariant = { λ j. IsJudging j.bench.table j.pairs.items j.judges.items };
+    ghost invariant = { λ j. IsJudging j.table.now j.pairs.items j.judges.items };
 }
 
 impl<'a> GroupJudge<'a> {
-    /// Makes a checker for each list, which is lawful in the bench's table, and a reader of these bytes. Its one error is want of
-    /// memory.
+    /// Makes a checker for each list, which is lawful in the table, and a reader of these bytes. Its one error is want of memory.
     pub(crate) fn new(
         alloc: Global,
-        bench: Bench,
+        table: &'a Table,
         lists: &[Items<Statement>],
         bytes: &'a [u8],
     ) -> Result<GroupJudge<'a>, AllocError>
-        requires lawful { AllByRecursion (IsLawfulIn bench.table) lists.now }
+        requires lawful { AllByRecursion (IsLawfulIn table.now) lists.now }
         requires few { length lists.now ≤ 64 }
-        ensures table { IfOk result (λ judge. judge.table ≡ bench.table) }
+        ensures table { IfOk result (λ judge. judge.table ≡ table.now) }
         ensures lists { IfOk result (λ judge. judge.lists ≡ lists.now) }
         ensures report { IfOk result (λ judge. judge.report ≡ bytes.now) }
     {
-        prove!(bench.table().alternatives() > 0);
-        let pairs = ordered_pairs(alloc, bench.table().alternatives())?;
-        let judges = judges_of(alloc, bench.table(), lists)?;
+        prove!(table.alternatives() > 0);
+        let pairs = ordered_pairs(alloc, table.alternatives())?;
+        let judges = judges_of(alloc, table, lists)?;
         Ok(GroupJudge {
-            bench,
+            table,
             pairs,
             judges,
             reader: EntryReader::new(alloc, bytes),
@@ -116,7 +115,7 @@ impl<'a> ror_entries::Judge for GroupJudge<'a> {
     }
 
     fn read(&mut self, alloc: Global, from: usize) -> Result<(Entry, usize), ProofFault> {
-        self.reader.read(alloc, self.bench.table(), from)
+        self.reader.read(alloc, self.table, from)
     }
 
     fn check(&mut self, alloc: Global, place: u32, entry: &Entry) -> Result<Passed, EntryFault> {
@@ -124,7 +123,7 @@ impl<'a> ror_entries::Judge for GroupJudge<'a> {
         if entry.first != first || entry.second != second {
             return Err(EntryFault::Refused(Reason::WrongBlock));
         }
-        check_on(alloc, self.bench.table(), &mut self.judges, entry)
+        check_on(alloc, self.table, &mut self.judges, entry)
     }
 }
 

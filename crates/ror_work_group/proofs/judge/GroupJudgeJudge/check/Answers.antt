@@ -1,7 +1,5 @@
 use Rattle.std.specs.Prelude.{IfErr}
-use Rattle.ror_table.specs.Table.{DecisionTable}
 use Rattle.ror_entries.specs.Steps.{IfRefused}
-use Rattle.ror_work_group.specs.Steps.{RefusesPair}
 use Rattle.ror_work_group.specs.Entries.{IsOnPairAt, RefusesEntry}
 use Rattle.ror_work_group.proofs.KindLemmas.{entry_there}
 use Rattle.ror_work_group.proofs.Judging.{refused_on}
@@ -17,19 +15,18 @@ use Rattle.ror_work_group.proofs.judge.GroupJudgeJudge.check.Goals as goal
 
 pub returns-clause-same : goal.returns-clause-same
 returns-clause-same c =
-    let t = c.self.inside.bench.table in
+    let t = c.self.inside.table.now in
     let before = lists_of c.self.inside.judges.items in
     subst (λ (j : GroupJudging). IsSameKind (group_kind t (lists_of c.check_on.new.judges.items)) (group_kind j.table j.lists)) c.self.view_is
     (subst (λ (ls : List (List Statement)). IsSameKind (group_kind t ls) (group_kind t before)) (sym c.check_on.ensures.lists) (same_itself (group_kind t before)))
 
 pub returns-clause-refused : goal.returns-clause-refused
 returns-clause-refused c =
-    let t = c.self.inside.bench.table in
+    let t = c.self.inside.table.now in
     let x = c.args.entry.now in
     let lists = lists_of c.self.inside.judges.items in
     let first : x.first ≡ c.pair_at-first.result.0 = search rules in
     let second : x.second ≡ c.pair_at-first.result.1 = search rules in
     let on : IsOnPairAt t c.args.place x = entry_there t c.as_slice.result.now c.args.place c.pair_at-first.result x (c.as_slice.ensures.value ∙ c.self.invariant.pairs_are) c.pair_at-first.ensures first second in
-    let refused = subst (λ (u : DecisionTable). IfErr c.check_on.result (IfRefused (RefusesPair u lists x))) c.table.ensures.value c.check_on.ensures.refused in
     subst (λ (j : GroupJudging). IfErr c.check_on.result (IfRefused (RefusesEntry j.table j.lists c.args.place x))) c.self.view_is
-    (IfErr-weaker c.check_on.result _ _ (λ e h. refused_on t lists c.args.place x e on h) refused)
+    (IfErr-weaker c.check_on.result _ _ (λ e h. refused_on t lists c.args.place x e on h) c.check_on.ensures.refused)

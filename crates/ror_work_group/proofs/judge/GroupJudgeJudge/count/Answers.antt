@@ -10,13 +10,13 @@ use Rattle.ror_work_group.proofs.judge.GroupJudgeJudge.count.Goals as goal
 
 pub overflow_cast-result : goal.overflow_cast-result
 overflow_cast-result c =
-    let few = few_pairs (length c.self.inside.bench.table.alternatives) c.self.invariant.table.alternatives_limit in
+    let few = few_pairs (length c.self.inside.table.now.alternatives) c.self.invariant.table.alternatives_limit in
     let same = ap length c.self.invariant.pairs_are in
     let long = c.len.ensures in
     omega (arith, few, same, long)
 
 pub returns-clause-lawful : goal.returns-clause-lawful
 returns-clause-lawful c =
-    let t = c.self.inside.bench.table in
+    let t = c.self.inside.table.now in
     let judges = c.self.inside.judges.items in
     subst (λ (j : GroupJudging). IsKind (group_kind j.table j.lists)) c.self.view_is (are_kind t (lists_of judges) c.self.invariant.table (lawful_lists t judges c.self.invariant.judges_are))

@@ -8,5 +8,5 @@ use Rattle.ror_work_group.proofs.judge.GroupJudgeJudge.read.Goals as goal
 
 pub returns-clause-same : goal.returns-clause-same
 returns-clause-same c =
-    let kind = group_kind c.self.inside.bench.table (lists_of c.self.inside.judges.items) in
+    let kind = group_kind c.self.inside.table.now (lists_of c.self.inside.judges.items) in
     subst (λ (j : GroupJudging). IsSameKind kind (group_kind j.table j.lists)) c.self.view_is (same_itself kind)

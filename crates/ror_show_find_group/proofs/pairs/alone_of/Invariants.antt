@@ -1,0 +1,7 @@
+use Rattle.std.proofs.Common.{◌≡◌}
+use Rattle.std.specs.List.{flat_map, range_with_len}
+use Rattle.ror_show_find_group.specs.Pairs.{alone_from}
+use Rattle.ror_show_find_group.proofs.pairs.alone_of.Given as goal
+
+abbrev pub invariant-loop-a : goal.invariant-loop-a
+invariant-loop-a l = l.made.items ≡ flat_map (alone_from l.judges l.size l.judge) (range_with_len 0 l.a)

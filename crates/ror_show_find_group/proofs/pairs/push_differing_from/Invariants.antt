@@ -1,0 +1,7 @@
+use Rattle.std.proofs.Common.{◌≡◌, ◌++◌}
+use Rattle.std.specs.List.{flat_map, range_with_len}
+use Rattle.ror_show_find_group.specs.Pairs.{differing_pair}
+use Rattle.ror_show_find_group.proofs.pairs.push_differing_from.Given as goal
+
+abbrev pub invariant-loop-b : goal.invariant-loop-b
+invariant-loop-b l = l.made.items ≡ l.fn.made.items ++ flat_map (differing_pair l.rows l.fn.a) (range_with_len 0 l.b)

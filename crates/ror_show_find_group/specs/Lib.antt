@@ -1,0 +1,9 @@
+pub mod Grounds
+pub mod Judges
+pub mod Votes
+pub mod Cells
+pub mod Pairs
+pub mod Counts
+pub mod Findings
+pub mod Meaning
+pub mod Laws

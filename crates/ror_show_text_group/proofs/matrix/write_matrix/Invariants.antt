@@ -1,0 +1,9 @@
+use Rattle.std.proofs.Common.{◌≡◌, ◌++◌, length}
+use Rattle.std.specs.List.{flat_map, range_with_len}
+use Rattle.ror_show_kit.specs.Parts.{widest}
+use Rattle.ror_show_text_group.specs.Matrix.{part_text_at}
+use Rattle.ror_show_text_group.proofs.matrix.write_matrix.Given as goal
+
+abbrev pub invariant-loop-place : goal.invariant-loop-place
+invariant-loop-place l =
+    l.text.items ≡ l.fn.text.items ++ flat_map (part_text_at l.table l.rows (widest l.table (length l.table.alternatives))) (range_with_len 0 l.place)
