@@ -29,7 +29,9 @@ use Rattle.ror_show_find_group.specs.Grounds.{GroupGround, IsJudgedGroup}
 use Rattle.ror_show_find_group.specs.Judges.{said_of_judge, judge_cell, judge_at, judges_of, cell_of_judge}
 use Rattle.ror_show_find_group.specs.Votes.{is_under_another, is_unsaid, some_vote, every_vote, some_says, every_says, heard_count}
 use Rattle.ror_show_find_group.specs.Cells.{is_over, over_of, under_of, differ, either_way, divided, says_nothing, cell_by, group_cell, group_row, group_rows}
-use Rattle.ror_show_find_group.specs.Findings.{known, IsGroupFound}
+use Rattle.ror_show_find_relation.specs.Pages as pages
+use Rattle.ror_show_find_relation.specs.Cells as relation
+use Rattle.ror_show_find_group.specs.Findings.{known, common_cell, common_rows, IsGroupFound}
 use Rattle.ror_show_find_group.specs.Meaning.{heard, HasOver, HasBetter, HasEqual, GroupSays}
 use Rattle.ror_show_find_group.specs.Laws.{AllOf}
 use Rattle.ror_show_find_group.proofs.JudgeLemmas.{range-get, rows-at}
@@ -218,6 +220,30 @@ some_against P [] some all = some
 some_against P (l ∷ ls) (inl here) all = here all.0
 some_against P (l ∷ ls) (inr later) all = some_against P ls later all.1
 
+-- ---- the relation on the page is what is known of all
+
+shown-cell : (c : GroupCell) → relation.is_over (common_cell c) ≡ is_over c
+shown-cell cells.Itself = refl
+shown-cell cells.AlwaysBetter = refl
+shown-cell cells.AtLeastAsGood = refl
+shown-cell cells.AlwaysEqual = refl
+shown-cell cells.Open = refl
+shown-cell cells.AtMostAsGood = refl
+shown-cell cells.NeverAsGood = refl
+shown-cell cells.SomeOver = refl
+shown-cell cells.SomeUnder = refl
+shown-cell cells.BothWays = refl
+shown-cell cells.Differ = refl
+shown-cell cells.Unknown = refl
+
+shown-row : (cs : List GroupCell) → map relation.is_over (map common_cell cs) ≡ map is_over cs
+shown-row [] = refl
+shown-row (c ∷ cs) = ap (λ (b : Bool). b ∷ map relation.is_over (map common_cell cs)) (shown-cell c) ∙ ap (λ (bs : List Bool). is_over c ∷ bs) (shown-row cs)
+
+shown-rows : (rows : List (List GroupCell)) → pages.known (common_rows rows) ≡ known rows
+shown-rows [] = refl
+shown-rows (r ∷ rows) = ap (λ (bs : List Bool). bs ∷ pages.known (common_rows rows)) (shown-row r) ∙ ap (λ (bss : List (List Bool)). map is_over r ∷ bss) (shown-rows rows)
+
 -- ---- what is found
 
 module _ (g : GroupGround) (found : GroupFound) (judged : IsJudgedGroup g) (is : IsGroupFound g found) where
@@ -283,5 +309,8 @@ module _ (g : GroupGround) (found : GroupFound) (judged : IsJudgedGroup g) (is :
       let back = both_all (HasOver g.table a c) (IsLeast g.table c a) (HasOver g.table c a) ls (λ l x y. record { consistent = x.consistent; at_least = y }) there (path-least k c a p.2) in
       some_against (HasOver g.table c a) ls (strict a c p.1) back
 
+  shown : pages.known found.common.rows ≡ known found.rows
+  shown = ap (λ (rows : List (List Cell)). pages.known rows) is.common.rows ∙ shown-rows found.rows
+
   pub all_of : AllOf g found
-  all_of = record { sound = sound; strict = strict; acyclic = λ a p. no-cycle p.0 a p.1 }
+  all_of = record { shown = shown; sound = sound; strict = strict; acyclic = λ a p. no-cycle p.0 a p.1 }

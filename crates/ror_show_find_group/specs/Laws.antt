@@ -17,6 +17,7 @@ use Rattle.ror_show_find_group.specs.Cells.{group_cell_in}
 use Rattle.ror_show_find_group.specs.Counts.{pairs_standing}
 use Rattle.ror_show_find_group.specs.Pairs.{alone_of}
 use Rattle.ror_show_find_group.specs.Findings.{known, IsGroupFound}
+use Rattle.ror_show_find_relation.specs.Pages as page
 use Rattle.ror_show_find_group.specs.Meaning.{heard, HasOver, GroupSays}
 
 -- ---- a judge
@@ -46,9 +47,10 @@ GroupCellsAreTrue = (g : GroupGround) (found : GroupFound) (a b : ℕ) → IsJud
     → a < length g.table.alternatives → b < length g.table.alternatives
     → GroupSays g.table (heard found.judges g.lists) (group_cell_in found.rows a b) a b
 
--- What is known to hold for all does for each of them by every function that agrees; what is strictly so isn't so back for some one; and there
--- is no strict cycle.
+-- What is known to hold for all, of which the page has levels and arrows, does for each of them by every function that agrees; what is
+-- strictly so isn't so back for some one; and there is no strict cycle.
 pub record AllOf (g : GroupGround) (found : GroupFound) : Type 0 where
+  pub shown : page.known found.common.rows ≡ known found.rows
   pub sound : (a b : ℕ) → a ≢ b → holds (known found.rows) a b ≡ true
       → AllByRecursion (HasOver g.table a b) (heard found.judges g.lists)
   pub strict : (a b : ℕ) → IsAbove (known found.rows) a b

@@ -38,19 +38,6 @@ pub enum GroupCell {
 }
 
 impl GroupCell {
-    /// Whether the row's is known to be worth at least as much for every judge, by every function.
-    pub fn is_over(self) -> bool
-        ensures { result ≡ spec.is_over self }
-    {
-        matches!(
-            self,
-            GroupCell::Itself
-                | GroupCell::AlwaysBetter
-                | GroupCell::AtLeastAsGood
-                | GroupCell::AlwaysEqual
-        )
-    }
-
     /// The sign that stands for it, a byte of ASCII.
     pub fn sign(self) -> u8
         ensures { result ≡ spec.sign self }

@@ -10,7 +10,7 @@ use crate::cell::{GroupCell, group_cell};
 use crate::ground::GroupGround;
 use crate::judge::{JudgeFound, judges_of};
 use crate::pairs::{alone_pairs, differing_pairs};
-use ror_show_find_relation::{Relation, arrows, levels};
+use ror_show_find_relation::{Cell, RelationPage, page_of_cells};
 use ror_text::Items;
 use std::alloc::{AllocError, Global};
 
@@ -21,10 +21,8 @@ pub struct GroupFound {
     pub judges: Items<JudgeFound>,
     /// The cell of each two alternatives, row by row, for the judges who are heard.
     pub rows: Items<Items<GroupCell>>,
-    /// The level of each alternative by what holds for all of these, from 1 on; one that is in a cycle, or below one, has none.
-    pub levels: Items<Option<usize>>,
-    /// The pairs of the strict part of what holds for all of these between which nothing stands.
-    pub arrows: Items<(usize, usize)>,
+    /// What holds for all of these, as a relation: a cell says nothing where it isn't the same of each.
+    pub common: RelationPage,
     /// The pairs on which they differ, each once.
     pub differing: Items<(usize, usize)>,
     /// For each judge the ordered pairs of which this one alone has the first at least as good.
@@ -45,10 +43,9 @@ pub fn find_group(alloc: Global, ground: &GroupGround<'_>) -> Result<GroupFound,
     let size = ground.table.alternatives();
     let judges = judges_of(alloc, ground)?;
     let rows = group_rows(alloc, judges.as_slice(), size)?;
-    let over = known_relation(alloc, rows.as_slice())?;
+    let common = common_rows(alloc, rows.as_slice())?;
     Ok(GroupFound {
-        levels: Items::from(levels(alloc, &over)?),
-        arrows: Items::from(arrows(alloc, &over)?),
+        common: page_of_cells(alloc, ground.table, common)?,
         differing: Items::from(differing_pairs(alloc, rows.as_slice(), size)?),
         alone: Items::from(alone_pairs(alloc, judges.as_slice(), size)?),
         rows: Items::from(rows),
@@ -85,23 +82,41 @@ fn group_row(
     Ok(Items::from(made))
 }
 
-/// What holds for every judge who is heard, by the cells: which alternative is at least as good as which, by every function.
-fn known_relation(alloc: Global, rows: &[Items<GroupCell>]) -> Result<Relation, AllocError>
-    ensures { IfOk result (λ made. made ≡ spec.known rows.now) }
+/// What holds for every judge who is heard, by the cells.
+fn common_rows(
+    alloc: Global,
+    rows: &[Items<GroupCell>],
+) -> Result<Vec<Items<Cell>>, AllocError>
+    ensures { IfOk result (λ made. made.items ≡ spec.common_rows rows.now) }
 {
     let mut made = Vec::new(alloc);
     for row in rows {
-        made.push(over_in(alloc, row.as_slice())?)?;
+        made.push(common_row(alloc, row.as_slice())?)?;
     }
-    Ok(Relation::new(made))
+    Ok(made)
 }
 
-fn over_in(alloc: Global, row: &[GroupCell]) -> Result<Items<bool>, AllocError>
-    ensures { IfOk result (λ made. made ≡ map cells.is_over row.now) }
+fn common_row(alloc: Global, row: &[GroupCell]) -> Result<Items<Cell>, AllocError>
+    ensures { IfOk result (λ made. made ≡ map spec.common_cell row.now) }
 {
     let mut made = Vec::new(alloc);
     for cell in row {
-        made.push(cell.is_over())?;
+        made.push(common_cell(*cell))?;
     }
     Ok(Items::from(made))
+}
+
+fn common_cell(cell: GroupCell) -> Cell
+    ensures { result ≡ spec.common_cell cell }
+{
+    match cell {
+        GroupCell::Itself => Cell::Itself,
+        GroupCell::AlwaysBetter => Cell::AlwaysBetter,
+        GroupCell::AtLeastAsGood => Cell::AtLeastAsGood,
+        GroupCell::AlwaysEqual => Cell::AlwaysEqual,
+        GroupCell::Open => Cell::Open,
+        GroupCell::AtMostAsGood => Cell::AtMostAsGood,
+        GroupCell::NeverAsGood => Cell::NeverAsGood,
+        _ => Cell::Unknown,
+    }
 }

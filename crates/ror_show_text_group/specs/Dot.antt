@@ -5,4 +5,4 @@ use Rattle.ror_show_find_group.specs.declared.page.GroupFound.{GroupFound}
 use Rattle.ror_show_forms.specs.Dot.{graph_body}
 
 abbrev pub dot_text : DecisionTable → GroupFound → List ℕ
-dot_text t found = codes "digraph \"group\" {\n" ++ graph_body t found.arrows
+dot_text t found = codes "digraph \"group\" {\n" ++ graph_body t found.common.arrows

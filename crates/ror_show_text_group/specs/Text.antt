@@ -38,7 +38,7 @@ arrows_head = codes "\n  arrows (at least as good for every judge, and not back;
 
 -- levels and arrows of what holds for all
 abbrev pub common_text : DecisionTable → GroupFound → List ℕ
-common_text t found = codes "\n  what holds for every judge\n" ++ levels_text t found.levels ++ pairs_below t arrows_head found.arrows
+common_text t found = codes "\n  what holds for every judge\n" ++ levels_text t found.common ++ pairs_below t arrows_head found.common.arrows
 
 abbrev pub both_text : DecisionTable → List (List ℕ) → GroupFound → List ℕ
 both_text t desks found = differing_text t found.judges found.differing ++ alone_text t desks found.alone

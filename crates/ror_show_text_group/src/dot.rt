@@ -21,5 +21,5 @@ pub fn write_group_dot(
     ensures { OnOk result (text.new.items ≡ text.old.items ++ spec.dot_text table.now found.now) }
 {
     text.extend_from_slice(b"digraph \"group\" {\n")?;
-    write_graph_body(text, table, found.arrows.as_slice())
+    write_graph_body(text, table, found.common.arrows.as_slice())
 }

@@ -143,8 +143,8 @@ fn write_common(text: &mut Vec<u8>, table: &Table, found: &GroupFound) -> Result
     ensures { OnOk result (text.new.items ≡ text.old.items ++ spec.common_text table.now found.now) }
 {
     text.extend_from_slice(b"\n  what holds for every judge\n")?;
-    write_levels(text, table, found.levels.as_slice())?;
-    write_pairs(text, table, arrows_head(), found.arrows.as_slice())
+    write_levels(text, table, &found.common)?;
+    write_pairs(text, table, arrows_head(), found.common.arrows.as_slice())
 }
 
 fn arrows_head() -> &'static [u8]

@@ -9,4 +9,4 @@ pub returns-clause-judges : goal.returns-clause-judges
 returns-clause-judges c =
     let g = group_ground_of c.args.ground.now in
     let same : c.in_ok-judges.judges.items ≡ judges_of (group_ground_of c.args.ground.now) = search rules in
-    ap (λ (js : List JudgeFound). length js) (c.from-6.ensures ∙ same) ∙ length-map-range_with_len (judge_at g) 0 (length g.lists)
+    ap (λ (js : List JudgeFound). length js) (c.from-4.ensures ∙ same) ∙ length-map-range_with_len (judge_at g) 0 (length g.lists)

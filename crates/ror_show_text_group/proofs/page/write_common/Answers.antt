@@ -10,8 +10,8 @@ pub returns : goal.returns
 returns c =
     let t = c.args.table.now in
     let found = c.args.found.now in
-    let levels : c.write_levels.new.text.items ≡ c.extend_from_slice.new.self.items ++ levels_text c.args.table.now c.args.found.now.levels = search rules in
-    let arrows : OnOk c.write_pairs.result (c.write_pairs.new.text.items ≡ c.write_levels.new.text.items ++ pairs_below c.args.table.now arrows_head c.args.found.now.arrows) = search rules in
+    let levels : c.write_levels.new.text.items ≡ c.extend_from_slice.new.self.items ++ levels_text c.args.table.now c.args.found.now.common = search rules in
+    let arrows : OnOk c.write_pairs.result (c.write_pairs.new.text.items ≡ c.write_levels.new.text.items ++ pairs_below c.args.table.now arrows_head c.args.found.now.common.arrows) = search rules in
     on_ok_weaker c.write_pairs.result
-    (λ last. three_more (codes "\n  what holds for every judge\n") (levels_text t found.levels) (pairs_below t arrows_head found.arrows) c.args.text.now.items c.extend_from_slice.new.self.items c.write_levels.new.text.items c.write_pairs.new.text.items c.in_ok-extend_from_slice.ensures.items levels last)
+    (λ last. three_more (codes "\n  what holds for every judge\n") (levels_text t found.common) (pairs_below t arrows_head found.common.arrows) c.args.text.now.items c.extend_from_slice.new.self.items c.write_levels.new.text.items c.write_pairs.new.text.items c.in_ok-extend_from_slice.ensures.items levels last)
     arrows
