@@ -83,10 +83,7 @@ fn group_row(
 }
 
 /// What holds for every judge who is heard, by the cells.
-fn common_rows(
-    alloc: Global,
-    rows: &[Items<GroupCell>],
-) -> Result<Vec<Items<Cell>>, AllocError>
+fn common_rows(alloc: Global, rows: &[Items<GroupCell>]) -> Result<Vec<Items<Cell>>, AllocError>
     ensures { IfOk result (λ made. made.items ≡ spec.common_rows rows.now) }
 {
     let mut made = Vec::new(alloc);

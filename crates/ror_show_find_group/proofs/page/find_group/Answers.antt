@@ -18,10 +18,10 @@ page_of_cells-requires c =
     let rows : c.in_ok-rows.rows.items ≡ group_rows c.in_ok-judges.judges.items (length c.args.ground.now.table.now.alternatives) = search rules in
     let common : c.in_ok-common.common.items ≡ common_rows c.in_ok-rows.rows.items = search rules in
     let size : length c.in_ok-common.common.items ≡ n =
-        ap (λ (cells : List (List Cell)). length cells) common
-        ∙ length-map c.in_ok-rows.rows.items (map common_cell)
-        ∙ ap (λ (cells : List (List GroupCell)). length cells) rows
-        ∙ length-map-range_with_len (group_row js n) 0 n in
+    ap (λ (cells : List (List Cell)). length cells) common
+    ∙ length-map c.in_ok-rows.rows.items (map common_cell)
+    ∙ ap (λ (cells : List (List GroupCell)). length cells) rows
+    ∙ length-map-range_with_len (group_row js n) 0 n in
     omega arith
 
 pub returns-clause-judges : goal.returns-clause-judges
