@@ -153,8 +153,8 @@ fn passed_of(body: &EntryBody) -> Passed
         EntryBody::Ranks(extremes) => {
             let wide = wide_count(extremes.as_slice());
             Passed {
-                answers: extremes.len() as u32 - wide,
-                wide,
+                answers: (extremes.len() - wide) as u32,
+                wide: wide as u32,
             }
         }
         EntryBody::Contradiction(_) => Passed {
@@ -169,8 +169,7 @@ fn passed_of(body: &EntryBody) -> Passed
 }
 
 /// How many of these are too wide.
-fn wide_count(extremes: &[Extreme]) -> u32
-    requires few { length extremes.now < 2 ^ 32 }
+pub(crate) fn wide_count(extremes: &[Extreme]) -> usize
     ensures count { result ≡ count_by (λ x. proof.is_wide x.said) extremes.now }
     ensures within { result ≤ length extremes.now }
 {
@@ -184,7 +183,7 @@ fn wide_count(extremes: &[Extreme]) -> u32
 }
 
 /// Whether this is too wide.
-pub(crate) fn is_wide(said: &Said) -> bool
+fn is_wide(said: &Said) -> bool
     ensures { result ≡ proof.is_wide said.now }
 {
     matches!(said, Said::Wide(_))

@@ -5,18 +5,15 @@ ghost use Rattle.ror_pivot.specs.Answers.{most_of};
 ghost use Rattle.ror_table.specs.Table.{IsTable};
 ghost use Rattle.ror_value.specs.Over.{IsLawfulIn};
 ghost use Rattle.ror_report.specs.Desk.{is_desk_name};
-ghost use Rattle.std.specs.List.{count_by};
-ghost use Rattle.ror_ranks.specs.Proof.{is_wide};
 ghost use Rattle.ror_ranks_text.specs.Given.{IsGivenBody};
-ghost use Rattle.ror_ranks_text.specs.Text.{IsPrintableBody};
+ghost use Rattle.ror_ranks_text.specs.Text.{IsPrintableBody, IsPrintableEntry};
 ghost use Rattle.ror_work_ranks.specs.Entries.{body_passed, ranks_kind, IsGivenEntry};
 ghost use Rattle.ror_work_ranks.specs.Steps.{AreDesks, AreNames, IsWritable};
 
-use crate::judge::{is_wide, list_at, name_at};
+use crate::judge::{list_at, name_at, wide_count};
 use ror_bench::Bench;
 use ror_entries::Maker;
 use ror_pivot::Bits;
-use ror_ranks::Extreme;
 use ror_ranks_find::{RankingFault, find_ranks};
 use ror_ranks_text::{Entry, EntryBody, print_entry};
 use ror_statement::Statement;
@@ -93,10 +90,12 @@ impl Maker for RanksMaker {
     }
 
     fn make(&mut self, alloc: Global, place: u32) -> Result<Entry, AllocError> {
-        let desk = copied_name(alloc, self.names.as_slice(), place)?;
-        let list = list_at(self.lists.as_slice(), place).as_slice();
-        let body = body_of(alloc, &mut self.engine, self.bench.table(), list, self.bits)?;
-        Ok(Entry { desk, body })
+        let desks = Desks {
+            names: self.names.as_slice(),
+            lists: self.lists.as_slice(),
+        };
+        let table = self.bench.table();
+        entry_of(alloc, &mut self.engine, table, desks, place, self.bits)
     }
 
     fn print(&self, alloc: Global, entry: &Entry) -> Result<Vec<u8>, AllocError> {
@@ -106,6 +105,35 @@ impl Maker for RanksMaker {
     fn is_wide(&self, entry: &Entry) -> bool {
         has_wide(&entry.body)
     }
+}
+
+/// The names and the lists of the desks.
+#[derive(Clone, Copy)]
+struct Desks<'a> {
+    names: &'a [Text],
+    lists: &'a [Items<Statement>],
+}
+
+/// The entry of the desk at a place. Its one error is want of memory.
+fn entry_of(
+    alloc: Global,
+    engine: &mut Engine,
+    table: &Table,
+    desks: Desks<'_>,
+    place: u32,
+    bits: Bits,
+) -> Result<Entry, AllocError>
+    requires desks { AreDesks table.now desks.names.now desks.lists.now }
+    requires names { AreNames desks.names.now }
+    requires due { place < length desks.names.now }
+    ensures given { IfOk result
+        (IsGivenEntry (most_of bits) table.now desks.entry.names.now desks.entry.lists.now place) }
+    ensures printable { IfOk result (IsPrintableEntry table.now) }
+{
+    let desk = copied_name(alloc, desks.names, place)?;
+    let list = list_at(desks.lists, place).as_slice();
+    let body = body_of(alloc, engine, table, list, bits)?;
+    Ok(Entry { desk, body })
 }
 
 /// The name of the desk at a place again, which is one that a session may have.
@@ -147,18 +175,8 @@ fn has_wide(body: &EntryBody) -> bool
     ensures { result ≡ nat_lt 0 (body_passed body.now).wide }
 {
     match body {
-        EntryBody::Ranks(extremes) => is_some_wide(extremes.as_slice()),
+        EntryBody::Ranks(extremes) => wide_count(extremes.as_slice()) > 0,
         EntryBody::Contradiction(_) => false,
         EntryBody::BaseWide(_) => true,
-    }
-}
-
-/// Whether one of these is too wide.
-fn is_some_wide(extremes: &[Extreme]) -> bool
-    ensures { result ≡ nat_lt 0 (count_by (λ x. is_wide x.said) extremes.now) }
-{
-    match extremes {
-        [] => false,
-        [first, rest @ ..] => is_wide(&first.said) || is_some_wide(rest),
     }
 }

@@ -7,7 +7,7 @@ use Rattle.ror_work_ranks.proofs.maker.body_of.Goals as goal
 
 pub returns-in-Ok-clause-printable : goal.returns-in-Ok-clause-printable
 returns-in-Ok-clause-printable c =
-    given_have_texts c.args.bits c.args.table.now c.args.list.now (bodies.Ranks c.in-Ok.extremes.items) c.requires.table c.requires.lawful c.in-Ok.ensures.given
+    rw c.from.ensures (given_have_texts c.args.bits c.args.table.now c.args.list.now (bodies.Ranks c.in-Ok.extremes.items) c.requires.table c.requires.lawful c.in-Ok.ensures.given)
 
 pub returns-in-Err-Contradictory-clause-printable : goal.returns-in-Err-Contradictory-clause-printable
 returns-in-Err-Contradictory-clause-printable c =
